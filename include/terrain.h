@@ -19,19 +19,24 @@
 #define TERRAIN_VERSION 300
 #define TERRAIN_VERSION_TEXT "0.3.0"
 
-/* The limits of a map. */
+/* The limits of a map; levels are the 5/3's, and the 9/7 has one fewer. */
 #define TERRAIN_MAX_WIDTH 2049
 #define TERRAIN_MAX_HEIGHT 4294967295
 #define TERRAIN_MAX_LEVELS 5
 
+/* The filters: `filter` of a shape. The reversible 5/3 of ITU-T T.800, and the integer 9/7 of CCSDS 122.0. */
+#define TERRAIN_FIVE_THREE 0
+#define TERRAIN_NINE_SEVEN 1
+
 /* The largest coordinate at which a map may start, each way. */
 #define TERRAIN_MAX_ORIGIN 65535
 
-/* How many numbers a state has, the row that a draw names, and a want; and the longest line store that any map needs. */
+/* How many numbers a state has, the row that a draw names, and a want; and the longest line store that any map needs by
+ * either filter. */
 #define TERRAIN_STATE_LENGTH 16
 #define TERRAIN_ROW_LENGTH 4
 #define TERRAIN_WANT_LENGTH 5
-#define TERRAIN_MAX_STORE_LENGTH 15892
+#define TERRAIN_MAX_STORE_LENGTH 30752
 
 /* The bands: row[1], want[2] and the `band` of `terrain_band_row`. The first letter is horizontal: HL is high along rows. */
 #define TERRAIN_LL 0
@@ -69,20 +74,21 @@
 
 /* ---- A map on its grid. */
 
-/* Width, height and levels of a map, and the coordinates of its first column and its first row. Even coordinates are low and odd ones high
- * (ITU-T T.800), so a tile of a larger world has the world's own coefficients inside, if it starts where it lies there; a map that is no
- * tile starts at 0. It is passed by value. Fields may be added at its end, and 0 in them will mean what they were not there for: set those
- * that you know and leave the others 0, by `terrain_shape s = {0};`, by designated initializers, or by `terrain_shape_of`. */
+/* Width, height and levels of a map, the coordinates of its first column and its first row, and its filter. Even coordinates are low and odd
+ * ones high (ITU-T T.800), so a tile of a larger world has the world's own coefficients inside, if it starts where it lies there; a map that
+ * is no tile starts at 0. The 5/3 has 1 to 5 levels, the 9/7 1 to 4. It is passed by value. Fields may be added at its end, and 0 in them
+ * will mean what they were not there for: set those that you know and leave the others 0, by `terrain_shape s = {0};`, by designated
+ * initializers, or by `terrain_shape_of`. */
 typedef struct terrain_shape {
     size_t width;
     size_t height;
     size_t levels;
     uint16_t x; /* of the first column */
     uint16_t y; /* of the first row */
-    uint32_t filter; /* 0 the 5/3, 1 the integer 9/7 */
+    uint32_t filter; /* TERRAIN_FIVE_THREE or TERRAIN_NINE_SEVEN; any other number gives 18 */
 } terrain_shape;
 
-/* A map of that size that starts at 0. */
+/* A map of that size that starts at 0, by the 5/3. */
 TERRAIN_INLINE terrain_shape terrain_shape_of(size_t width, size_t height, size_t levels)
 {
     terrain_shape shape = {0, 0, 0, 0, 0, 0};
@@ -117,6 +123,15 @@ uint32_t terrain_line_forward(const int32_t *line, size_t line_len, size_t start
 TERRAIN_CHECKED
 uint32_t terrain_line_backward(const int32_t *coefficients, size_t coefficients_len, size_t start, int32_t *out, size_t out_len);
 
+/* The same two by the integer 9/7 of CCSDS 122.0: high d(n) = x(2n+1) - floor((9 (x(2n) + x(2n+2)) - (x(2n-2) + x(2n+4)) + 8) / 16), low
+ * s(n) = x(2n) - floor((2 - d(n-1) - d(n)) / 4), the line mirrored at its ends as often as a short one needs; a line of one sample follows
+ * the 5/3's rule. Numbers, starts and answers are as above. */
+TERRAIN_CHECKED
+uint32_t terrain_ccsds_line_forward(const int32_t *line, size_t line_len, size_t start, int32_t *out, size_t out_len);
+
+TERRAIN_CHECKED
+uint32_t terrain_ccsds_line_backward(const int32_t *coefficients, size_t coefficients_len, size_t start, int32_t *out, size_t out_len);
+
 /* The smooth profile of one row of 1 to 2,049 heights, at the front of `out`, in the samples' own order: the 9/7 lifting of ITU-T T.800
  * without its scaling, in 32-bit floats. Four passes add c * (left + right), the bracket first, to the odd, even, odd and even samples, with
  * c = -1.586134342, -0.052980118, 0.882911075 and 0.443506852, each the nearest 32-bit float; the row is mirrored at both ends, and one
@@ -137,27 +152,28 @@ uint32_t terrain_picture_head(size_t width, size_t height, size_t from, uint8_t 
 TERRAIN_CHECKED
 size_t terrain_picture_row(const uint16_t *heights, size_t heights_len, size_t from, uint8_t *out, size_t out_len);
 
-/* The whole map: `height` rows of `width` heights to the plane of its coefficients at `levels` levels, and back. Width 1 to 2,049,
- * height 1 to 4,294,967,295, levels 1 to 5, any origin; heights, plane and work area each have at least width * height elements, and where a
- * call passes (or gives 14) the first width * height elements of the work area are zero afterwards.
+/* The whole map: `height` rows of `width` heights to the plane of its coefficients at `levels` levels by the shape's filter, and back. Width
+ * 1 to 2,049, height 1 to 4,294,967,295, levels 1 to 5 (9/7: 1 to 4), any origin; heights, plane and work area each have at least
+ * width * height elements, and where a call passes (or gives 14) the first width * height elements of the work area are zero afterwards.
  *
  * The plane, row by row: at level k the rows of LL (kept at the last level only) stand at the left of the first rows, HL to the right of
  * them, LH below them, HH below HL; `terrain_band_row` says where each one is.
  *
- * Both answer, in this order: 2 (width), 3 (height), 4 (levels), 5 (an area is too short). */
+ * Both answer, in this order: 2 (width), 3 (height), 18 (filter), 4 (levels), 5 (an area is too short). */
 TERRAIN_CHECKED
 uint32_t terrain_map_forward(const uint16_t *heights, size_t heights_len, terrain_shape shape,
                              int32_t *plane, size_t plane_len, int32_t *work, size_t work_len);
 
-/* And also: 7 (a coefficient is out of its level's range, +-65,535 * 4^level; nothing is changed), 14 (no map has this plane; the heights
- * and the work area are zeroed). 0 means that the heights are the one map that has this plane. */
+/* And also: 7 (a coefficient is out of its level's range, +-65,535 * 4^level, by the 9/7 6^level; nothing is changed), 14 (no map has this
+ * plane; the heights and the work area are zeroed). 0 means that the heights are the one map that has this plane. */
 TERRAIN_CHECKED
 uint32_t terrain_map_backward(const int32_t *plane, size_t plane_len, terrain_shape shape,
                               uint16_t *heights, size_t heights_len, int32_t *work, size_t work_len);
 
 /* Where row `row` of a band (0 LL, 1 HL, 2 LH, 3 HH) of a level (1 the finest) stands in a plane of `plane_len` elements: its first
- * element and how many there are. Rows of a band are counted from 0, wherever the map starts. 2, 3, 4, 5 as above; 6: there is no such band
- * row. Where a question says no, *start and *length stay. */
+ * element and how many there are. Rows of a band are counted from 0, wherever the map starts. The place is the same by either filter, so
+ * the shape's is not read: 2, 3, 4 (1 to 5 levels), 5 as above; 6: there is no such band row. Where a question says no, *start and *length
+ * stay. */
 TERRAIN_CHECKED
 uint32_t terrain_band_row(size_t plane_len, terrain_shape shape, size_t level, size_t band, size_t row, size_t *start, size_t *length);
 
@@ -169,14 +185,14 @@ uint32_t terrain_band_row(size_t plane_len, terrain_shape shape, size_t level, s
  * 1: the array is no state: of another kind, or a count is out of its range. No state that the calls leave is turned away by 1.
  * Scribbling in array or store cannot make a call write outside the areas lent to it, or run on. */
 
-/* The numbers that the line store of a writer or reader needs: 4 * (W(0) + ... + W(levels - 1)), W(0) being the width and each further
- * one the number of even columns of the one before (of a map that starts at 0: half of it, rounded up). The height does not count. 0 where
- * the width is not 1 to 2,049 or levels not 1 to 5. */
+/* The numbers that the line store of a writer or reader needs: r * (W(0) + ... + W(levels - 1)), r being 4 by the 5/3 and 8 by the 9/7, W(0)
+ * the width and each further one the number of even columns of the one before (of a map that starts at 0: half of it, rounded up). The height
+ * does not count. 0 where a set-up would give 2, 18 or 4. */
 TERRAIN_CHECKED
 size_t terrain_store_length(terrain_shape shape);
 
-/* A fresh writer of maps of that shape, whose height it does not read: the needed part of the store is zeroed. 2 (width), 4 (levels),
- * 5 (the store is too short). */
+/* A fresh writer of maps of that shape, whose height it does not read: the needed part of the store is zeroed. 2 (width), 18 (filter),
+ * 4 (levels), 5 (the store is too short). */
 TERRAIN_CHECKED
 uint32_t terrain_writer_set_up(uint64_t state[16], terrain_shape shape, int32_t *store, size_t store_len);
 
@@ -204,8 +220,8 @@ uint32_t terrain_writer_waits(const uint64_t state[16], uint64_t row[4]);
 TERRAIN_CHECKED
 uint32_t terrain_writer_finish(uint64_t state[16], int32_t *store, size_t store_len);
 
-/* A fresh reader of a map of that shape: the needed part of the store is zeroed. 2, 3 (height), 4, 5. The rows of a map that a writer made
- * are fed to a reader of the same origin. */
+/* A fresh reader of a map of that shape: the needed part of the store is zeroed. 2, 3 (height), 18, 4, 5. The rows of a map that a writer
+ * made are fed to a reader of the same origin and the same filter. */
 TERRAIN_CHECKED
 uint32_t terrain_reader_set_up(uint64_t state[16], terrain_shape shape, int32_t *store, size_t store_len);
 
@@ -239,7 +255,7 @@ TERRAIN_INLINE const char *terrain_sentence(uint32_t number)
         "the state is none that its calls made: a count is outside its range",         /* 1 */
         "the width is not 1 to 2,049",                                                 /* 2 */
         "the height is not 1 to 4,294,967,295",                                        /* 3 */
-        "the number of levels is not 1 to 5",                                          /* 4 */
+        "the number of levels is not 1 to 5, by the 9/7 1 to 4",                       /* 4 */
         "an area that was lent is too short",                                          /* 5 */
         "there is no such band row",                                                   /* 6 */
         "a coefficient is outside its level's range",                                  /* 7 */
@@ -251,9 +267,12 @@ TERRAIN_INLINE const char *terrain_sentence(uint32_t number)
         "the run has not the length of the band row that is wanted",                   /* 13 */
         "no map has these coefficients",                                               /* 14 */
         "the input is not in the form that the listing reads",                         /* 15 */
-        "a sample exceeds the largest value that the picture's header names"           /* 16 */
+        "a sample exceeds the largest value that the picture's header names",          /* 16 */
+        NULL,
+        "there is no such filter"                                                      /* 18 */
     };
-    return number < sizeof sentences / sizeof *sentences ? sentences[number] : "no question has this number";
+    const char *said = number < sizeof sentences / sizeof *sentences ? sentences[number] : NULL;
+    return said ? said : "no question has this number";
 }
 
 #endif

@@ -29,8 +29,18 @@ fn the_limits() {
     let mut store = vec![0; names["MAX_STORE_LENGTH"]];
     let mut set_up = |w, h, l| raw::reader_set_up(&mut [0; 16], Shape::new(w, h, l), &mut store);
     assert_eq!([set_up(width, height, levels), set_up(width + 1, 1, 1), set_up(1, height + 1, 1), set_up(1, 1, levels + 1)], [0, 2, 3, 4]);
-    let longest = (1..=width).flat_map(|w| (1..=levels).map(move |l| raw::store_length(Shape::new(w, 1, l)))).max();
-    assert_eq!(longest, Some(names["MAX_STORE_LENGTH"]));
+    let longest = |filter| (1..=width).flat_map(|w| (1..=levels).map(move |l| raw::store_length(Shape::new(w, 1, l).by(filter)))).max();
+    assert_eq!(longest(terrain::FIVE_THREE).max(longest(terrain::NINE_SEVEN)), Some(names["MAX_STORE_LENGTH"]));
+}
+
+#[test]
+fn the_filters() {
+    let names = names();
+    assert_eq!([names["FIVE_THREE"], names["NINE_SEVEN"]], [terrain::FIVE_THREE as usize, terrain::NINE_SEVEN as usize]);
+    let lengths = [terrain::FIVE_THREE, terrain::NINE_SEVEN, 2].map(|filter| raw::store_length(Shape::new(3, 1, 2).by(filter)));
+    assert_eq!(lengths, [4 * (3 + 2), 8 * (3 + 2), 0]);
+    let most = |filter| (1..10).filter(|l| raw::store_length(Shape::new(1, 1, *l).by(filter)) > 0).count();
+    assert_eq!([most(terrain::FIVE_THREE), most(terrain::NINE_SEVEN)], [names["MAX_LEVELS"], names["MAX_LEVELS"] - 1]);
 }
 
 #[test]

@@ -56,7 +56,7 @@ mod writer;
 
 mod owned;
 
-pub use line::{line_backward, line_forward};
+pub use line::{ccsds_line_backward, ccsds_line_forward, line_backward, line_forward};
 pub use map::{band_row, map_backward, map_forward, view, Shape};
 pub use picture::{picture_head, picture_row};
 pub use profile::profile;
@@ -72,8 +72,12 @@ pub const VERSION: u32 = 300;
 pub const MAX_WIDTH: usize = 2_049;
 /// The largest height of a map.
 pub const MAX_HEIGHT: usize = 4_294_967_295;
-/// The largest number of levels.
+/// The largest number of levels: the 5/3's; the 9/7 has one fewer.
 pub const MAX_LEVELS: usize = 5;
+/// The filters, by the number that a [`Shape`] has: the reversible 5/3 of ITU-T T.800,
+pub const FIVE_THREE: u32 = 0;
+/// and the integer 9/7 of CCSDS 122.0.
+pub const NINE_SEVEN: u32 = 1;
 
 /// A band of a level. The first letter is horizontal: `Hl` is high along rows, low along columns.
 #[derive(Clone, Copy, Debug, PartialEq, Eq, Hash)]

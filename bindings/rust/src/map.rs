@@ -13,7 +13,7 @@ pub struct Shape {
     pub levels: usize,
     pub x: u16,
     pub y: u16,
-    /// 0 the 5/3, 1 the integer 9/7; any other gives 18
+    /// [`crate::FIVE_THREE`] or [`crate::NINE_SEVEN`]; any other gives 18.
     pub filter: u32,
 }
 

@@ -27,7 +27,7 @@ pub enum Call {
 pub struct Question {
     /// The call that was turned away.
     pub call: Call,
-    /// The question's number, 1 to 14.
+    /// The question's number: 1 to 14, or 18.
     pub number: u32,
 }
 
@@ -48,7 +48,7 @@ impl Question {
             (2, Call::Profile) => "the row has no height, or more than 2,049",
             (2, _) => "the width is not 1 to 2,049",
             (3, _) => "the height is not 1 to 4,294,967,295",
-            (4, _) => "the number of levels is not 1 to 5",
+            (4, _) => "the number of levels is not 1 to 5, by the 9/7 1 to 4",
             (5, Call::Line) => "the output is shorter than the line",
             (5, Call::Profile) => "the output is shorter than the row",
             (5, Call::WriterSetUp | Call::ReaderSetUp) => {
@@ -74,6 +74,7 @@ impl Question {
             (13, _) => "the run has not exactly the length of the band row that is wanted",
             (14, Call::MapBackward) => "no map has this plane",
             (14, _) => "no map has the rows that were fed: the reader has ended",
+            (18, _) => "there is no such filter: 0 is the 5/3, 1 the 9/7",
             _ => "no question has this number",
         }
     }

@@ -29,6 +29,20 @@ mod c {
             out: *mut i32,
             out_len: usize,
         ) -> u32;
+        pub fn terrain_ccsds_line_forward(
+            line: *const i32,
+            line_len: usize,
+            start: usize,
+            out: *mut i32,
+            out_len: usize,
+        ) -> u32;
+        pub fn terrain_ccsds_line_backward(
+            coefficients: *const i32,
+            coefficients_len: usize,
+            start: usize,
+            out: *mut i32,
+            out_len: usize,
+        ) -> u32;
         pub fn terrain_profile(row: *const u16, row_len: usize, out: *mut f32, out_len: usize) -> u32;
         pub fn terrain_picture_head(
             width: usize,
@@ -125,6 +139,16 @@ pub fn line_forward(line: &[i32], start: usize, out: &mut [i32]) -> u32 {
 
 pub fn line_backward(coefficients: &[i32], start: usize, out: &mut [i32]) -> u32 {
     unsafe { c::terrain_line_backward(coefficients.as_ptr(), coefficients.len(), start, out.as_mut_ptr(), out.len()) }
+}
+
+pub fn ccsds_line_forward(line: &[i32], start: usize, out: &mut [i32]) -> u32 {
+    unsafe { c::terrain_ccsds_line_forward(line.as_ptr(), line.len(), start, out.as_mut_ptr(), out.len()) }
+}
+
+pub fn ccsds_line_backward(coefficients: &[i32], start: usize, out: &mut [i32]) -> u32 {
+    unsafe {
+        c::terrain_ccsds_line_backward(coefficients.as_ptr(), coefficients.len(), start, out.as_mut_ptr(), out.len())
+    }
 }
 
 pub fn profile(row: &[u16], out: &mut [f32]) -> u32 {

@@ -117,6 +117,10 @@ fn a_line() {
     line_backward(&out, 0, &mut again).unwrap();
     assert_eq!(again, [1, 4, 2, 7, 3]);
     assert_eq!(line_forward(&[1, 2], 0, &mut out[..1]).unwrap_err().number, 5);
+    ccsds_line_forward(&[1, 4, 2, 7, 3], 0, &mut out).unwrap();
+    ccsds_line_backward(&out, 0, &mut again).unwrap();
+    assert_eq!(again, [1, 4, 2, 7, 3]);
+    assert_eq!(ccsds_line_forward(&[1, 2], 0, &mut out[..1]).unwrap_err().number, 5);
 }
 
 #[test]
@@ -134,7 +138,9 @@ fn the_questions() {
     let mut store = [0; 40];
     assert_eq!(Writer::new(Shape::new(0, 1, 1), &mut store).unwrap_err().number, 2);
     assert_eq!(Reader::new(Shape::new(1, MAX_HEIGHT + 1, 1), &mut store).unwrap_err().number, 3);
+    assert_eq!(Writer::new(Shape::new(1, 1, 6).by(2), &mut store).unwrap_err().number, 18);
     assert_eq!(Writer::new(Shape::new(1, 1, 6), &mut store).unwrap_err().number, 4);
+    assert_eq!(Writer::new(Shape::new(1, 1, 5).by(NINE_SEVEN), &mut store).unwrap_err().number, 4);
     assert_eq!(Writer::new(Shape::new(3, 1, 2), &mut store[..19]).unwrap_err().number, 5);
     assert_eq!(
         (store_length(Shape::new(3, 1, 2)), store_length(Shape::new(2_050, 1, 1)), store_length(Shape::new(3, 1, 0))),
@@ -199,15 +205,15 @@ fn every_question_of_every_call_has_a_sentence() {
         (Call::Line, &[5]),
         (Call::Profile, &[2, 5]),
         (Call::Picture, &[2, 3]),
-        (Call::MapForward, &[2, 3, 4, 5]),
-        (Call::MapBackward, &[2, 3, 4, 5, 7, 14]),
+        (Call::MapForward, &[2, 3, 18, 4, 5]),
+        (Call::MapBackward, &[2, 3, 18, 4, 5, 7, 14]),
         (Call::View, &[2, 3, 4, 5, 6]),
-        (Call::WriterSetUp, &[2, 4, 5]),
+        (Call::WriterSetUp, &[2, 18, 4, 5]),
         (Call::Offer, &[1, 5, 9, 8, 10]),
         (Call::WriterDraw, &[1, 5, 12]),
         (Call::WriterWaits, &[1]),
         (Call::Finish, &[1, 5, 9, 8, 11]),
-        (Call::ReaderSetUp, &[2, 3, 4, 5]),
+        (Call::ReaderSetUp, &[2, 3, 18, 4, 5]),
         (Call::Want, &[1]),
         (Call::Feed, &[1, 5, 9, 8, 13, 7, 14]),
         (Call::ReaderDraw, &[1, 5, 9, 12, 14]),

@@ -1,5 +1,5 @@
 -- What a stream needs by its filter's number. Assumes nothing.
-use mathlib.Core.Path.{_≡_, refl, sym}
+use mathlib.Core.Path.{_≡_, refl}
 use mathlib.Core.Bool.{Bool, true, false}
 use Prim.Native.Nat.{ℕ, zero, suc, _+_, _*_, _^_, _≤_, _<_}
 use native.Mathlib.Omega.{arith}
@@ -18,16 +18,27 @@ use Rattle.wavelet.proofs.StoreLaws.{store-is, widths-le}
 use Rattle.nine_seven.specs.Filters.{filterOf, isFilter}
 use Rattle.filters.specs.Figures.{storeBy, anyBy, streamable}
 
--- no filter has more levels than the limit, or many rows
+-- no filter has more levels than the limit, or many rows, or looks far ahead
 pub levels-most : (f : ℕ) → filterOf f .levels ≤ maxLevels
 unfolding filterOf maxLevels
 levels-most zero = omega arith
 levels-most (suc f) = omega arith
 
-pub rows-few : (f : ℕ) → filterOf f .rows < 2 ^ 16
+rows-few : (f : ℕ) → filterOf f .rows < 2 ^ 8
 unfolding filterOf
 rows-few zero = omega arith
 rows-few (suc f) = omega arith
+
+pub ahead-few : (f : ℕ) → filterOf f .ahead < 2 ^ 8
+unfolding filterOf
+ahead-few zero = omega arith
+ahead-few (suc f) = omega arith
+
+-- the steps of the closing of l levels, and a stretch of w columns
+pub steps-few : (f l : ℕ) → filterOf f .ahead * l ≤ 2 * l
+unfolding filterOf
+steps-few zero l = omega arith
+steps-few (suc f) l = omega arith
 
 pub row-few : (f w : ℕ) → filterOf f .rows * w ≤ 8 * w
 unfolding filterOf
@@ -39,6 +50,19 @@ pub store-few : (f : ℕ) (W : Side) (L : ℕ) → storeBy f W L ≤ 16 * W .len
 unfolding filterOf
 store-few zero W L = omega (arith, store-is 4 W L, widths-le W L)
 store-few (suc f) W L = omega (arith, store-is 8 W L, widths-le W L)
+
+-- the sizes of a stream
+pub record Streams (f : ℕ) (W : Side) (L : ℕ) : Type 0 where
+  pub known : isFilter f ≡ true
+  pub width : (1 ≤ W .length) × (W .length ≤ maxWidth)
+  pub levels : (1 ≤ L) × (L ≤ filterOf f .levels)
+
+pub streams : (f : ℕ) (W : Side) (L : ℕ) → streamable f W L ≡ true → Streams f W L
+unfolding streamable
+streams f W L e =
+    let a = tests.both (isFilter f) _ e in
+    let b = tests.both (within 1 maxWidth (W .length)) _ (a .1) in
+    record { known = a .0; width = within-true 1 maxWidth _ (b .0); levels = within-true 1 (filterOf f .levels) _ (b .1) }
 
 -- ---- the code's product fits a word
 picked : (b : Bool) (v : ℕ) → (b ≡ true → v < 2 ^ 32) → pick b v 0 < 2 ^ 32
@@ -93,7 +117,8 @@ module _ (f w x L : ℕ) where
   stored r v k h e g =
       let a : leb L (filterOf f .levels) ≡ true = le-leb L _ h in
       let b : leb L maxLevels ≡ true = le-leb L _ (omega (arith, levels-most f)) in
-      rw (g, e, k, a, b, store-is (filterOf f .rows) W L) (scaled (both (both (leb 1 w) (leb w maxWidth)) (both (leb 1 L) true)) (filterOf f .rows) (widths W L))
+      rw (g, e, k, a, b, store-is (filterOf f .rows) W L)
+      (scaled (both (both (leb 1 w) (leb w maxWidth)) (both (leb 1 L) true)) (filterOf f .rows) (widths W L))
 
 -- ---- a length that holds any number of levels
 module _ (f w n : ℕ) where

@@ -1,10 +1,11 @@
 -- A level on the way forward by its filter's number: 0 is the 5/3, any other the integer 9/7. Document 02, Q-8.
 use mathlib.Core.Bool.{Bool}
-use Prim.Native.Nat.{ℕ, zero, suc, _+_, _^_}
+use Prim.Native.Nat.{ℕ, zero, suc, _+_, _*_, _^_}
 use lib.Dec.{leb}
 use lib.IntN.{ℤ}
 use Rattle.numbers.specs.Signal.{both}
 use Rattle.lifting.specs.Grid.{Side}
+use Rattle.nine_seven.specs.Filters.{filterOf}
 use Rattle.wavelet.specs.Levels.{next}
 use Rattle.level.specs.Level.{Memory, LevelKind, Meaning, Ending}
 use Rattle.level.specs.FiveThreeLevel as five
@@ -14,10 +15,22 @@ use Rattle.nine_seven_making.specs.NineSevenLevel as nine
 use Rattle.nine_seven_making.specs.Making as nine-making
 use Rattle.nine_seven_making.specs.Heights as nine-heights
 
--- the level, and what its store means
+-- the level of the filter's own crate
+abbrev ownLevel : ℕ → LevelKind
+ownLevel zero = five.fiveThree
+ownLevel (suc _) = nine.nineSevenLevel
+
+-- it, with its filter, look-ahead and rows named by the number; and what its store means
 abbrev pub kindOf : ℕ → LevelKind
-kindOf zero = five.fiveThree
-kindOf (suc _) = nine.nineSevenLevel
+kindOf f = record {
+  filter = filterOf f;
+  stretch = λ W. filterOf f .rows * W .length;
+  cell = ownLevel f .cell;
+  put = ownLevel f .put;
+  make = ownLevel f .make;
+  close = ownLevel f .close;
+  place = ownLevel f .place;
+}
 
 abbrev pub heldOf : ℕ → Meaning
 heldOf zero = five.Kept

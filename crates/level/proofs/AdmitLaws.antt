@@ -83,8 +83,8 @@ unfolding valueFits
 value-between F zero v = let e = range-zero F in rw e (unfold lowestBy between in refl)
 value-between F (suc k) v = abs-between (range F (suc k)) v ∙ unfold lowestBy in refl
 
-pub same-range : (k : ℕ) → k ≤ maxLevels → pos (range fiveThreeFilter (min k maxLevels)) ≡ pos (range fiveThreeFilter k)
-same-range k h = let e : min k maxLevels ≡ k = omega arith in ap (λ (i : ℕ). pos (range fiveThreeFilter i)) e
+pub same-range : (F : Filter) (m k : ℕ) → k ≤ m → pos (range F (min k m)) ≡ pos (range F k)
+same-range F m k h = let e : min k m ≡ k = omega arith in ap (λ (i : ℕ). pos (range F i)) e
 
 -- ---- a row's test, made on the part that is lent
 module _ (m : ℕ) (F : Filter) where

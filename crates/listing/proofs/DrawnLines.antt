@@ -93,9 +93,9 @@ grid-map-of W H es some limit small within all = record {
 }
 
 -- ---- the lines of any list of calls on a fresh writer
-module _ (W L n : ℕ) (x : Memory) (ready : setUpQuestion (side 0 W) L n ≡ 0) (cs : List Call) (H : ℕ) where
+module _ (W L n : ℕ) (x : Memory) (ready : setUpQuestion 0 (side 0 W) L n ≡ 0) (cs : List Call) (H : ℕ) where
   abbrev es : List Event
-  es = events cs (freshWorld (side 0 W) 0 L n x)
+  es = events cs (freshWorld 0 (side 0 W) 0 L n x)
 
   abbrev q : Shape
   q = record { width = W; height = H; levels = L }
@@ -103,21 +103,21 @@ module _ (W L n : ℕ) (x : Memory) (ready : setUpQuestion (side 0 W) L n ≡ 0)
   module _ (some : 1 ≤ H) (limit : H ≤ maxHeight) (small : All (λ h. h ≤ maxSample) (taken es)) (within : length (taken es) ≤ W * H)
       (all : finishedBy es ≡ true → length (taken es) ≡ W * H) where
     -- the lines drawn, and those of the rows that wait
-    pub lines-all : (sizeLine W H L ++ drawnText (drawn es)) ++ linesOf W H (gridOf W (taken es)) (waitingOf (side 0 W) 0 L es)
+    pub lines-all : (sizeLine W H L ++ drawnText (drawn es)) ++ linesOf W H (gridOf W (taken es)) (waitingOf 0 (side 0 W) 0 L es)
         ≡ linesDue q (taken es) (finishedBy es)
     unfolding linesDue waitingOf madeOf wholeRows
     lines-all =
-        let d = demand-3 (side 0 W) 0 L n x (omega arith) (omega arith) ready cs .1 in
+        let d = demand-3 0 (side 0 W) 0 L n x (omega arith) (omega arith) ready cs .1 in
         append-assoc (sizeLine W H L) (drawnText (drawn es)) _
         ∙ ap (λ t. sizeLine W H L ++ t)
-        (lines-same W H (gridOf W (taken es)) (drawn es) (madeOf (side 0 W) 0 L es)
+        (lines-same W H (gridOf W (taken es)) (drawn es) (madeOf 0 (side 0 W) 0 L es)
         (d .values H (gridOf W (taken es)) (grid-map-of W H es some limit small within all))
         (d .in-order))
 
     pub lines-prefix : (r : List ℕ) × ((sizeLine W H L ++ drawnText (drawn es)) ++ r ≡ linesDue q (taken es) (finishedBy es))
-    lines-prefix = (linesOf W H (gridOf W (taken es)) (waitingOf (side 0 W) 0 L es), lines-all)
+    lines-prefix = (linesOf W H (gridOf W (taken es)) (waitingOf 0 (side 0 W) 0 L es), lines-all)
 
-    pub lines-due : waitingOf (side 0 W) 0 L es ≡ [] → sizeLine W H L ++ drawnText (drawn es) ≡ linesDue q (taken es) (finishedBy es)
+    pub lines-due : waitingOf 0 (side 0 W) 0 L es ≡ [] → sizeLine W H L ++ drawnText (drawn es) ≡ linesDue q (taken es) (finishedBy es)
     unfolding linesOf
     lines-due z =
         sym (append-nil (sizeLine W H L ++ drawnText (drawn es)))

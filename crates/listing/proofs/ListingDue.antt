@@ -49,7 +49,7 @@ module _ (n : ℕ) (store : mapStore ≤ n) (W H L : ℕ) (hs : List ℕ) (f : B
       ∙ lines-due W L n (r .before) (set-up-in n store b) (r .calls) H (b .some-rows) (b .rows) (subst (All (λ h. h ≤ maxSample)) (sym (r .heights)) small)
       (rw (r .heights) few)
       (λ z. ap length (r .heights) ∙ all (sym (r .ended) ∙ z)) (waiting-is W L n hs f ds w x r ∙ e)
-      ∙ ap (λ h. linesDue q h (finishedBy (events (r .calls) (freshWorld (side 0 W) 0 L n (r .before))))) (r .heights)
+      ∙ ap (λ h. linesDue q h (finishedBy (events (r .calls) (freshWorld 0 (side 0 W) 0 L n (r .before))))) (r .heights)
       ∙ ap (linesDue q hs) (r .ended)
 
   ran-prefix : (t : List ℕ) × ((sizeLine W H L ++ drawnText ds) ++ t ≡ linesDue q hs f)
@@ -60,7 +60,7 @@ module _ (n : ℕ) (store : mapStore ≤ n) (W H L : ℕ) (hs : List ℕ) (f : B
       (λ z. ap length (r .heights) ∙ all (sym (r .ended) ∙ z)) in (
         p .0,
         ap (λ d. (sizeLine W H L ++ drawnText d) ++ p .0) (sym (r .rows)) ∙ p .1
-            ∙ ap (λ h. linesDue q h (finishedBy (events (r .calls) (freshWorld (side 0 W) 0 L n (r .before))))) (r .heights)
+            ∙ ap (λ h. linesDue q h (finishedBy (events (r .calls) (freshWorld 0 (side 0 W) 0 L n (r .before))))) (r .heights)
             ∙ ap (linesDue q hs) (r .ended),
       )
 

@@ -92,8 +92,8 @@ turned-begun n k W H L hs f o s i q some e b = record {
 
 module _ (n k : ℕ) (store : mapStore ≤ n) (row : maxPictureWidth ≤ k) where
   -- ---- the head is there
-  begin-is : (i : Input) (w : Writer) (W H : ℕ) (x z : Memory) → setUpQuestion (side 0 W) (i .levels) n ≡ 0
-      → beginState n i w W H x z ≡ stateOf (listed i (fresh (side 0 W) 0 (i .levels)) (sizePart W H (i .levels))) (setUpStore (side 0 W) (i .levels) n x) z
+  begin-is : (i : Input) (w : Writer) (W H : ℕ) (x z : Memory) → setUpQuestion 0 (side 0 W) (i .levels) n ≡ 0
+      → beginState n i w W H x z ≡ stateOf (listed i (fresh 0 (side 0 W) 0 (i .levels)) (sizePart W H (i .levels))) (setUpStore 0 (side 0 W) (i .levels) n x) z
   unfolding beginState setUpReply
   begin-is i w W H x z e = rw e refl
 

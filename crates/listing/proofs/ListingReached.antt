@@ -39,7 +39,7 @@ pub record ShapeIn (W H L : ℕ) : Type 0 where
   pub some-levels : 1 ≤ L
   pub levels : L ≤ maxLevels
 
-pub set-up-in : (n : ℕ) {W H L : ℕ} → mapStore ≤ n → ShapeIn W H L → setUpQuestion (side 0 W) L n ≡ 0
+pub set-up-in : (n : ℕ) {W H L : ℕ} → mapStore ≤ n → ShapeIn W H L → setUpQuestion 0 (side 0 W) L n ≡ 0
 set-up-in n {W} {H} {L} h b = set-up-passes W L n h (b .some-columns) (b .columns) (b .some-levels) (b .levels)
 
 -- the input after hs of c heights, and a refusal (its number, or 0) or the finish (f)
@@ -91,7 +91,7 @@ row-line : (k : ℕ) (y : Memory) (b : BandRow) → lineLeft k y (headPart (b .l
 unfolding drawnLine
 row-line k y b = left-head k y (b .level) (b .band) (b .row) (b .length)
 
-module _ (n k W H L : ℕ) (s : setUpQuestion (side 0 W) L n ≡ 0) (wide : W ≤ k) (i : Input) (w : Writer) (x z : Memory) where
+module _ (n k W H L : ℕ) (s : setUpQuestion 0 (side 0 W) L n ≡ 0) (wide : W ≤ k) (i : Input) (w : Writer) (x z : Memory) where
   -- the input stays: the writer does not refuse
   pub drawn-input : (hs : List ℕ) (f : Bool) (ds : List DrawnRow) → Ran W L n hs f ds w x → drawState n k i w x z .listing .input ≡ i
   unfolding drawState

@@ -68,7 +68,7 @@ module _ (n k : ℕ) (s : State) where
     room = λ _. e .room g;
   }
 
-  module _ {W H L : ℕ} {hs : List ℕ} {number : ℕ} {f : Bool} {o : List ℕ} (q : setUpQuestion (side 0 W) L n ≡ 0) (wide : W ≤ k)
+  module _ {W H L : ℕ} {hs : List ℕ} {number : ℕ} {f : Bool} {o : List ℕ} (q : setUpQuestion 0 (side 0 W) L n ≡ 0) (wide : W ≤ k)
       (e : Begun n k W H L hs number f o s) (p : 0 < l .part) where
     not-refused : 3 ≤ l .part → number ≡ 0
     not-refused g = go number (e .last)

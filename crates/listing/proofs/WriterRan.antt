@@ -39,13 +39,13 @@ waits W L hs f ds = drop (length ds) (made 1 (side 0 W) 0 L (length hs / W) f)
 pub record Ran (W L n : ℕ) (hs : List ℕ) (f : Bool) (ds : List DrawnRow) (w : Writer) (x : Memory) : Type 0 where
   pub before : Memory
   pub calls : List Call
-  pub world : final calls (freshWorld (side 0 W) 0 L n before) ≡ worldOf n w x
-  pub heights : taken (events calls (freshWorld (side 0 W) 0 L n before)) ≡ hs
-  pub ended : finishedBy (events calls (freshWorld (side 0 W) 0 L n before)) ≡ f
-  pub rows : drawn (events calls (freshWorld (side 0 W) 0 L n before)) ≡ ds
+  pub world : final calls (freshWorld 0 (side 0 W) 0 L n before) ≡ worldOf n w x
+  pub heights : taken (events calls (freshWorld 0 (side 0 W) 0 L n before)) ≡ hs
+  pub ended : finishedBy (events calls (freshWorld 0 (side 0 W) 0 L n before)) ≡ f
+  pub rows : drawn (events calls (freshWorld 0 (side 0 W) 0 L n before)) ≡ ds
 
 module _ (W L n : ℕ) where
-  pub fresh-ran : (x : Memory) → Ran W L n [] false [] (fresh (side 0 W) 0 L) (setUpStore (side 0 W) L n x)
+  pub fresh-ran : (x : Memory) → Ran W L n [] false [] (fresh 0 (side 0 W) 0 L) (setUpStore 0 (side 0 W) L n x)
   unfolding lists.final lists.events lists.gathered lists.ever
   fresh-ran x = record { before = x; calls = []; world = refl; heights = refl; ended = refl; rows = refl }
 
@@ -59,12 +59,12 @@ module _ (W L n : ℕ) where
 
   module _ (hs : List ℕ) (f : Bool) (ds : List DrawnRow) (w : Writer) (x : Memory) (r : Ran W L n hs f ds w x) where
     abbrev w₀ : World
-    w₀ = freshWorld (side 0 W) 0 L n (r .before)
+    w₀ = freshWorld 0 (side 0 W) 0 L n (r .before)
 
     abbrev es : List Event
     es = events (r .calls) w₀
 
-    pub waiting-is : waitingOf (side 0 W) 0 L es ≡ waits W L hs f ds
+    pub waiting-is : waitingOf 0 (side 0 W) 0 L es ≡ waits W L hs f ds
     unfolding waitingOf madeOf wholeRows waits
     waiting-is = rw (r .heights, r .ended, r .rows) refl
 
@@ -120,14 +120,14 @@ module _ (W L n : ℕ) where
           subst (λ h. Ran W L n h f (ds ++ (record { row = b; values = after } ∷ [])) u (drawStore w n k x)) (append-nil hs)
           (subst (λ t. Ran W L n (hs ++ []) t (ds ++ (record { row = b; values = after } ∷ [])) u (drawStore w n k x)) (either-no f) a)
 
-      says : setUpQuestion (side 0 W) L n ≡ 0 → seen given (drawReply w n k x) ≡ drawSays (side 0 W) (waits W L hs f ds) k
+      says : setUpQuestion 0 (side 0 W) L n ≡ 0 → seen given (drawReply w n k x) ≡ drawSays (side 0 W) (waits W L hs f ds) k
       says s =
-          let d = demand-3 (side 0 W) 0 L n (r .before) (omega arith) (omega arith) s (r .calls) .1 .draws (area z) in
-          let e : drew (area z) (seen given (drawReply w n k x)) (area after) ≡ drew (area z) (drawSays (side 0 W) (waitingOf (side 0 W) 0 L es) k) (d .area) =
+          let d = demand-3 0 (side 0 W) 0 L n (r .before) (omega arith) (omega arith) s (r .calls) .1 .draws (area z) in
+          let e : drew (area z) (seen given (drawReply w n k x)) (area after) ≡ drew (area z) (drawSays (side 0 W) (waitingOf 0 (side 0 W) 0 L es) k) (d .area) =
           sym (drew-is (drawReply w n k x) refl) ∙ ap (event (draw (area z))) (sym (r .world)) ∙ d .says in
           cc (e, ap (λ l. drawSays (side 0 W) l k) waiting-is)
 
-      pub draw-out : setUpQuestion (side 0 W) L n ≡ 0 → W ≤ k → DrawOut (drawReply w n k x)
+      pub draw-out : setUpQuestion 0 (side 0 W) L n ≡ 0 → W ≤ k → DrawOut (drawReply w n k x)
       draw-out s long = go (waits W L hs f ds) refl (drawReply w n k x) refl (says s)
         where
           fits : (y : RowName) → bandColumns (side 0 W) (y .level) (y .band) ≤ k

@@ -13,10 +13,11 @@ use borrow.Author.Tests.{le-leb, lt-ltb, eq-eqb, ne-eqb}
 use Rattle.lifting.specs.Grid.{side}
 use Rattle.wavelet.specs.Limits.{maxWidth, maxHeight, maxLevels}
 use Rattle.wavelet.specs.Questions.{within}
-use Rattle.wavelet.specs.Store.{storeLength}
 use Rattle.wavelet.proofs.StoreLaws.{store-in, store-grows}
 use Rattle.calls.specs.Lists.{Reply, gives, refused, unless}
 use Rattle.level.specs.Level.{Memory}
+use Rattle.nine_seven.specs.Filters.{filterOf, isFilter}
+use Rattle.filters.specs.Figures.{storeBy}
 use Rattle.writer.specs.Questions.{either, setUpQuestion}
 use Rattle.writer.specs.Answers.{Took}
 use Rattle.writer.specs.Calls.{offerReply, offerStore, finishReply, finishStore}
@@ -34,18 +35,19 @@ narrow : maxPictureWidth ≤ maxWidth
 unfolding maxPictureWidth maxWidth
 narrow = omega arith
 
-pub set-up-passes : (W L n : ℕ) → mapStore ≤ n → 1 ≤ W → W ≤ maxPictureWidth → 1 ≤ L → L ≤ maxLevels → setUpQuestion (side 0 W) L n ≡ 0
-unfolding setUpQuestion within
+pub set-up-passes : (W L n : ℕ) → mapStore ≤ n → 1 ≤ W → W ≤ maxPictureWidth → 1 ≤ L → L ≤ maxLevels → setUpQuestion 0 (side 0 W) L n ≡ 0
+unfolding setUpQuestion within isFilter filterOf maxLevels
 set-up-passes W L n h a b c d =
-    let f : storeLength (side 0 W) L ≤ n = omega (arith, store-in (side 0 W) L maxLevels d, store-grows maxLevels 0 W maxPictureWidth b) in
-    rw (le-leb 1 W a, le-leb W maxWidth (omega (arith, narrow)), le-leb 1 L c, le-leb L maxLevels d, le-leb (storeLength (side 0 W) L) n f)
+    let r = filterOf 0 .rows in
+    let f : storeBy 0 (side 0 W) L ≤ n = omega (arith, store-in r (side 0 W) L maxLevels d, store-grows r maxLevels 0 W maxPictureWidth b) in
+    rw (le-leb 1 W a, le-leb W maxWidth (omega (arith, narrow)), le-leb 1 L c, le-leb L maxLevels d, le-leb (storeBy 0 (side 0 W) L) n f)
 
-module _ (W L n : ℕ) (s : setUpQuestion (side 0 W) L n ≡ 0) (hs : List ℕ) (ds : List DrawnRow) (w : Writer) (x : Memory) (r : Ran W L n hs false ds w x)
+module _ (W L n : ℕ) (s : setUpQuestion 0 (side 0 W) L n ≡ 0) (hs : List ℕ) (ds : List DrawnRow) (w : Writer) (x : Memory) (r : Ran W L n hs false ds w x)
     (idle : waits W L hs false ds ≡ []) where
   abbrev es : List Event
-  es = events (r .calls) (freshWorld (side 0 W) 0 L n (r .before))
+  es = events (r .calls) (freshWorld 0 (side 0 W) 0 L n (r .before))
 
-  nothing-waits : waitingOf (side 0 W) 0 L es ≡ []
+  nothing-waits : waitingOf 0 (side 0 W) 0 L es ≡ []
   nothing-waits = waiting-is W L n hs false ds w x r ∙ idle
 
   rows-are : wholeRows (side 0 W) es ≡ length hs / W
@@ -77,13 +79,13 @@ module _ (W L n : ℕ) (s : setUpQuestion (side 0 W) L n ≡ 0) (hs : List ℕ) 
                 rw (ne-eqb (length run) 0 p, lt-ltb (wholeRows (side 0 W) es) maxHeight (omega (arith, rows-are))) refl
           ]
 
-      not-turned : offerTurned (side 0 W) 0 L es (length run) ≡ 0
+      not-turned : offerTurned 0 (side 0 W) 0 L es (length run) ≡ 0
       unfolding offerTurned
       not-turned = rw (r .ended, nothing-waits, low) refl
 
       pub offer-out : OfferOut
       offer-out =
-          let d = demand-3 (side 0 W) 0 L n (r .before) (omega arith) (omega arith) s (r .calls) .1 .offers-taken run not-turned in
+          let d = demand-3 0 (side 0 W) 0 L n (r .before) (omega arith) (omega arith) s (r .calls) .1 .offers-taken run not-turned in
           go (offerReply w n run x) refl (d .0) (ap (event (offer run)) (sym (r .world)) ∙ d .1) (d .2 .most) (d .2 .some)
         where
           go : (y : Reply Took) → offerReply w n run x ≡ y → (m : ℕ) → event (offer run) (worldOf n w x) ≡ offered run (gives m) → m ≤ length run
@@ -106,7 +108,7 @@ module _ (W L n : ℕ) (s : setUpQuestion (side 0 W) L n ≡ 0) (hs : List ℕ) 
     pub ran : Ran W L n hs true ds writer (finishStore w n x)
 
   module _ (H : ℕ) (wide : 0 < W) (some : 1 ≤ H) (whole : length hs ≡ W * H) where
-    passes : finishTurned (side 0 W) 0 L es ≡ 0
+    passes : finishTurned 0 (side 0 W) 0 L es ≡ 0
     unfolding finishTurned
     passes =
         let a : length hs / W ≡ H = ap (λ m. m / W) whole ∙ mul-div-cancel-left H wide in
@@ -115,7 +117,7 @@ module _ (W L n : ℕ) (s : setUpQuestion (side 0 W) L n ≡ 0) (hs : List ℕ) 
 
     pub finish-out : FinishOut
     finish-out =
-        let d = demand-3 (side 0 W) 0 L n (r .before) (omega arith) (omega arith) s (r .calls) .1 .finishes in
+        let d = demand-3 0 (side 0 W) 0 L n (r .before) (omega arith) (omega arith) s (r .calls) .1 .finishes in
         go (finishReply w n x) refl (ap (event finish) (sym (r .world)) ∙ d ∙ ap (λ q. finished (unless q tt)) passes)
       where
         go : (y : Reply Writer) → finishReply w n x ≡ y → event finish (worldOf n w x) ≡ finished (gives tt) → FinishOut

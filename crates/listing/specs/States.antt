@@ -7,9 +7,9 @@ use lib.ListN.{length}
 use Rattle.numbers.specs.Signal.{pick}
 use Rattle.lifting.specs.Grid.{side}
 use Rattle.wavelet.specs.Limits.{maxLevels}
-use Rattle.wavelet.specs.Store.{storeLength}
 use Rattle.pgm.specs.Limits.{maxPictureWidth}
 use Rattle.level.specs.Level.{Memory}
+use Rattle.filters.specs.Figures.{storeBy}
 use Rattle.calls.specs.Lists.{Reply, gives, refused}
 use Rattle.writer.specs.Answers.{Took, Handed, aRow, nothing}
 use Rattle.writer.specs.Calls.{fresh, setUpReply, setUpStore, offerReply, offerStore, drawReply, drawStore, drawArea, finishReply, finishStore}
@@ -24,9 +24,9 @@ use Rattle.listing.specs.declared.listing.Listing.{Listing}
 use Rattle.pgm.specs.declared.input.Step.the-variants as steps
 use Rattle.pgm.specs.declared.input.Ended.the-variants as ended
 
--- a line store in which every map that is listed has room
+-- a line store in which every map that is listed has room; the filter is the 5/3, number 0
 abbrev pub mapStore : ℕ
-mapStore = storeLength (side 0 maxPictureWidth) maxLevels
+mapStore = storeBy 0 (side 0 maxPictureWidth) maxLevels
 
 pub record State : Type 0 where
   pub listing : Listing
@@ -47,7 +47,7 @@ listed i w l = record { input = i; writer = w; line = l }
 
 -- before the first byte: the writer is none yet
 abbrev pub started : Listing
-started = listed (startAt 0) (fresh (side 0 1) 0 1) noLine
+started = listed (startAt 0) (fresh 0 (side 0 1) 0 1) noLine
 
 -- a refusal, whatever its number: no more is read
 abbrev pub refusedTo : Input → Writer → ℕ → Listing
@@ -68,7 +68,7 @@ begunTo i w W H (gives u) = listed i u (sizePart W H (i .levels))
 begunTo i w W H (refused q) = refusedTo i w q
 
 unfoldable pub beginState : ℕ → Input → Writer → ℕ → ℕ → Memory → Memory → State
-beginState n i w W H x z = stateOf (begunTo i w W H (setUpReply (side 0 W) 0 (i .levels) n)) (setUpStore (side 0 W) (i .levels) n x) z
+beginState n i w W H x z = stateOf (begunTo i w W H (setUpReply 0 (side 0 W) 0 (i .levels) n)) (setUpStore 0 (side 0 W) (i .levels) n x) z
 
 -- ---- a height, and the finish
 abbrev pub tookTo : (ℕ → ℕ → Input → Writer → Memory → Memory → State) → ℕ → ℕ → Input → Writer → Memory → Memory → Reply Took → State

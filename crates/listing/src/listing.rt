@@ -66,6 +66,7 @@ impl Listing {
                 offset: 0,
                 x: 0,
                 y: 0,
+                filter: 0,
             },
             line: Line::none(),
         }

@@ -49,10 +49,10 @@ pub fn draw(input: Input, writer: Writer, store: &mut [i32], row: &mut [i32]) ->
     }
 }
 
-// The head is read: a fresh writer, and the line of W, H and L. A picture starts at coordinate 0.
+// The head is read: a fresh writer, and the line of W, H and L. A picture starts at coordinate 0, and the filter is the 5/3.
 fn begin(input: Input, writer: Writer, width: usize, height: usize, store: &mut [i32]) -> Listing
-    ensures { λ r. ⌜ r ≡ begunTo input writer width height (setUpReply (side 0 width) 0 (input .levels) (length (now (store .entry)))) ⌝ }
-    ensures { λ r. ⌜ at (now (store .exit)) ≡ setUpStore (side 0 width) (input .levels) (length (now (store .entry))) (at (now (store .entry))) ⌝ }
+    ensures { λ r. ⌜ r ≡ begunTo input writer width height (setUpReply 0 (side 0 width) 0 (input .levels) (length (now (store .entry)))) ⌝ }
+    ensures { λ r. ⌜ at (now (store .exit)) ≡ setUpStore 0 (side 0 width) (input .levels) (length (now (store .entry))) (at (now (store .entry))) ⌝ }
 {
     let levels = input.levels;
     let shape = Shape {
@@ -61,6 +61,7 @@ fn begin(input: Input, writer: Writer, width: usize, height: usize, store: &mut 
         levels,
         x: 0,
         y: 0,
+        filter: 0,
     };
     match Writer::set_up(shape, store) {
         SetUp::Ready(fresh) => Listing {

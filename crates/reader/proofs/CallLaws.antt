@@ -228,7 +228,8 @@ module _ (s : Reader) (Q : ℕ) (x z : ℕ → ℤ) where
   draw-end t y e et is = (rw (← e) (ap impossible et), (rw (← e) is, rw (← e)))
 
 -- the heights of the row that is lent
-pub drawn-row : (s : Reader) (a k : ℕ) (l : List ℤ) (z u : ℕ → ℤ) → a ≡ rowPlaceOf (s .filter) (s .width) (s .y % 2 + s .drawn) → k ≡ s .width → a + k ≤ length l →
+pub drawn-row : (s : Reader) (a k : ℕ) (l : List ℤ) (z u : ℕ → ℤ) → a ≡ rowPlaceOf (s .filter) (s .width) (s .y % 2 + s .drawn) → k ≡ s .width →
+    a + k ≤ length l →
     u ≡ fronted (length (midOf a k l)) (λ c. height16 (joined (side (s .x) (length (midOf a k l)))
     (halvesOf (side (s .x) (length (midOf a k l))) (at (midOf a k l))) c)) z →
     u ≡ fronted (s .width) (heightRow s (at l)) z

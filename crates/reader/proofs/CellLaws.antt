@@ -99,11 +99,6 @@ unfolding setHas
 row-has W H b n a =
     rw (lt-ltb 0 (count (across b) W) (a .columns), le-leb (firstSet H (down b)) n (a .first), lt-ltb (setRow H b n) (count (down b) H) (a .row)) refl
 
-pub has-cells : (W H : Side) (b : Band) (n : ℕ) → setHas W H b n ≡ true → hasCells W H ≡ true
-has-cells W H b n e =
-    let a = has-row W H b n e in
-    cells-yes W H (count-long (across b) W (a .columns)) (count-long (down b) H (omega (arith, a .row)))
-
 pub asked-has : (t : Bool) (W H : Side) (n : ℕ) (b : Band) → asked t W H n b ≡ true → (keptAt t b ≡ true) × (setHas W H b n ≡ true)
 unfolding asked
 asked-has t W H n b e = halves (keptAt t b) _ e
@@ -193,8 +188,3 @@ last-asks t W H n i h cells there e = elim (decLt n (count hi H)) [
   | yes p ↦ absurd (omega (arith, e, high-asks W H n p t i h cells))
   | no p ↦ omega (arith, p, there, cells-are W H cells .1, high-is H, end-is H)
 ]
-
--- without a low row in set n, the next level has no rows
-pub no-low-empty : (W H : Side) → count lo H ≡ 0 → Empty (next W) (next H)
-unfolding next
-no-low-empty W H e = high e

@@ -3,7 +3,6 @@ use mathlib.Core.Bool.{Bool, true, false}
 use mathlib.Core.Path.{_≡_, refl, sym, ap, ap₂, subst, _∙_}
 use mathlib.Core.List.{List, [], _∷_, _++_, append-nil, append-assoc}
 use Prim.Native.Nat.{ℕ, zero, suc, _+_, _-_, _≤_, _<_}
-use native.Mathlib.Decide.{ℕ-discrete}
 use native.Mathlib.Omega.{arith}
 use lib.IntN.{ℤ}
 use lib.ListN.{length}
@@ -19,7 +18,7 @@ use Rattle.wavelet.specs.Limits.{maxWidth, maxHeight, maxOrigin}
 use Rattle.wavelet.specs.Bands.{Grid, Band, code, across, down, levelHas}
 use Rattle.wavelet.specs.Maps.{IsMap, valueFits}
 use Rattle.wavelet.specs.Questions.{ask, within}
-use Rattle.wavelet.specs.Order.{RowName, rowName, times, setRow, setHas}
+use Rattle.wavelet.specs.Order.{RowName, rowName, times, setRow}
 use Rattle.wavelet.specs.Steps.{Step, bandRowsOf, steps}
 use Rattle.wavelet.specs.Steps as step
 use Rattle.wavelet.proofs.MapTheorems.{height-fits, low-fits}
@@ -37,7 +36,7 @@ use Rattle.calls.proofs.QuestionLaws.{asked-yes}
 use Rattle.nine_seven.specs.Filters.{filterOf, isFilter}
 use Rattle.nine_seven.proofs.Filters.{filter-laws}
 use Rattle.reader.specs.declared.Reader.{Reader}
-use Rattle.reader.specs.Asked.{keptAt, asked}
+use Rattle.reader.specs.Asked.{asked}
 use Rattle.reader.specs.Rebuilt.{Rows, rebuilt, bandsAt, partAt, SetFits}
 use Rattle.reader.specs.Store.{hasCells}
 use Rattle.reader.specs.Holds.{Ready}
@@ -58,7 +57,7 @@ use Rattle.reader.proofs.StepsLeft.{stepsLeft, tailAt, Ahead, height, r
 use Rattle.level.proofs.SetMade.{Outcome}
 use Rattle.reader.proofs.Outcomes.{outcome-passed, settles-outcome, feeds-worked, kept-last}
 use Rattle.reader.proofs.Holds.{Fits, LeavesAt, Held, HeldAt, Worked, FedHeld, first-holds, set-fits, set-has}
-use Rattle.reader.proofs.CallViews.{Limits, limits, here, at, nextOf, nameOf, Due, View, at-end, at-height, at-row, view, counts, want-says}
+use Rattle.reader.proofs.CallViews.{Limits, limits, here, at, nameOf, Due, View, at-end, at-height, at-row, view, counts, want-says}
 use Rattle.reader.proofs.CallViews.{FeedView, feed-away, feed-onward, feed-view, DrawView, draw-away, draw-idle, draw-onward, draw-view}
 use Rattle.reader.proofs.Reached.{namesOf, Good, enter-le, Agrees, Kept, Reached, reached, world, call-reached}
 use Rattle.reader.proofs.Rebuilt.{lookup, lookup-words, found, back, back-has, rowsOf, part-same, bands-have}
@@ -435,7 +434,8 @@ module _ (f : ℕ) (W H : Side) (l n : ℕ) (lim : Limits f W H l n) where
     feed-works-here : (a : Area) (y : RowName) (t′ : List Step) → t ≡ step.feed y ∷ t′ → event (feed a) (world f W H l n lim d p e x) ≡ fed a (gives tt) →
         (P : Rows) → All (HasFedRow W P) (fs ++ (record { row = y; run = a } ∷ [])) → FeedFits f W H (suc l) P y t′
     unfolding event
-    feed-works-here a y t′ first passes P has = go (feed-view f W H l n lim d p (kept .drawn-le) (kept .level-le) (kept .band-le) (kept .back-le) e t x a viewed)
+    feed-works-here a y t′ first passes P has =
+        go (feed-view f W H l n lim d p (kept .drawn-le) (kept .level-le) (kept .band-le) (kept .back-le) e t x a viewed)
       where
         s′ : Reader
         s′ = here f W H l d p e
@@ -488,7 +488,7 @@ module _ (f : ℕ) (W H : Side) (l n : ℕ) (lim : Limits f W H l n) where
         no-row v not-this q says at = not-this (sym says ∙ given-is q at)
 
         go : DrawView f W H l n lim d p (kept .drawn-le) (kept .level-le) (kept .band-le) (kept .back-le) e t x a → SetsFit f W H (suc l) P 0 d
-        go (draw-away q z fr says at) = absurd (no-row (refused q) (λ r. let b : _≡_ {A = ℕ} 0 1 = cc in omega arith) q (unfold drawReply in rw (z, fr) refl) at)
+        go (draw-away q z u says at) = absurd (no-row (refused q) (λ r. let b : _≡_ {A = ℕ} 0 1 = cc in omega arith) q (unfold drawReply in rw (z, u) refl) at)
         go (draw-idle live z says at) = absurd (no-row (gives nothing) (λ r. let b : _≡_ {A = ℕ} 0 1 = cc in omega arith) 0 (unfold drawReply in rw z refl) at)
         go (draw-onward live due is-height head to-draw says at) = tried (settles s′ x) refl
           where

@@ -11,7 +11,7 @@ use Rattle.lifting.specs.Line.{lo}
 use Rattle.lifting.specs.Grid.{Side, side, count}
 use Rattle.wavelet.specs.Levels.{next}
 use Rattle.wavelet.specs.Order.{firstSet}
-use Rattle.wavelet.specs.Steps.{setOf, setsBefore}
+use Rattle.wavelet.specs.Steps.{setsBefore}
 use Rattle.wavelet.proofs.StepLaws.{set-there}
 use Rattle.level.specs.Sets.{opens}
 use Rattle.reader.specs.Sets.{ahead}
@@ -99,7 +99,8 @@ dive-level f (suc m) k W H n r =
 pub begin-alone : (S : Side) (n : ℕ) (to sp : Spot) → n < S .start % 2 → sp ≡ pick (leb (firstSet S lo) n) to sp
 begin-alone S n to sp h = sym (ap (λ (t : Bool). pick t to sp) (lt-leb (firstSet S lo) n (omega (arith, first-low S))))
 
-pub begin-on : (f : ℕ) (X S : Side) (m k n wx w hy h r : ℕ) (sp : Spot) → S .start % 2 ≤ n → wx ≡ next X .start → w ≡ count lo X → hy ≡ next S .start → h ≡ count lo S →
+pub begin-on : (f : ℕ) (X S : Side) (m k n wx w hy h r : ℕ) (sp : Spot) → S .start % 2 ≤ n → wx ≡ next X .start → w ≡ count lo X → hy ≡ next S .start →
+    h ≡ count lo S →
     r ≡ n - S .start % 2 →
     dive f m k (side wx w) (side hy h) n r ≡ pick (leb (firstSet S lo) n) (dive f m k (next X) (next S) n (n - firstSet S lo)) sp
 unfolding next

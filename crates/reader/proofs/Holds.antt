@@ -5,7 +5,7 @@
 use mathlib.Core.Bool.{Bool, true, false}
 use mathlib.Core.Path.{_≡_, refl, sym, ap, subst, _∙_, fun-ext}
 use mathlib.Core.List.{List, [], _∷_}
-use Prim.Native.Nat.{ℕ, zero, suc, _+_, _-_, _%_, _≤_, _<_}
+use Prim.Native.Nat.{ℕ, zero, suc, _+_, _-_, _≤_, _<_}
 use native.Mathlib.Decide.{ℕ-discrete, decLt}
 use native.Mathlib.Omega.{arith}
 use lib.IntN.{ℤ}
@@ -364,7 +364,8 @@ module _ (f : ℕ) (W H : Side) (l : ℕ) (P : Rows) where
         some = cells-are (sideAt k W) (sideAt k H) (live .1) .1
 
         go : Dec (k ≡ l) → Outcome (FitAllBy (filterOf f) k (sideAt k W) (sideAt k H) (B k))
-            (λ y. LeavesAt k n y × ((j : ℕ) → backOf f .stretch (sideAt k W) ≤ j → y j ≡ m j)) (backOf f .work (eqb (suc k) (suc l)) k (sideAt k W) (sideAt k H) n m)
+            (λ y. LeavesAt k n y × ((j : ℕ) → backOf f .stretch (sideAt k W) ≤ j → y j ≡ m j))
+            (backOf f .work (eqb (suc k) (suc l)) k (sideAt k W) (sideAt k H) n m)
         go (yes e) = rw (eq-eqb (suc k) (suc l) (omega arith)) (laws f .work-last k (sideAt k W) (sideAt k H) (B k) n m some there (before-here k n 4 x live s)
             (λ c. got-kept c (rw (eq-eqb (suc k) (suc l) (omega arith)) (all-kept c))))
         go (no e) = rw (ne-eqb (suc k) (suc l) (λ z. e (omega arith))) (laws f .work-on k (sideAt k W) (sideAt k H) (B k) n m some there

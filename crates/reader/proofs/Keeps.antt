@@ -21,7 +21,7 @@ use Rattle.reader.specs.Answers.{Reply, gives, refused, impossible, Hand
 use Rattle.reader.specs.Rebuilt.{Rows, partAt}
 use Rattle.level.specs.Tried.{Tried, failed, passed, fits, memory}
 use Rattle.reader.specs.Sets.{ahead, needed, waitsAt}
-use Rattle.reader.specs.Machine.{Spot, spot, Place, place, spotOf, placeOf, spotFed, beyond, dive, enter}
+use Rattle.reader.specs.Machine.{Spot, spot, Place, place, placeOf, spotFed, beyond, dive, enter}
 use Rattle.reader.specs.State.{columns, next, nextRow, nextLength, settles, feeds, drawDue, fedReader, drawnReader, endedReader}
 use Rattle.reader.specs.Questions.{countsFit, storeFits, setUpQuestion, feedQuestion, drawQuestion}
 use Rattle.lifting.specs.Halves.{fronted}
@@ -154,7 +154,8 @@ holds f W H l d p e P x ready h = record {
 }
 
 -- at a place kept as a state keeps it
-holds-at : (f : ℕ) (W H : Side) (l d : ℕ) (q : Spot) (P : Rows) (x : ℕ → ℤ) → (d < H .length → Ready f W H (suc l) d q) → (d < H .length → HeldAt f W H l P q x) →
+holds-at : (f : ℕ) (W H : Side) (l d : ℕ) (q : Spot) (P : Rows) (x : ℕ → ℤ) → (d < H .length → Ready f W H (suc l) d q) →
+    (d < H .length → HeldAt f W H l P q x) →
     Holds P (here f W H l d (placeOf f H d q) false) x
 holds-at f W H l d q P x ready h =
     holds f W H l d (placeOf f H d q) false P x
@@ -236,7 +237,8 @@ module _ (f : ℕ) (W H : Side) (l d : ℕ) (p : Place) (e : Bool) (n : ℕ) (x 
         tried o z t same P row h (passed y) g =
             subst (λ r. Holds P r (feedStore (s f W H l d p e) q v x)) (sym (same ∙ reader-is o))
             (subst (Holds P _) (sym (ap (λ r. feedStore (s f W H l d p e) r v x) z ∙ store-is y g))
-            (holds-at f W H l d (to o) P y (λ due. ready-beyond f W H l d (o .k) (o .u) (code (o .c)) (omega (arith, o .row .below, o .level-le)) (o .row .ready))
+            (holds-at f W H l d (to o) P y
+            (λ due. ready-beyond f W H l d (o .k) (o .u) (code (o .c)) (omega (arith, o .row .below, o .level-le)) (o .row .ready))
             (λ _. outcome-passed y (outcome-of o P row h (passed y) g))))
 
         on : (t : Reader) → feedReply (s f W H l d p e) q ≡ gives t → (P : Rows) → IsWanted P (s f W H l d p e) v →

@@ -27,7 +27,8 @@ use Rattle.reader.proofs.StoreLaws.{stretch-suc, stretch-is}
 use Rattle.reader.proofs.PartLaws.{behind-past, from-at, at-rest, at-put-rest, work-room}
 
 -- ---- the stretch within the store
-pub part-kept : (f : ℕ) (W H : Side) (d k L : ℕ) (l : Level) (is : IsLevel f W H d k l) (n : ℕ) (s ys : List ℤ) → k < L → l .start + n ≡ length s → length ys ≡ n →
+pub part-kept : (f : ℕ) (W H : Side) (d k L : ℕ) (l : Level) (is : IsLevel f W H d k l) (n : ℕ) (s ys : List ℤ) → k < L → l .start + n ≡ length s →
+    length ys ≡ n →
     Kept (filterOf f .rows * l .width) (at (midOf (l .start) n s)) (at ys) → Kept (storeBy f W L) (at s) (at (putMid (l .start) n s ys))
 part-kept f W H d k L l is n s ys h whole long a =
     let room = work-room f W H d k l is L h in

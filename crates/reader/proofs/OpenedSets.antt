@@ -1,10 +1,10 @@
 -- Where each level is while a height row is waited for, whatever the look-ahead. Assumes nothing.
-use mathlib.Core.Bool.{Bool, true, false}
+use mathlib.Core.Bool.{true, false}
 use mathlib.Core.Path.{_≡_, refl, sym, ap, _∙_}
 use Prim.Native.Nat.{ℕ, zero, suc, _+_, _-_, _*_, _/_, _%_, min, _≤_, _<_}
-use native.Mathlib.Decide.{ℕ-discrete, decLt}
+use native.Mathlib.Decide.{ℕ-discrete}
 use native.Mathlib.Omega.{arith}
-use lib.Dec.{leb, ltb, eqb}
+use lib.Dec.{eqb}
 use Rattle.numbers.specs.Signal.{pick}
 use borrow.Author.Tests.{ltb-true, ltb-false, eq-eqb, ne-eqb, leb-true, leb-false, le-leb}
 use Rattle.lifting.specs.Line.{lo}
@@ -12,7 +12,7 @@ use Rattle.lifting.specs.Grid.{Side, count}
 use Rattle.wavelet.specs.Levels.{next, sideAt}
 use Rattle.wavelet.specs.Order.{firstSet, lastSet}
 use Rattle.wavelet.specs.Steps.{setTo, setOf, setsBefore}
-use Rattle.wavelet.proofs.StepLaws.{to-first, to-later, to-rises, set-of, set-there, set-rises, set-last, before-zero, before-suc, before-rises}
+use Rattle.wavelet.proofs.StepLaws.{to-first, to-later, set-of, set-there, set-rises, set-last, before-zero, before-suc, before-rises}
 use Rattle.nine_seven.proofs.Filters.{filter-laws}
 use Rattle.level.specs.Sets.{opens}
 use Rattle.reader.specs.Sets.{ahead, hasRow, rowOf, taking, needed, firstRow, makes, waiting, waitsAt}
@@ -33,10 +33,6 @@ first-low S = refl
 pub low-is : (S : Side) → count lo S ≡ (S .length + 1 - S .start % 2) / 2
 unfolding count
 low-is S = refl
-
-pub next-long : (S : Side) → next S .length ≡ count lo S
-unfolding next
-next-long S = refl
 
 pub side-long : (k : ℕ) (S : Side) → sideAt (suc k) S .length ≡ count lo (sideAt k S)
 unfolding sideAt next
@@ -171,7 +167,9 @@ far f S zero = at (S .start % 2 + (0 + (2 * ahead f - 1))) refl
   where
     at : (q : ℕ) → S .start % 2 + (0 + (2 * ahead f - 1)) ≡ q → setOf (ahead f) S (0 + (2 * ahead f - 1)) ≤ setsBefore (ahead f) S 0 + (2 * ahead f - 1)
     at zero e = absurd (omega (arith, looks f))
-    at (suc q) e = omega (arith, looks f, before-zero (ahead f) S, set-of (ahead f) S (0 + (2 * ahead f - 1)), to-at f (S .start % 2 + (0 + (2 * ahead f - 1))) q e)
+    at (suc q) e =
+        let u = to-at f (S .start % 2 + (0 + (2 * ahead f - 1))) q e in
+        omega (arith, looks f, before-zero (ahead f) S, set-of (ahead f) S (0 + (2 * ahead f - 1)), u)
 far f S (suc r) = at (S .start % 2 + r) refl
   where
     u : setTo (ahead f) (S .start % 2 + (suc r + (2 * ahead f - 1))) ≡ (S .start % 2 + (r + (2 * ahead f - 1))) / 2 + ahead f
@@ -180,7 +178,8 @@ far f S (suc r) = at (S .start % 2 + r) refl
     at : (q : ℕ) → S .start % 2 + r ≡ q → setOf (ahead f) S (suc r + (2 * ahead f - 1)) ≤ setsBefore (ahead f) S (suc r) + (2 * ahead f - 1)
     at zero e = omega (arith, looks f, before-suc (ahead f) S r, set-of (ahead f) S (suc r + (2 * ahead f - 1)), u)
     at (suc q) e =
-        omega (arith, looks f, before-suc (ahead f) S r, set-of (ahead f) S r, set-of (ahead f) S (suc r + (2 * ahead f - 1)), u, to-at f (S .start % 2 + r) q e)
+        let v = to-at f (S .start % 2 + r) q e in
+        omega (arith, looks f, before-suc (ahead f) S r, set-of (ahead f) S r, set-of (ahead f) S (suc r + (2 * ahead f - 1)), u, v)
 
 -- ---- numbers and the rows that they take
 pub row-taking : (H : Side) (k r : ℕ) → rowOf H k (taking H k r) ≡ r
@@ -232,11 +231,6 @@ module _ (f : ℕ) (H : Side) where
         ∙ ap (λ i. setOf (ahead f) (sideAt j H) (rowOf H j i)) (needed-on k n m e j (omega (arith, z)))
         ∙ sym (needed-next (suc k) m j (omega (arith, z)))
   ]
-
-  -- the same row, the same sets
-  pub needed-same : (k n m : ℕ) → rowOf H k n ≡ rowOf H k m → (j : ℕ) → suc k ≤ j → needed f H k n j ≡ needed f H k m j
-  needed-same k n m e j h =
-      needed-on k n _ (needed-from k n ∙ ap (setOf (ahead f) (sideAt k H)) e) j h ∙ sym (needed-on k m _ (needed-from k m) j h)
 
   pub waits-here : (k n : ℕ) → waitsAt f H k n k ≡ n
   unfolding waitsAt

@@ -1,5 +1,5 @@
 -- What the sets that wait, a feed and a draw come to, for rows that the store holds. Assumes nothing.
-use mathlib.Core.Bool.{Bool, true, false}
+use mathlib.Core.Bool.{Bool, true}
 use mathlib.Core.Path.{_≡_, refl, sym, ap, subst, _∙_}
 use Prim.Native.Nat.{ℕ, suc, _-_, _≤_, _<_}
 use native.Mathlib.Omega.{arith}
@@ -20,7 +20,7 @@ use Rattle.nine_seven.specs.Filters.{filterOf}
 use Rattle.reader.specs.Asked.{keptAt}
 use Rattle.reader.specs.Rebuilt.{Rows, bandsBy, rebuilt, bandsAt, partAt}
 use Rattle.level.specs.Tried.{Tried, failed, passed, bind}
-use Rattle.reader.specs.Machine.{Spot, spot, Place, settled, fedOn, beyond}
+use Rattle.reader.specs.Machine.{Spot, Place, settled, fedOn, beyond}
 use Rattle.reader.specs.Holds.{Ready}
 use Rattle.reader.specs.State.{next, settles, feeds}
 use Rattle.reader.specs.Calls.{heightRow}

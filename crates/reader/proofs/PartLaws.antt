@@ -137,7 +137,8 @@ onto-outcome f true y = refl
 onto-outcome f false y = refl
 
 -- an empty level
-pub work-empty : (f : ℕ) (W H : Side) (L d k : ℕ) (l : Level) (x : ℕ → ℤ) → IsLevel f W H d k l → Empty (sideAt k W) (sideAt k H) → passed x ≡ workedAt f W H L k (l .set) x
+pub work-empty : (f : ℕ) (W H : Side) (L d k : ℕ) (l : Level) (x : ℕ → ℤ) → IsLevel f W H d k l → Empty (sideAt k W) (sideAt k H) →
+    passed x ≡ workedAt f W H L k (l .set) x
 unfolding workedAt hasSet
 work-empty f W H L d k l x is e = rw (empty-not (sideAt k W) (sideAt k H) e) refl
 
@@ -176,7 +177,7 @@ work-is f W H L d k l a n s ys ok is wide high last ea whole long made =
     ∙ sym (ap (λ (t : Bool). pick t worked (passed (at s))) has)
 
 -- the stretch, and below the last level the next one's, lie within the store
-pub stretch-room : (f : ℕ) (W : Side) (k L : ℕ) → k < L → 
+pub stretch-room : (f : ℕ) (W : Side) (k L : ℕ) → k < L →
     stretchAt f W k + (filterOf f .rows * sideAt k W .length + filterOf f .rows * pick (eqb (k + 1) L) 0 (count lo (sideAt k W))) ≤ stretchAt f W L
 stretch-room f W k L h = elim (ℕ-discrete (k + 1) L) [
   | yes e ↦ rw (eq-eqb (k + 1) L e) (omega (arith, mul-zero (filterOf f .rows), stretch-suc f W k, stretch-in f W (suc k) L (omega arith)))
@@ -208,5 +209,6 @@ module _ (f : ℕ) (W H : Side) (d k : ℕ) (l : Level) (is : IsLevel f W H d k 
       rw (← stretch-is f W (k + 1), add-one k, stretch-suc f W k, ← is .width) (omega (arith, is .start, place-room f (l .width) r))
 
 -- ---- a level as the code has it: without cells, and at one of its sets
-pub level-none : (f : ℕ) (W H : Side) (d k : ℕ) (l : Level) → IsLevel f W H d k l → eqb (l .width) 0 || eqb (l .height) 0 ≡ true → Empty (sideAt k W) (sideAt k H)
+pub level-none : (f : ℕ) (W H : Side) (d k : ℕ) (l : Level) → IsLevel f W H d k l → eqb (l .width) 0 || eqb (l .height) 0 ≡ true →
+    Empty (sideAt k W) (sideAt k H)
 level-none f W H d k l is e = none-of (sideAt k W) (sideAt k H) (rw (is .width, is .height) at e)

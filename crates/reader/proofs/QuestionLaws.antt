@@ -1,7 +1,7 @@
 -- The questions, one after another: what each no and each yes says. Assumes nothing.
 use mathlib.Core.Path.{_≡_, refl, sym, ap, _∙_}
 use mathlib.Core.Bool.{Bool, true, false, not}
-use Prim.Native.Nat.{ℕ, _+_, _*_, _/_, _≤_, _<_, _-_}
+use Prim.Native.Nat.{ℕ, _*_, _≤_, _<_, _-_}
 use native.Mathlib.Omega.{arith}
 use lib.IntN.{ℤ}
 use lib.Dec.{leb, ltb, eqb}
@@ -28,6 +28,10 @@ use Rattle.reader.specs.Inside.{Counts, Small, storeQuestion, rowQuestio
 -- the length that the code asks for, 0 outside the limits
 abbrev pub asked : ℕ → Side → ℕ → ℕ
 asked f W L = pick (streamable f W L) (storeBy f W L) 0
+
+-- the test of the levels as the code makes it, m being the filter's
+pub levels-asked : (f m L : ℕ) (t u : Bool) → m ≡ filterOf f .levels → t ≡ within 1 m L → t ≡ u → within 1 (filterOf f .levels) L ≡ u
+levels-asked f m L t u em et eu = ap (λ i. within 1 i L) (sym em) ∙ sym et ∙ eu
 
 -- ---- question 1
 module _ (s : Reader) where
@@ -215,7 +219,8 @@ module _ (s : Reader) (n : ℕ) where
     unfolding storeFits
     store-any h =
         let room = leb-true (anyBy (s .filter) (s .width)) n (halves (leb (s .width) maxWidth) _ h .1) in
-        sym (le-leb (storeBy (s .filter) (columns s) (s .levels)) n (omega (arith, room, store-most (filterOf (s .filter) .rows) (columns s) (s .levels) (counts .few))))
+        let most = store-most (filterOf (s .filter) .rows) (columns s) (s .levels) (counts .few) in
+        sym (le-leb (storeBy (s .filter) (columns s) (s .levels)) n (omega (arith, room, most)))
 
     pub store-own : (m : ℕ) → m ≡ asked (s .filter) (columns s) (s .levels) → leb m n ≡ storeFits (s .filter) (columns s) (s .levels) n
     unfolding storeFits
@@ -261,7 +266,8 @@ module _ (s : Reader) (m : ℕ) (v : ℕ → ℤ) where
   unfolding rowQuestion rowDue
   row-asked e = go (unfinished s) (ltb 0 (next s .level)) (eqb m (nextLength s)) refl refl e
     where
-      go : (a b c : Bool) → ltb 0 (next s .level) ≡ b → eqb m (nextLength s) ≡ c → ask (both a b) 8 (ask c 13 (ask (runFits (s .filter) (next s .level) m v) 7 0)) ≡ 0 →
+      go : (a b c : Bool) → ltb 0 (next s .level) ≡ b → eqb m (nextLength s) ≡ c →
+          ask (both a b) 8 (ask c 13 (ask (runFits (s .filter) (next s .level) m v) 7 0)) ≡ 0 →
           (0 < next s .level) × (m ≡ nextLength s)
       go true true true eb ec e = (ltb-true _ _ eb, eqb-true _ _ ec)
       go true true false eb ec e = absurd (omega arith)

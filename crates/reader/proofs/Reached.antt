@@ -277,7 +277,8 @@ module _ (f : ℕ) (W H : Side) (l : ℕ) where
           }
             where
               rename : namesOf (fs ++ (fr ∷ [])) ++ bandRowsOf (stepsLeft f W H l d to) ≡ namesOf fs ++ bandRowsOf t
-              rename = ap (λ u. u ++ bandRowsOf (stepsLeft f W H l d to)) (map-append (λ fr. fr .row) fs (fr ∷ [])) ∙ append-assoc (namesOf fs) (namesOf (fr ∷ [])) _
+              rename = ap (λ u. u ++ bandRowsOf (stepsLeft f W H l d to)) (map-append (λ u. u .row) fs (fr ∷ []))
+                  ∙ append-assoc (namesOf fs) (namesOf (fr ∷ [])) _
                   ∙ ap (λ u. namesOf fs ++ bandRowsOf u) (sym head)
 
           fed-goes : (y : ℕ → ℤ) → feeds s (a .numbers) x ≡ passed y → FedTo 0

@@ -2,26 +2,25 @@
 use mathlib.Core.Bool.{Bool, true, false}
 use mathlib.Core.Path.{_≡_, refl, sym, ap, subst, _∙_}
 use Prim.Native.Nat.{ℕ, zero, suc, _+_, _-_, _*_, _≤_, _<_}
-use native.Mathlib.Decide.{ℕ-discrete}
 use native.Mathlib.Omega.{arith}
 use lib.Dec.{T, leb, eqb}
 use borrow.Author.Tests.{leb-false, le-ltb}
 use Rattle.numbers.specs.Signal.{pick, both}
 use Rattle.lifting.specs.Line.{lo}
-use Rattle.lifting.specs.Grid.{Side, count}
+use Rattle.lifting.specs.Grid.{Side}
 use Rattle.wavelet.specs.Bands.{Band, code}
 use Rattle.wavelet.specs.Levels.{next, sideAt}
 use Rattle.wavelet.specs.Order.{firstSet, lastSet}
-use Rattle.wavelet.specs.Steps.{setOf, setsBefore}
+use Rattle.wavelet.specs.Steps.{setsBefore}
 use Rattle.wavelet.proofs.StepLaws.{set-there, set-last, before-suc}
 use Rattle.level.specs.Sets.{opens}
 use Rattle.reader.specs.Sets.{ahead, hasRow, rowOf, taking, firstRow, makes, needed, waiting, waitsAt}
-use Rattle.reader.specs.Asked.{asked, bandsFrom, those, look, firstCode, nextBand}
+use Rattle.reader.specs.Asked.{asked, look, nextBand}
 use Rattle.reader.specs.Store.{hasCells}
 use Rattle.reader.specs.Machine.{Spot, spot, spotOf, placeOf, bandAt, lastOfSet, past, beyond, dive, begins, enter}
 use Rattle.reader.specs.Holds.{Ready}
 use Rattle.reader.proofs.Looks.{code-lt, first-le}
-use Rattle.reader.proofs.OpenedSets.{opens-yes, opened-row, row-next, makes-not, makes-last, taking-row, waits-here, waits-finer, There, taking-there}
+use Rattle.reader.proofs.OpenedSets.{opens-yes, opened-row, row-next, makes-not, makes-last, taking-row, waits-finer, There}
 use Rattle.reader.proofs.OpenedSets.{waiting-there, in-back, looks}
 use Rattle.reader.proofs.CellLaws.{cells-are, cells-before, last-asks}
 
@@ -204,7 +203,8 @@ enter-end f W H zero d p e = unfold dive needed in omega arith
 enter-end f W H (suc l) d p e = unfold dive in go (hasCells W H) (opens (ahead f) H d) (end d e) _
   where
     last : (r : ℕ) → suc r ≡ H .length → setsBefore (ahead f) H (suc (suc r)) ≤ setsBefore (ahead f) H (suc r)
-    last r e = omega (arith, before-suc (ahead f) H r, before-suc (ahead f) H (suc r), set-last (ahead f) H r (looks f) (omega arith), set-there (ahead f) H (suc r))
+    last r e = let u = set-last (ahead f) H r (looks f) (omega arith) in
+        omega (arith, before-suc (ahead f) H r, before-suc (ahead f) H (suc r), u, set-there (ahead f) H (suc r))
 
     end : (d : ℕ) → d ≡ H .length → opens (ahead f) H d ≡ false
     end zero e = absurd (omega arith)

@@ -37,11 +37,6 @@ use Rattle.reader.proofs.Looks.{named-code}
 use Rattle.reader.proofs.CellLaws.{Empty, wide, high, cells-not}
 use Rattle.reader.proofs.Reached.{namesOf, Good}
 
--- the way back from level k on is the low-low part that the bands of level k + 1 make
-pub part-is : (f : ℕ) (W H : Side) (P : Rows) (l k : ℕ) → k ≤ l → rebuilt f W H P (suc l - k) k ≡ partAt f W H P (suc l) k
-unfolding rebuilt
-part-is f W H P l k h = let z : suc l - k ≡ suc (suc l - suc k) = omega arith in rw z refl
-
 -- ---- the rows of a map
 module _ (f : ℕ) (W H : Side) (g : Grid) (m : IsMap (W .length) (H .length) g) (l : ℕ) (few : suc l ≤ filterOf f .levels) where
   -- the rows of its plane, over words

@@ -21,7 +21,7 @@ use Rattle.reader.specs.Sets.{hasRow, rowOf, taking, firstRow, makes, wa
 use Rattle.reader.specs.Asked.{named}
 use Rattle.level.specs.Tried.{failed, passed}
 use Rattle.reader.specs.Store.{fedAt}
-use Rattle.reader.specs.Machine.{spot, placeOf, bandAt, nextUp, settled, lastOfSet, finished, past, beyond, dive, begins, fedOn, spotFed}
+use Rattle.reader.specs.Machine.{spot, bandAt, nextUp, settled, lastOfSet, finished, past, beyond, dive, begins, fedOn, spotFed}
 use Rattle.reader.specs.Machine as machine
 use Rattle.reader.specs.State.{columns, rows, spotNow, next, nextRow, nextLength, settles, feeds}
 use Rattle.reader.specs.declared.walk.Next.{Next}
@@ -147,7 +147,8 @@ begins-at f W H L d (suc k) n l h is =
     rw (level-wide f W H d (suc k - 1) l is, level-high f W H d (suc k - 1) l is, z) refl
 
 -- ---- a level is no larger than the map
-pub level-small : (s : Reader) → Counts s → (k : ℕ) (l : Level) → IsLevel (s .filter) (columns s) (rows s) (s .drawn) k l → (l .width ≤ 2 ^ 16) × (l .height < 2 ^ 32)
+pub level-small : (s : Reader) → Counts s → (k : ℕ) (l : Level) → IsLevel (s .filter) (columns s) (rows s) (s .drawn) k l →
+    (l .width ≤ 2 ^ 16) × (l .height < 2 ^ 32)
 level-small s c k l is =
     let m = counts-small s c in (
       omega (arith, is .width, size-le k (columns s), m .0),

@@ -1,21 +1,19 @@
 -- The steps left, as a function of where the reader is, and what the machine does to them: the want is the first of them, and a row fed or drawn takes it off.
 -- Assumes nothing.
 use mathlib.Core.Bool.{Bool, true, false}
-use mathlib.Core.Path.{_≡_, refl, sym, ap, subst, _∙_}
+use mathlib.Core.Path.{_≡_, refl, sym, ap, _∙_}
 use mathlib.Core.List.{List, [], _∷_, _++_, append-nil, append-assoc}
-use Prim.Native.Nat.{ℕ, zero, suc, _+_, _-_, _%_, _≤_, _<_}
-use native.Mathlib.Decide.{decLe}
+use Prim.Native.Nat.{ℕ, zero, suc, _+_, _-_, _≤_, _<_}
 use native.Mathlib.Omega.{arith}
-use lib.Dec.{T, leb, ltb, eqb}
-use borrow.Author.Tests.{lt-ltb, eq-eqb, ne-eqb, leb-true, leb-false, ltb-true, lt-leb, le-leb}
+use lib.Dec.{leb, ltb, eqb}
+use borrow.Author.Tests.{lt-ltb, eq-eqb, ne-eqb, leb-true, leb-false}
 use Rattle.numbers.specs.Signal.{pick, both}
-use Rattle.numbers.proofs.Sweep.{both as halves}
 use Rattle.lifting.specs.Line.{lo}
-use Rattle.lifting.specs.Grid.{Side, count}
+use Rattle.lifting.specs.Grid.{Side}
 use Rattle.wavelet.specs.Bands.{Band, LL, HL, LH, HH, code, down}
 use Rattle.wavelet.specs.Order.{RowName, rowName, handedOut, inTurn, firstSet, setRow, setHas, rowsOf, setRows}
 use Rattle.wavelet.specs.Steps.{Step, feed, draw, feedAll, setOf, setsBefore, rowSteps, setSteps, steps}
-use Rattle.wavelet.proofs.StepLaws.{before-suc, set-there}
+use Rattle.wavelet.proofs.StepLaws.{before-suc}
 use Rattle.wavelet.specs.Levels.{next, sideAt}
 use Rattle.level.specs.Sets.{opens}
 use Rattle.reader.specs.Sets.{ahead, hasRow, rowOf, taking, firstRow, makes, waiting, waitsAt}

@@ -6,7 +6,6 @@ use native.Mathlib.Omega.{arith}
 use native.Mathlib.Numerals.{add-one}
 use lib.IntN.{ℤ}
 use lib.Dec.{eqb}
-use Rattle.numbers.specs.Signal.{pick}
 use borrow.Author.Tests.{lt-ltb, le-ltb}
 use Rattle.lifting.specs.Grid.{Side, side}
 use Rattle.wavelet.specs.Levels.{sideAt}
@@ -32,7 +31,8 @@ is-spot q p e = record {
 }
 
 -- no row
-pub no-next : (f : ℕ) (W H : Side) (d : ℕ) (q : machine.Spot) (n : Next) → spot 0 0 4 ≡ q → n .spot .level ≡ 0 → n .spot .set ≡ 0 → n .spot .band ≡ 4 → IsNext f W H d q n
+pub no-next : (f : ℕ) (W H : Side) (d : ℕ) (q : machine.Spot) (n : Next) → spot 0 0 4 ≡ q → n .spot .level ≡ 0 → n .spot .set ≡ 0 → n .spot .band ≡ 4 →
+    IsNext f W H d q n
 no-next f W H d q n e a b c = record {
   spot = is-spot q (n .spot) (rw (a, b, c) e);
   at = λ h. absurd (omega arith);
@@ -119,11 +119,3 @@ module _ (f : ℕ) (W H : Side) (L : ℕ) where
   pub beyond-set : (k n c : ℕ) (t : Bool) → t ≡ lastOfSet W H L k n c → t ≡ true → past f W H L k n ≡ beyond f W H L k n c
   unfolding beyond
   beyond-set k n c t is h = rw (← is, h)
-
-  pub past-next : (k n : ℕ) → makes f (sideAt k H) n ≡ false → begins f W H L (suc k) (suc n) ≡ past f W H L k n
-  unfolding past
-  past-next k n e = rw e
-
-  pub past-up : (k n : ℕ) → makes f (sideAt k H) n ≡ true → spot k (waiting f H k n) 1 ≡ past f W H L k n
-  unfolding past
-  past-up k n e = rw e

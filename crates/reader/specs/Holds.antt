@@ -57,7 +57,8 @@ module _ (P : Rows) (s : Reader) where
         M (s .filter) .Before (sideAt k (columns s)) (sideAt k (rows s)) (bandsAt (s .filter) (columns s) (rows s) P (s .levels) k)
         (waitsAt (s .filter) (rows s) (s .level) (spotNow s .set) (suc k)) (from (stretchAt (s .filter) (columns s) k) x)
     pub got : s .drawn < s .height → (k : ℕ) → Level k → suc k ≡ s .level → (c : Band) → keptAt (eqb (suc k) (s .levels)) c ≡ true → code c < s .band →
-        M (s .filter) .Got (sideAt k (columns s)) (sideAt k (rows s)) (bandsAt (s .filter) (columns s) (rows s) P (s .levels) k) (spotNow s .set) (from (stretchAt (s .filter) (columns s) k) x) c
+        M (s .filter) .Got (sideAt k (columns s)) (sideAt k (rows s)) (bandsAt (s .filter) (columns s) (rows s) P (s .levels) k) (spotNow s .set)
+        (from (stretchAt (s .filter) (columns s) k) x) c
 
   -- every level's part fits, and no number that is halved is odd
   abbrev pub AllFit : Type 0

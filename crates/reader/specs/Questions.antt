@@ -1,4 +1,5 @@
--- The gate questions of each call, in the order of document 01; 18 is document 02's, Q-8. f is the number of the filter. "The first no gives its number, and nothing changes." 0: no question says no.
+-- The gate questions of each call, in the order of document 01 and, for 18, of document 02, Q-8. "The first no gives its number, and nothing changes." 0: no
+-- question says no. f is the number of the filter: levels, look-ahead, rows and range are its own.
 use mathlib.Core.Bool.{Bool, not}
 use Prim.Native.Nat.{ℕ, _-_, _*_}
 use lib.IntN.{ℤ, natAbs}

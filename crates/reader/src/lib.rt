@@ -255,7 +255,17 @@ impl Reader {
             let e = a + w;
             height_rows::draw_heights(&store[a..e], self.x, out);
             let d = self.drawn + 1;
-            let p = walk::dive_from(self.filter, self.levels, 0, self.x, w, self.y, self.height, d, d);
+            let p = walk::dive_from(
+                self.filter,
+                self.levels,
+                0,
+                self.x,
+                w,
+                self.y,
+                self.height,
+                d,
+                d,
+            );
             return Drawn::Heights(w, self.moved(d, p));
         }
         let n = figures::store_length(self.filter, w, self.x, self.levels);

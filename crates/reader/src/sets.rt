@@ -1,5 +1,5 @@
-// Sets of rows by the filter's number, and the bands that a set asks for: numbers alone. A side is its start and its length: x, w across and y, h down. The module is private, as
-// `walk` is.
+// Sets of rows by the filter's number, and the bands that a set asks for: numbers alone. A side is its start and its length: x, w across and y, h down. The
+// module is private, as `walk` is.
 use filters::figures;
 use wavelet::sizes;
 ghost use mathlib.Core.Path.{_≡_};
@@ -49,7 +49,11 @@ pub fn sets_before(filter: usize, y: usize, h: usize, r: usize) -> usize
     requires { ⌜ (h < 2 ^ 32) × (r ≤ 2 ^ 34) ⌝ }
     ensures { λ n. ⌜ n ≡ setsBefore (ahead filter) (side y h) r ⌝ }
 {
-    if r == 0 { 0 } else { set_of(filter, y, h, r - 1) + 1 }
+    if r == 0 {
+        0
+    } else {
+        set_of(filter, y, h, r - 1) + 1
+    }
 }
 
 // Whether row r of w columns is there and needs set n, the first that no row before it needs.

@@ -1,6 +1,6 @@
-// The walk over the levels of a map by its filter's number, that starts at (x, y), of `width` × `height`, while row `drawn` is waited for: the stretch and the set of each level, the
-// row wanted, the sets worked out on the way. A level is found once a call and handed on. The module is private: only this crate, which meets what is required,
-// can call it.
+// The walk over the levels of a map, by its filter's number, that starts at (x, y), of `width` × `height`, while row `drawn` is waited for: the stretch and the
+// set of each level, the row wanted, the sets worked out on the way. A level is found once a call and handed on. The module is private: only this crate, which
+// meets what is required, can call it.
 use crate::sets;
 use areas::copies;
 use filters::back;
@@ -187,7 +187,8 @@ pub fn next_up(
     l: Level,
     band: usize,
 ) -> Next
-    requires { ⌜ Small (side x width) (side y height) drawn × (0 < level) × (level ≤ maxLevels) × IsLevel filter (side x width) (side y height) drawn (level - 1) l ⌝ }
+    requires { ⌜ Small (side x width) (side y height) drawn × (0 < level) × (level ≤ maxLevels) ×
+        IsLevel filter (side x width) (side y height) drawn (level - 1) l ⌝ }
     ensures { λ n. ⌜ IsNext filter (side x width) (side y height) drawn (nextUp filter (side x width) (side y height) levels level (l .set) band) n ⌝ }
 {
     let mut k = level;
@@ -264,7 +265,8 @@ pub fn work_at(
     k: usize,
     l: Level,
 ) -> bool
-    requires { ⌜ Small (side x width) (side y height) drawn × (levels ≤ filterOf filter .levels) × (k < levels) × IsLevel filter (side x width) (side y height) drawn k l ×
+    requires { ⌜ Small (side x width) (side y height) drawn × (levels ≤ filterOf filter .levels) × (k < levels) ×
+        IsLevel filter (side x width) (side y height) drawn k l ×
         (storeBy filter (side x width) levels ≤ length (now store)) ⌝ }
     ensures { λ ok. ⌜ outcome ok (at (now (store .exit))) ≡
         workedAt filter (side x width) (side y height) levels k (l .set) (at (now (store .entry))) ⌝ }

@@ -13,7 +13,8 @@ use Rattle.numbers.specs.Signal.{pick}
 use Rattle.numbers.specs.Word.{whole}
 use Rattle.numbers.proofs.Sweep.{both}
 use Rattle.nine_seven.specs.Filters.{filterOf, isFilter}
-use Rattle.filters.specs.Figures.{storeBy}
+use Rattle.filters.specs.Figures.{storeBy, streamable}
+use Rattle.filters.proofs.FigureLaws.{streams}
 use Rattle.wavelet.specs.Bands.{Grid, Band, LL, HL, LH, HH, code}
 use Rattle.wavelet.specs.Plane.{cells, planeCell}
 use Rattle.wavelet.specs.ViewCall.{keptAt, bandRowExists}
@@ -24,7 +25,7 @@ use Rattle.wavelet.specs.Limits.{maxOrigin, maxWidth, maxHeight}
 use Rattle.wavelet.specs.Questions.{within}
 use Rattle.wavelet.specs.Maps.{IsMap, HasPlane}
 use Rattle.wavelet.specs.Order.{RowName}
-use Rattle.wavelet.proofs.QuestionLaws.{within-true}
+use Rattle.wavelet.proofs.QuestionLaws.{within-true, within-yes}
 use Rattle.wavelet.proofs.PlaneLayout.{Stands, place-is, row-in, column-in, cell-places}
 use Rattle.wavelet.proofs.PlanePlaces.{Found, found, found-place}
 use Rattle.calls.specs.Lists.{Area, All, all-more}
@@ -102,11 +103,18 @@ module _ (f : ℕ) (W : Side) (s H : ℕ) (g : Grid) where
           ih
 
 -- ---- questions 2, 18 and 4 are the writer's too
-set-up-passes : (f : ℕ) (W H : Side) (L n : ℕ) → within 1 maxWidth (W .length) ≡ true → (1 ≤ H .length) × (H .length ≤ maxHeight) →
-    isFilter f ≡ true → within 1 (filterOf f .levels) L ≡ true → storeBy f W L ≤ n → reader-asks.setUpQuestion f W H L n ≡ 0
-unfolding reader-asks.setUpQuestion reader-asks.storeFits within
-set-up-passes f W H L n wide high known deep room =
-    rw (wide, le-leb 1 (H .length) (high .0), le-leb (H .length) maxHeight (high .1), known, deep, le-leb (storeBy f W L) n room) refl
+set-up-passes : (f : ℕ) (W H : Side) (L n : ℕ) → streamable f W L ≡ true → (1 ≤ H .length) × (H .length ≤ maxHeight) → storeBy f W L ≤ n →
+    reader-asks.setUpQuestion f W H L n ≡ 0
+unfolding reader-asks.setUpQuestion reader-asks.storeFits
+set-up-passes f W H L n ok high room =
+    let s = streams f W L ok in
+    rw (
+      within-yes 1 maxWidth (W .length) (s .width .0) (s .width .1),
+      within-yes 1 maxHeight (H .length) (high .0) (high .1),
+      s .known,
+      within-yes 1 (filterOf f .levels) L (s .levels .0) (s .levels .1),
+      le-leb (storeBy f W L) n room,
+    ) refl
 
 module _ (f : ℕ) (W : Side) (s L n : ℕ) (x : ℕ → ℤ) (cs : List writer.Call) (done : Finished f W s L n x cs) where
   abbrev es : List writer.Event
@@ -116,11 +124,11 @@ module _ (f : ℕ) (W : Side) (s L n : ℕ) (x : ℕ → ℤ) (cs : List writer.
   claim = writer-holds.demand-3 f W s L n x (done .across) (done .down) (done .set-up) cs .1
 
   -- ---- the map that was written
-  in-limits : (within 1 maxWidth (W .length) ≡ true) × (isFilter f ≡ true) × (within 1 (filterOf f .levels) L ≡ true) × (storeBy f W L ≤ n)
+  in-limits : (streamable f W L ≡ true) × (storeBy f W L ≤ n)
   in-limits = set-up-passed f W L n (done .set-up)
 
   width : 0 < W .length
-  width = within-true 1 maxWidth (W .length) (in-limits .0) .0
+  width = streams f W L (in-limits .0) .width .0
 
   written : (H : ℕ) × (g : Grid) × MapOf W H g es
   written = claim .some-map (done .sixteen)
@@ -160,7 +168,7 @@ module _ (f : ℕ) (W : Side) (s L n : ℕ) (x : ℕ → ℤ) (cs : List writer.
   passes : (n′ : ℕ) → storeBy f W L ≤ n′ → reader-asks.setUpQuestion f W (sideWrote f W s L n x cs) L n′ ≡ 0
   passes n′ room =
       let m = claim .finished-map (done .finished) in
-      set-up-passes f W (sideWrote f W s L n x cs) L n′ (in-limits .0) (m .0, m .1) (in-limits .1) (in-limits .2) room
+      set-up-passes f W (sideWrote f W s L n x cs) L n′ (in-limits .0) (m .0, m .1) room
 
   -- ---- the theorem: a reader set up with that size, fed and drawn as it wants with the rows drawn, hands back every height in order and says Done
   pub hands-back : (n′ : ℕ) (y : ℕ → ℤ) (outs : ℕ → Area) → Lent f W s L n x cs n′ y outs → HandsBack f W s L n x cs n′ y outs

@@ -1,4 +1,4 @@
--- Each filter's own passes over a level are those of the definition, and each filter has the laws of one. Assumes nothing.
+-- Each filter's own passes over a level are those of the definition. Assumes nothing.
 use mathlib.Core.Path.{_≡_, refl, ap, _∙_, fun-ext}
 use mathlib.Core.Bool.{Bool, true}
 use Prim.Native.Nat.{ℕ, zero, suc, _+_, _-_, _*_, _/_, _%_, _≤_, _<_, min}
@@ -9,29 +9,22 @@ use Rattle.numbers.specs.Signal.{pick}
 use Rattle.lifting.specs.Grid.{Side}
 use Rattle.lifting.specs.GridHalves as five
 use Rattle.lifting.specs.FiveThree.{fiveThreeFilter}
-use Rattle.lifting.proofs.FilterLaws.{FilterLaws}
-use Rattle.lifting.proofs.FiveThreeFilter.{five-three-laws}
 use Rattle.lifting.proofs.RowLaws.{row-fits}
 use Rattle.nine_seven.specs.Memory as nine
 use Rattle.nine_seven.specs.NineSevenFilter.{nineSevenFilter}
-use Rattle.nine_seven.proofs.NineSevenFilter.{nine-seven-laws}
 use Rattle.nine_seven_sweep.specs.Columns.{column, columnsBy, columnsLifted, columnsFit}
 use Rattle.areas.proofs.AreaLaws.{did}
-use Rattle.wavelet.specs.Limits.{maxLevels, range}
+use Rattle.wavelet.specs.Limits.{range}
 use Rattle.wavelet.specs.Bands.{Grid}
 use Rattle.wavelet.specs.Plane.{cells, flat}
 use Rattle.wavelet.proofs.GridLaws.{cells-flat}
 use Rattle.whole_map.specs.Passes.{Rows, within, rowsMapped}
-use Rattle.whole_map.specs.ByFilter.{filterOf, liftedBy, columnsLiftedBy, levelLiftedBy}
+use Rattle.nine_seven.specs.Filters.{filterOf}
+use Rattle.whole_map.specs.ByFilter.{liftedBy, columnsLiftedBy, levelLiftedBy}
 use Rattle.whole_map.specs.LevelPasses.{columnsLiftedInPlace, levelLifted, LevelMade, LevelMadeBy}
 use Rattle.whole_map.proofs.LevelMath.{five-three-made}
 use Rattle.whole_map.proofs.CellLaws.{flat-same}
 use Rattle.whole_map.proofs.LevelCalls.{mapped-same}
-
-pub filter-laws : (f : ℕ) → FilterLaws (filterOf f)
-unfolding filterOf
-filter-laws zero = five-three-laws
-filter-laws (suc f) = nine-seven-laws
 
 pub five-three-level : (W H : Side) (X : Grid) → levelLifted W H X ≡ levelLiftedBy fiveThreeFilter W H X
 unfolding levelLifted levelLiftedBy columnsLiftedInPlace columnsLiftedBy liftedBy five.liftedInPlace
@@ -78,11 +71,6 @@ by-nine-seven zero s W H x x′ d is = absurd (d refl)
 by-nine-seven (suc f) s W H x x′ d is = is
 
 -- ---- the way back
-pub levels-few : (f : ℕ) → filterOf f .levels ≤ maxLevels
-unfolding filterOf maxLevels
-levels-few zero = omega arith
-levels-few (suc f) = omega arith
-
 pub back-five-three : (f : ℕ) {ok : Bool} {from s : ℕ} {W H : Side} {z : Grid} {y₀ y : ℕ → ℤ} → f ≡ 0 → LevelMade ok from s W H z y₀ y →
     LevelMadeBy (filterOf f) ok from s W H z y₀ y
 unfolding filterOf

@@ -10,7 +10,7 @@ use borrow.Author.Tests.{lt-ltb, le-ltb, eq-eqb, ne-eqb}
 use Rattle.numbers.specs.Signal.{pick}
 use Rattle.numbers.specs.Word.{wrap32}
 use Rattle.lifting.specs.Line.{unupdated, unpredicted, Half, lo, hi}
-use Rattle.lifting.specs.Grid.{Side, side, half, place, count, parted, joined, loneHigh}
+use Rattle.lifting.specs.Grid.{Side, half, place, count, parted, joined, loneHigh}
 use Rattle.lifting.specs.GridHalves.{halvesOf, inHalves, unliftedInPlace}
 use Rattle.lifting.proofs.GridLaws.{counts, place-in, by-place, joined-place, joined-parted, halves-low, halves-high}
 use Rattle.wavelet.specs.Bands.{Grid}

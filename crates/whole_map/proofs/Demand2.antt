@@ -1,6 +1,6 @@
 -- Demand 2 for the whole map that starts anywhere on the grid, for each filter f, over the definitions that the contracts of `forward` and `backward` cite.
 -- Document 02, Q-8: "demands 2 and 3 hold for each".
---     forward-gives        the plane that forward leaves is the map's: T.800's whole numbers, at every place
+--     forward-gives        the plane that forward leaves is the map's: the filter's whole numbers, at every place
 --     backward-gives       backward answers 0 and leaves this map exactly where the plane is this map's
 --     backward-passes      it answers 0 exactly where some map has the plane, and only one map has it (`one-map`)
 --     backward-refuses     it answers 7 or 14 exactly where no map has the plane
@@ -26,7 +26,7 @@ use Rattle.wavelet.proofs.GridLaws.{place-below, flat-at}
 use Rattle.wavelet.proofs.LevelTheory.{Same}
 use Rattle.wavelet.proofs.MapTheorems.{some-map, one-map, back-exactly}
 use Rattle.whole_map.specs.Calls.{forwardQuestion, planeQuestions, backwardQuestion, passed, rebuilt}
-use Rattle.whole_map.proofs.ByFilterLaws.{filter-laws}
+use Rattle.nine_seven.proofs.Filters.{filter-laws}
 use Rattle.whole_map.proofs.TestLaws.{false-true}
 use Rattle.whole_map.proofs.QuestionLaws.{Roomy, roomy-is, asked-on}
 use Rattle.whole_map.proofs.CallLaws.{passed-yes, rebuilt-yes}

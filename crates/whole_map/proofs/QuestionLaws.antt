@@ -12,7 +12,7 @@ use Rattle.wavelet.specs.Questions.{ask, within, Sized}
 use Rattle.wavelet.proofs.QuestionLaws.{within-true}
 use Rattle.nine_seven.specs.Filters.{filterOf, isFilter}
 use Rattle.whole_map.specs.Calls.{shapeQuestions, sizeQuestions}
-use Rattle.whole_map.proofs.ByFilterLaws.{levels-few}
+use Rattle.filters.proofs.FigureLaws.{levels-most}
 
 -- ---- four questions, and what follows them
 abbrev asked : Bool → Bool → Bool → Bool → ℕ → ℕ
@@ -100,7 +100,7 @@ module _ (f W H L : ℕ) where
   shaped e =
       let p = all (within 1 maxWidth W) (within 1 maxHeight H) (isFilter f) (within 1 (filterOf f .levels) L) 0 e in
       let l = within-true 1 (filterOf f .levels) L (p .3) in
-      let m = levels-few f in (
+      let m = levels-most f in (
         record {
           width = within-true 1 maxWidth W (p .0);
           height = within-true 1 maxHeight H (p .1);

@@ -1,4 +1,4 @@
--- A level where it stands, by any filter F: rows in halves, each of them in halves. A number stands for a filter (document 02, Q-8).
+-- A level where it stands, by any filter F: rows in halves, each of them in halves (document 02, Q-8).
 use Prim.Native.Nat.{ℕ, _+_, _-_, _*_}
 use lib.IntN.{ℤ}
 use Rattle.numbers.specs.Signal.{pick, windowed, spliced}
@@ -8,8 +8,6 @@ use Rattle.lifting.specs.GridHalves.{halvesOf, inHalves}
 use Rattle.lifting.specs.Filter.{Filter, lineBackBy}
 use Rattle.wavelet.specs.Bands.{Grid}
 use Rattle.whole_map.specs.Passes.{within, isLow, planeRow, rowsMapped}
--- "a filter number, 0 the 5/3, 1 this one"
-unfoldable pub use Rattle.nine_seven.specs.Filters.{filterOf}
 
 -- a line in halves, then all columns, then all rows of a level, lifted in place
 unfoldable pub liftedBy : Filter → Side → (ℕ → ℤ) → ℕ → ℤ

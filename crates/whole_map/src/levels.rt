@@ -28,7 +28,8 @@ ghost use Rattle.wavelet.specs.Plane.{cells, flat};
 ghost use Rattle.wavelet.specs.Questions.{Sized};
 ghost use Rattle.whole_map.specs.Rowwise.{partedInPlace, wovenInPlace, halvedInPlace};
 ghost use Rattle.whole_map.specs.Passes.{Rows, KeptFrom, isLow, planeRow, levelRow, rowsMapped, rowsFetched, gridHalved, gridCopied};
-ghost use Rattle.whole_map.specs.ByFilter.{filterOf, rowCopied};
+ghost use Rattle.nine_seven.specs.Filters.{filterOf};
+ghost use Rattle.whole_map.specs.ByFilter.{rowCopied};
 ghost use Rattle.whole_map.specs.LevelPasses.{cornerGrid, levelUnlifted, rowBack, firstBack, planeWritten, goesOn, rowsEven, rowsBetween};
 ghost use Rattle.whole_map.specs.LevelPasses.{regionInRange, Doubling, LevelMade, LevelMadeBy, LevelsBack};
 

@@ -18,7 +18,7 @@ ghost use Rattle.wavelet.specs.Plane.{cells, flat, planeOf, mapBack};
 ghost use Rattle.wavelet.specs.Questions.{Sized};
 ghost use Rattle.wavelet.specs.Shape.{columns, rows};
 ghost use Rattle.whole_map.specs.Rowwise.{heightsAt};
-ghost use Rattle.whole_map.specs.ByFilter.{filterOf};
+ghost use Rattle.nine_seven.specs.Filters.{filterOf};
 ghost use Rattle.whole_map.specs.LevelPasses.{MapRebuilt};
 ghost use Rattle.whole_map.specs.Calls.{shapeQuestions, sizeQuestions, forwardQuestion, planeQuestions, backwardQuestion};
 ghost use Rattle.whole_map.specs.Calls.{zeros, passed, rebuilt};

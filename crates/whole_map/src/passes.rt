@@ -20,7 +20,8 @@ ghost use Rattle.wavelet.specs.Limits.{maxWidth};
 ghost use Rattle.wavelet.specs.Plane.{cells, flat};
 ghost use Rattle.whole_map.specs.Rowwise.{wovenInPlace, doubledInPlace};
 ghost use Rattle.whole_map.specs.Passes.{after, before, nextChanged, pairChanged, rowsMapped, Rows};
-ghost use Rattle.whole_map.specs.ByFilter.{filterOf, levelLiftedBy};
+ghost use Rattle.nine_seven.specs.Filters.{filterOf};
+ghost use Rattle.whole_map.specs.ByFilter.{levelLiftedBy};
 ghost use Rattle.whole_map.specs.LevelPasses.{rowLifted, pairLifted, firstLifted, levelLifted, rowsBetween};
 
 // The row after row r of `height` rows, and the row before: mirrored at the ends.

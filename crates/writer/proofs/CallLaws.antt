@@ -9,10 +9,11 @@ use borrow.Author.Tests.{leb-true, le-leb, lt-leb, eq-eqb, ne-eqb, eqb-true, ltb
 use Rattle.numbers.specs.Signal.{pick, both}
 use Rattle.numbers.proofs.Sweep.{both as split-both}
 use Rattle.lifting.specs.Halves.{fronted}
-use Rattle.wavelet.specs.Limits.{maxWidth, maxHeight, maxLevels}
+use Rattle.wavelet.specs.Limits.{maxWidth, maxHeight}
 use Rattle.wavelet.specs.Questions.{ask, within}
 use Rattle.lifting.specs.Grid.{Side}
-use Rattle.wavelet.specs.Store.{storeLength}
+use Rattle.nine_seven.specs.Filters.{filterOf, isFilter}
+use Rattle.filters.specs.Figures.{storeBy, streamable}
 use Rattle.calls.specs.Lists.{gives, refused, unless, changedUnless}
 use Rattle.calls.proofs.QuestionLaws.{asked-yes, not-yes}
 use Rattle.writer.specs.declared.Writer.{Writer}
@@ -22,7 +23,7 @@ use Rattle.writer.specs.declared.closing.Closure.{Closure}
 use Rattle.writer.specs.declared.draws.Spot.{Spot}
 use Rattle.writer.specs.Closing.{Shut, shut}
 use Rattle.writer.specs.Counts.{startOf}
-use Rattle.writer.specs.Taking.{columnsOf, takes}
+use Rattle.writer.specs.Taking.{kind, columnsOf, takes}
 use Rattle.writer.specs.Questions.{either, inRanges, longEnough, waitingRow, setUpQuestion, offerQuestion, drawQuestion, finishQuestion}
 use Rattle.writer.specs.Gate.{stateQuestion}
 use Rattle.writer.specs.Answers.{Handed, aRow, nothing}
@@ -31,7 +32,6 @@ use Rattle.writer.specs.Calls.{handedStore, handedArea, drawReply, drawS
 use Rattle.writer.specs.Steps.{Left, Found, Closed, Drew}
 use Rattle.writer.proofs.GateLaws.{Sound, sound, state-no, state-yes}
 use Rattle.level.specs.Level.{Memory, rest}
-use Rattle.level.specs.FiveThreeLevel.{fiveThree}
 
 -- ---- by the number of the question
 pub unless-no : {A : Type 0} (q : ℕ) (a : A) → 0 < q → refused q ≡ unless q a
@@ -50,34 +50,34 @@ pub changed-yes : {A : Type 0} (q : ℕ) (a b : A) → q ≡ 0 → a ≡ changed
 changed-yes zero a b h = refl
 changed-yes (suc q) a b h = absurd (omega arith)
 
--- ---- set-up
-pub set-up-passed : (W : Side) (L n : ℕ) → setUpQuestion W L n ≡ 0 → (within 1 maxWidth (W .length) ≡ true) × (within 1 maxLevels L ≡ true) ×
-    (storeLength W L ≤ n)
-unfolding setUpQuestion
-set-up-passed W L n e =
+-- ---- set-up, f being the number of the filter
+pub set-up-passed : (f : ℕ) (W : Side) (L n : ℕ) → setUpQuestion f W L n ≡ 0 → (streamable f W L ≡ true) × (storeBy f W L ≤ n)
+unfolding setUpQuestion streamable
+set-up-passed f W L n e =
     let a = asked-yes (within 1 maxWidth (W .length)) _ _ e in
-    let b = asked-yes (within 1 maxLevels L) _ _ (a .1) in
-    (a .0, b .0, leb-true (storeLength W L) n (asked-yes _ _ _ (b .1) .0))
+    let k = asked-yes (isFilter f) _ _ (a .1) in
+    let b = asked-yes (within 1 (filterOf f .levels) L) _ _ (k .1) in
+    (simp (a .0, k .0, b .0), leb-true (storeBy f W L) n (asked-yes _ _ _ (b .1) .0))
 
-pub record Fits (W : Side) (L n k : ℕ) : Type 0 where
-  pub needed : k ≡ storeLength W L
+pub record Fits (f : ℕ) (W : Side) (L n k : ℕ) : Type 0 where
+  pub needed : k ≡ storeBy f W L
   pub room : k ≤ n
 
-module _ (W : Side) (L n q : ℕ) (e : q ≡ setUpQuestion W L n) where
-  pub set-up-fits : (k : ℕ) → q ≡ 0 → k ≡ pick (both (within 1 maxWidth (W .length)) (within 1 maxLevels L)) (storeLength W L) 0 → Fits W L n k
-  set-up-fits k z f =
-      let t = set-up-passed W L n (sym e ∙ z) in
-      let g : k ≡ storeLength W L = f ∙ simp (t .0, t .1) in
-      record { needed = g; room = omega (arith, t .2) }
+module _ (f : ℕ) (W : Side) (L n q : ℕ) (e : q ≡ setUpQuestion f W L n) where
+  pub set-up-fits : (k : ℕ) → q ≡ 0 → k ≡ pick (streamable f W L) (storeBy f W L) 0 → Fits f W L n k
+  set-up-fits k z h =
+      let t = set-up-passed f W L n (sym e ∙ z) in
+      let g : k ≡ storeBy f W L = h ∙ simp (t .0) in
+      record { needed = g; room = omega (arith, t .1) }
 
-  pub set-up-no : (s : ℕ) (x : Memory) → 0 < q → (refused q ≡ setUpReply W s L n) × (x ≡ setUpStore W L n x)
+  pub set-up-no : (s : ℕ) (x : Memory) → 0 < q → (refused q ≡ setUpReply f W s L n) × (x ≡ setUpStore f W L n x)
   unfolding setUpReply setUpStore
   set-up-no s x h = rw (← e) (unless-no q _ h, changed-no q _ x h)
 
-  pub set-up-yes : (s k : ℕ) (x y : Memory) → q ≡ 0 → Fits W L n k → y ≡ fronted k (λ _. pos 0) x →
-      (gives (fresh W s L) ≡ setUpReply W s L n) × (y ≡ setUpStore W L n x)
+  pub set-up-yes : (s k : ℕ) (x y : Memory) → q ≡ 0 → Fits f W L n k → y ≡ fronted k (λ _. pos 0) x →
+      (gives (fresh f W s L) ≡ setUpReply f W s L n) × (y ≡ setUpStore f W L n x)
   unfolding setUpReply setUpStore
-  set-up-yes s k x y z f g = rw (← e) (unless-yes q _ z, g ∙ ap (λ (k : ℕ). fronted k (λ _. pos 0) x) (f .needed) ∙ changed-yes q _ x z)
+  set-up-yes s k x y z h g = rw (← e) (unless-yes q _ z, g ∙ ap (λ (k : ℕ). fronted k (λ _. pos 0) x) (h .needed) ∙ changed-yes q _ x z)
 
 -- ---- a call that passed: its state is sound
 front : (a b : Bool) (x : ℕ) → ask a 1 (ask b 5 x) ≡ 0 → ask a 1 (ask b 5 0) ≡ 0
@@ -115,7 +115,7 @@ module _ (s : Writer) (n : ℕ) where
 
 -- ---- finish
 pub waits-same : (f : Bool) (s : Writer) (r : Shut) (c v i o : ℕ) → c ≡ r .closed → v ≡ r .out .level → i ≡ r .out .left →
-    o ≡ startOf (columnsOf s) (r .out .level) →
+    o ≡ startOf (s .filter) (columnsOf s) (r .out .level) →
     record {
       x = s .x;
       y = s .y;
@@ -128,6 +128,7 @@ pub waits-same : (f : Bool) (s : Writer) (r : Shut) (c v i o : ℕ) → c ≡ r 
       level = v;
       left = i;
       offset = o;
+      filter = s .filter;
     } ≡ waits f s r
 waits-same f s r c v i o a b d e = rw (a, b, d, e) refl
 
@@ -136,7 +137,8 @@ module _ (s : Writer) (n q : ℕ) (x : Memory) (e : q ≡ finishQuestion s n) wh
   unfolding finishReply finishStore
   finish-no h = rw (← e) (unless-no q _ h, changed-no q _ x h)
 
-  pub finish-yes : (r : Closure) (y : Memory) → q ≡ 0 → Closed (s .levels) (columnsOf s) (shut fiveThree (s .levels) (columnsOf s) (s .y) 0 (s .rows) x) r y →
+  pub finish-yes : (r : Closure) (y : Memory) → q ≡ 0 →
+      Closed (s .filter) (s .levels) (columnsOf s) (shut (kind s) (s .levels) (columnsOf s) (s .y) 0 (s .rows) x) r y →
       (gives (record {
         x = s .x;
         y = s .y;
@@ -149,6 +151,7 @@ module _ (s : Writer) (n q : ℕ) (x : Memory) (e : q ≡ finishQuestion s n) wh
         level = r .level;
         left = r .left;
         offset = r .offset;
+        filter = s .filter;
       }) ≡ finishReply s n x) × (y ≡ finishStore s n x)
   unfolding finishReply finishStore
   finish-yes r y z f =
@@ -159,7 +162,7 @@ module _ (s : Writer) (n q : ℕ) (x : Memory) (e : q ≡ finishQuestion s n) wh
       )
 
 -- ---- what a draw leaves
-module _ (s : Writer) (x y : Memory) (r : Wait) (l : Left (s .levels) (columnsOf s) (pulled s x) r y) where
+module _ (s : Writer) (x y : Memory) (r : Wait) (l : Left (s .filter) (s .levels) (columnsOf s) (pulled s x) r y) where
   resumed-open : (f : Bool) (v : ℕ) → f ≡ false → resumed f s (pulled s x) v ≡ record { closed = s .closed; out = pulled s x }
   unfolding resumed
   resumed-open false v e = refl
@@ -171,7 +174,7 @@ module _ (s : Writer) (x y : Memory) (r : Wait) (l : Left (s .levels) (columnsOf
   resumed-waits true zero e h = absurd (omega arith)
   resumed-waits true (suc v) e h = refl
 
-  resumed-closes : (f : Bool) (v : ℕ) → f ≡ true → v ≡ 0 → resumed f s (pulled s x) v ≡ shut fiveThree (s .levels) (columnsOf s) (s .y) (s .closed) (s .rows)
+  resumed-closes : (f : Bool) (v : ℕ) → f ≡ true → v ≡ 0 → resumed f s (pulled s x) v ≡ shut (kind s) (s .levels) (columnsOf s) (s .y) (s .closed) (s .rows)
       (pulled s x .store)
   unfolding resumed
   resumed-closes false v e h = let z : _≡_ {A = ℕ} 0 1 = cc in absurd (omega arith)
@@ -179,7 +182,7 @@ module _ (s : Writer) (x y : Memory) (r : Wait) (l : Left (s .levels) (columnsOf
   resumed-closes true (suc v) e h = absurd (omega arith)
 
   drew : (c v i o : ℕ) (z : Memory) (q : Shut) → afterDraw s x ≡ q → c ≡ q .closed → v ≡ q .out .level → i ≡ q .out .left →
-      o ≡ startOf (columnsOf s) (q .out .level) → z ≡ q .out .store →
+      o ≡ startOf (s .filter) (columnsOf s) (q .out .level) → z ≡ q .out .store →
       Drew s x (record {
         x = s .x;
         y = s .y;
@@ -192,6 +195,7 @@ module _ (s : Writer) (x y : Memory) (r : Wait) (l : Left (s .levels) (columnsOf
         level = v;
         left = i;
         offset = o;
+        filter = s .filter;
       }) z
   drew c v i o z q e a b d k g = record {
     writer = waits-same (s .finished) s q c v i o a b d k ∙ ap (waits (s .finished) s) (sym e);
@@ -212,6 +216,7 @@ module _ (s : Writer) (x y : Memory) (r : Wait) (l : Left (s .levels) (columnsOf
         level = r .level;
         left = r .left;
         offset = r .offset;
+        filter = s .filter;
       }) y
   drew-open e = drew (s .closed) (r .level) (r .left) (r .offset) y _ (resumed-open (s .finished) (pulled s x .level) e) refl (l .level) (l .left)
       (l .offset) (l .store)
@@ -229,12 +234,13 @@ module _ (s : Writer) (x y : Memory) (r : Wait) (l : Left (s .levels) (columnsOf
         level = r .level;
         left = r .left;
         offset = r .offset;
+        filter = s .filter;
       }) y
   drew-waits e h = drew (s .closed) (r .level) (r .left) (r .offset) y _ (resumed-waits (s .finished) (pulled s x .level) e
       (omega (arith, l .level))) refl (l .level) (l .left) (l .offset) (l .store)
 
   pub drew-closes : (q : Closure) (z : Memory) → s .finished ≡ true → r .level ≡ 0 →
-      Closed (s .levels) (columnsOf s) (shut fiveThree (s .levels) (columnsOf s) (s .y) (s .closed) (s .rows) y) q z →
+      Closed (s .filter) (s .levels) (columnsOf s) (shut (kind s) (s .levels) (columnsOf s) (s .y) (s .closed) (s .rows) y) q z →
       Drew s x (record {
         x = s .x;
         y = s .y;
@@ -247,6 +253,7 @@ module _ (s : Writer) (x y : Memory) (r : Wait) (l : Left (s .levels) (columnsOf
         level = q .level;
         left = q .left;
         offset = q .offset;
+        filter = s .filter;
       }) z
   drew-closes q z e h f =
       let g = rw (l .store) at f in
@@ -298,7 +305,7 @@ module _ (s : Writer) (n k q : ℕ) (x z : Memory) (e : q ≡ stateQuestion s n)
   pub draw-nothing : q ≡ 0 → s .level ≡ 0 → (gives nothing ≡ drawReply s n k x) × (x ≡ drawStore s n k x) × (z ≡ drawArea s n k x z)
   draw-nothing y h = let t = handed-none s x z (s .level) h in passes nothing x z (draw-none s n k (sym e ∙ y) h) (t .0) (t .1) (t .2)
 
-  module _ (r : Spot) (f : Found (s .levels) (columnsOf s) (waitingRow s) r) (y : q ≡ 0) (h : 0 < s .level) where
+  module _ (r : Spot) (f : Found (s .filter) (s .levels) (columnsOf s) (waitingRow s) r) (y : q ≡ 0) (h : 0 < s .level) where
     long : r .length ≡ waitingRow s .length
     long = ap (λ (r : Spot). r .length) (f .spot)
 

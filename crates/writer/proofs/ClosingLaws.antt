@@ -10,46 +10,17 @@ use Rattle.lifting.specs.Line.{lo}
 use Rattle.lifting.specs.Grid.{Side, side, count}
 use Rattle.wavelet.specs.Levels.{next}
 use Rattle.wavelet.specs.Order.{lastSet}
-use Rattle.level.specs.Level.{Memory, rest, joinAt, ahead}
-use Rattle.level.specs.FiveThreeLevel.{fiveThree, setClosed}
+use Rattle.nine_seven.specs.Filters.{filterOf}
+use Rattle.level.specs.Level.{Memory, LevelKind, rest, joinAt}
+use Rattle.filters.specs.Forward.{kindOf}
 use Rattle.writer.specs.declared.cascade.Wait.{Wait}
 use Rattle.writer.specs.declared.closing.Closure.{Closure}
 use Rattle.writer.specs.Counts.{deeper, further, made, most, skip}
 use Rattle.writer.specs.Machine.{Out, still, under, settled, passOn}
 use Rattle.writer.specs.Closing.{Shut, stepped, onward, closeStep, closeLevel, shut}
 use Rattle.writer.specs.Steps.{Left, LevelClosed, Closed, idle}
-use Rattle.writer.proofs.CountLaws.{deeper-le, start-first, start-le}
+use Rattle.writer.proofs.CountLaws.{steps-more, deeper-le, start-first, start-small}
 use Rattle.writer.proofs.CascadeLaws.{left-waits, left-same, under-offset, settled-waits, settled-goes}
-
--- the look-ahead
-abbrev A : ℕ
-A = ahead fiveThree
-
--- ---- one step of a level
-module _ (l : ℕ) (w : Side) (s c m n : ℕ) (x : Memory) (en : n ≡ made A c s m) (t : Bool) (et : t ≡ both (ltb 0 m) (leb n (lastSet (side s m)))) where
-  abbrev test : Bool
-  test = both (ltb 0 m) (leb (made A c s m) (lastSet (side s m)))
-
-  test-is : t ≡ test
-  test-is = et ∙ ap (λ (i : ℕ). both (ltb 0 m) (leb i (lastSet (side s m)))) en
-
-  pub step-none : not t ≡ true → closeStep fiveThree l w s c m x ≡ still x
-  unfolding closeStep
-  step-none h = let e : test ≡ false = sym test-is ∙ not-true t h in simp e
-
-  step-set : not t ≡ false → closeStep fiveThree l w s c m x ≡ settled (passOn fiveThree l w s) n (setClosed w (side s m) x) (skip w (side s m) n (most l))
-  unfolding closeStep
-  step-set h = let e : test ≡ true = sym test-is ∙ not-false t h in rw en (simp e)
-
-  module _ (h : not t ≡ false) (q i : ℕ) (x₁ : Memory) (e₁ : x₁ ≡ setClosed w (side s m) x) (eq : q ≡ most l) (ei : i ≡ skip w (side s m) n q) where
-    closes : closeStep fiveThree l w s c m x ≡ settled (passOn fiveThree l w s) n x₁ i
-    closes = step-set h ∙ cc
-
-    pub step-waits : 0 < i → Left (l + 1) w (closeStep fiveThree l w s c m x) (record { level = 1; left = i; offset = 0 }) x₁
-    step-waits g = left-waits (l + 1) w i _ x₁ (omega arith) (closes ∙ settled-waits _ n i x₁ g)
-
-    pub step-goes : (r : Wait) (y : Memory) → i ≡ 0 → Left (l + 1) w (passOn fiveThree l w s n x₁) r y → Left (l + 1) w (closeStep fiveThree l w s c m x) r y
-    step-goes r y g f = left-same (l + 1) w _ _ r y (closes ∙ settled-goes _ n i x₁ g) f
 
 -- ---- the steps of a level
 stepped-waits : (c : ℕ) (f : Memory → Shut) (o : Out) (v : ℕ) → 0 < v → stepped c f o v ≡ record { closed = suc c; out = o }
@@ -62,84 +33,6 @@ unfolding stepped
 stepped-goes c f o zero h = refl
 stepped-goes c f o (suc v) h = absurd (omega arith)
 
-module _ (l : ℕ) (w : Side) (s m : ℕ) where
-  abbrev pub from : ℕ → Memory → Shut
-  from c x = closeLevel fiveThree (A - c) l w s c m x
-
-  from-done : (c : ℕ) (x : Memory) → A ≤ c → from c x ≡ record { closed = c; out = still x }
-  unfolding closeLevel
-  from-done c x h = let e : A - c ≡ 0 = omega arith in rw e refl
-
-  from-step : (c : ℕ) (x : Memory) → c < A → from c x ≡ stepped c (from (suc c)) (closeStep fiveThree l w s c m x) (closeStep fiveThree l w s c m x .level)
-  unfolding closeLevel
-  from-step c x h = let e : A - c ≡ suc (A - suc c) = omega arith in rw e refl
-
-  module _ (c k : ℕ) (x₀ x : Memory) (e : from k x ≡ from c x₀) where
-    -- all are done, and nothing waits
-    pub level-done : (r : Closure) → r ≡ idle k → A ≤ k → LevelClosed (l + 1) w (from c x₀) r x
-    level-done r d h =
-        rw (d, sym e ∙ from-done k x h)
-        (record {
-          closed = refl;
-          level = refl;
-          left = refl;
-          offset = sym (start-first w 0 (omega arith));
-          store = refl;
-          within = omega arith;
-          some = λ z. absurd (omega arith);
-        })
-
-    module _ (h : k < A) (r : Wait) (y : Memory) (f : Left (l + 1) w (closeStep fiveThree l w s k m x) r y) where
-      -- a step after which a row waits
-      pub level-waits : (b : ℕ) → b ≡ k + 1 → 0 < r .level →
-          LevelClosed (l + 1) w (from c x₀) (record { closed = b; level = r .level; left = r .left; offset = r .offset }) y
-      level-waits b eb g =
-          rw (sym e ∙ from-step k x h ∙ stepped-waits k _ _ _ (omega (arith, f .level)))
-          (record {
-            closed = omega arith;
-            level = f .level;
-            left = f .left;
-            offset = f .offset;
-            store = f .store;
-            within = f .within;
-            some = λ z. omega arith;
-          })
-
-      -- and one after which none does
-      pub level-on : (b : ℕ) → b ≡ k + 1 → r .level ≡ 0 → from b y ≡ from c x₀
-      level-on b eb g =
-          let d : b ≡ suc k = omega arith in
-          rw (d, f .store) (sym (stepped-goes k (from (suc k)) (closeStep fiveThree l w s k m x) _ (sym (f .level) ∙ g)) ∙ sym (from-step k x h) ∙ e)
-
--- ---- all of them
-pub closed-small : (l : ℕ) (w : Side) (o : Shut) (r : Closure) (x : Memory) → w .length < 2 ^ 16 → l < 2 ^ 16 → Closed l w o r x → r .offset < 4294967296
-closed-small l w o r x h g f = omega (arith, f .offset, f .level, f .within, start-le w (o .out .level))
-
-pub shut-none : (l : ℕ) (w : Side) (s c m : ℕ) (x : Memory) (r : Closure) → r ≡ idle c → l ≡ 0 → c ≤ A * l → Closed l w (shut fiveThree l w s c m x) r x
-unfolding shut
-shut-none zero w s c m x r d e h = rw d (record {
-  closed = refl;
-  level = refl;
-  left = refl;
-  offset = sym (start-first w 0 (omega arith));
-  store = refl;
-  within = omega arith;
-  all = h;
-})
-shut-none (suc l) w s c m x r d e h = absurd (omega arith)
-
-shut-more : (l : ℕ) (w : Side) (s c m : ℕ) (x : Memory) →
-    shut fiveThree (suc l) w s c m x ≡ onward A (4 * w .length) (shut fiveThree l (next w) ((s + 1) / 2) (c - A) (count lo (side s m)))
-    (closeLevel fiveThree (A - c) l w s c m x) (closeLevel fiveThree (A - c) l w s c m x .out .level)
-unfolding shut
-shut-more l w s c m x = refl
-
-shut-is : (l : ℕ) (w : Side) (s c m : ℕ) (x : Memory) → 0 < l →
-    shut fiveThree l w s c m x ≡ onward A (4 * w .length) (shut fiveThree (l - 1) (next w) ((s + 1) / 2) (c - A) (count lo (side s m)))
-    (closeLevel fiveThree (A - c) (l - 1) w s c m x) (closeLevel fiveThree (A - c) (l - 1) w s c m x .out .level)
-shut-is zero w s c m x h = absurd (omega arith)
-shut-is (suc l) w s c m x h = let p : suc l - 1 ≡ l = omega arith in rw p (shut-more l w s c m x)
-
 onward-waits : (a t : ℕ) (f : Memory → Shut) (o : Shut) (v : ℕ) → 0 < v → onward a t f o v ≡ o
 unfolding onward
 onward-waits a t f o zero h = absurd (omega arith)
@@ -151,40 +44,156 @@ unfolding onward
 onward-goes a t f o zero h = refl
 onward-goes a t f o (suc v) h = absurd (omega arith)
 
-module _ (l : ℕ) (w : Side) (s c m : ℕ) (x y : Memory) (r : Closure) (h : 0 < l)
-    (f : LevelClosed (l - 1 + 1) w (closeLevel fiveThree (A - c) (l - 1) w s c m x) r y) where
-  abbrev o : Shut
-  o = closeLevel fiveThree (A - c) (l - 1) w s c m x
+-- φ is the number of the filter
+module _ (φ : ℕ) where
+  abbrev K : LevelKind
+  K = kindOf φ
 
-  pub shut-waits : 0 < r .level → Closed l w (shut fiveThree l w s c m x) r y
-  shut-waits g =
-      let e : shut fiveThree l w s c m x ≡ o = shut-is l w s c m x h ∙ onward-waits _ _ _ o (o .out .level) (omega (arith, f .level)) in
-      rw e (record {
-        closed = f .closed;
-        level = f .level;
-        left = f .left;
-        offset = f .offset;
-        store = f .store;
-        within = omega (arith, f .within);
-        all = omega (arith, f .some g);
-      })
+  -- the rows that a level keeps, and the look-ahead
+  abbrev R : ℕ
+  R = filterOf φ .rows
 
-  pub shut-goes : (v : Side) (a p k d b e j : ℕ) (t z : Memory) (q : Closure) → r .level ≡ 0 → j ≡ fiveThree .stretch w →
-      v ≡ next w → a ≡ (s + 1) / 2 → p ≡ c - A →
-      k ≡ count lo (side s m) → Closed (l - 1) v (shut fiveThree (l - 1) v a p k (rest j y)) q t → z ≡ joinAt j y t →
-      e ≡ A → d ≡ deeper (q .level) → b ≡ further (q .level) j (q .offset) → Closed l w (shut fiveThree l w s c m x)
-      (record { closed = e + q .closed; level = d; left = q .left; offset = b }) z
-  shut-goes v a p k d b e j t z q g ej ev ea ep ek u ez ee ed eb =
-      let below : Closed (l - 1) (next w) (shut fiveThree (l - 1) (next w) ((s + 1) / 2) (c - A) (count lo (side s m))
-      (rest (4 * w .length) (o .out .store))) q t = rw (ev, ea, ep, ek, ej, f .store) at u in
-      let is = shut-is l w s c m x h ∙ onward-goes _ _ _ o (o .out .level) (sym (f .level) ∙ g) in
-      rw is (record {
-        closed = ap (λ (i : ℕ). i + q .closed) ee ∙ ap (λ (i : ℕ). A + i) (below .closed);
-        level = ed ∙ ap deeper (below .level);
-        left = below .left;
-        offset = eb ∙ ap (λ (i : ℕ). further (q .level) i (q .offset)) ej ∙ under-offset w (q .offset) (q .level) _ (below .level) (below .offset);
-        store = ez ∙ ap (λ (i : ℕ). joinAt i y t) ej ∙ ap (λ (m : Memory). joinAt (4 * w .length) m t) (f .store)
-            ∙ ap (joinAt (4 * w .length) (o .out .store)) (below .store);
-        within = omega (arith, deeper-le (q .level) (l - 1) (below .within));
-        all = omega (arith, below .all);
-      })
+  abbrev A : ℕ
+  A = filterOf φ .ahead
+
+  -- ---- one step of a level
+  module _ (l : ℕ) (w : Side) (s c m n : ℕ) (x : Memory) (en : n ≡ made A c s m) (t : Bool) (et : t ≡ both (ltb 0 m) (leb n (lastSet (side s m)))) where
+    abbrev test : Bool
+    test = both (ltb 0 m) (leb (made A c s m) (lastSet (side s m)))
+
+    test-is : t ≡ test
+    test-is = et ∙ ap (λ (i : ℕ). both (ltb 0 m) (leb i (lastSet (side s m)))) en
+
+    pub step-none : not t ≡ true → closeStep K l w s c m x ≡ still x
+    unfolding closeStep
+    step-none h = let e : test ≡ false = sym test-is ∙ not-true t h in simp e
+
+    step-set : not t ≡ false → closeStep K l w s c m x ≡ settled (passOn K l w s) n (K .close w (side s m) n x) (skip w (side s m) n (most l))
+    unfolding closeStep
+    step-set h = let e : test ≡ true = sym test-is ∙ not-false t h in rw en (simp e)
+
+    module _ (h : not t ≡ false) (q i : ℕ) (x₁ : Memory) (e₁ : x₁ ≡ K .close w (side s m) n x) (eq : q ≡ most l) (ei : i ≡ skip w (side s m) n q) where
+      closes : closeStep K l w s c m x ≡ settled (passOn K l w s) n x₁ i
+      closes = step-set h ∙ cc
+
+      pub step-waits : 0 < i → Left φ (l + 1) w (closeStep K l w s c m x) (record { level = 1; left = i; offset = 0 }) x₁
+      step-waits g = left-waits φ (l + 1) w i _ x₁ (omega arith) (closes ∙ settled-waits _ n i x₁ g)
+
+      pub step-goes : (r : Wait) (y : Memory) → i ≡ 0 → Left φ (l + 1) w (passOn K l w s n x₁) r y → Left φ (l + 1) w (closeStep K l w s c m x) r y
+      step-goes r y g f = left-same φ (l + 1) w _ _ r y (closes ∙ settled-goes _ n i x₁ g) f
+
+  module _ (l : ℕ) (w : Side) (s m : ℕ) where
+    abbrev pub from : ℕ → Memory → Shut
+    from c x = closeLevel K (A - c) l w s c m x
+
+    from-done : (c : ℕ) (x : Memory) → A ≤ c → from c x ≡ record { closed = c; out = still x }
+    unfolding closeLevel
+    from-done c x h = let e : A - c ≡ 0 = omega arith in rw e refl
+
+    from-step : (c : ℕ) (x : Memory) → c < A → from c x ≡ stepped c (from (suc c)) (closeStep K l w s c m x) (closeStep K l w s c m x .level)
+    unfolding closeLevel
+    from-step c x h = let e : A - c ≡ suc (A - suc c) = omega arith in rw e refl
+
+    module _ (c k : ℕ) (x₀ x : Memory) (e : from k x ≡ from c x₀) where
+      -- all are done, and nothing waits
+      pub level-done : (r : Closure) → r ≡ idle k → A ≤ k → LevelClosed φ (l + 1) w (from c x₀) r x
+      level-done r d h =
+          rw (d, sym e ∙ from-done k x h)
+          (record {
+            closed = refl;
+            level = refl;
+            left = refl;
+            offset = sym (start-first φ w 0 (omega arith));
+            store = refl;
+            within = omega arith;
+            some = λ z. absurd (omega arith);
+          })
+
+      module _ (h : k < A) (r : Wait) (y : Memory) (f : Left φ (l + 1) w (closeStep K l w s k m x) r y) where
+        -- a step after which a row waits
+        pub level-waits : (b : ℕ) → b ≡ k + 1 → 0 < r .level →
+            LevelClosed φ (l + 1) w (from c x₀) (record { closed = b; level = r .level; left = r .left; offset = r .offset }) y
+        level-waits b eb g =
+            rw (sym e ∙ from-step k x h ∙ stepped-waits k _ _ _ (omega (arith, f .level)))
+            (record {
+              closed = omega arith;
+              level = f .level;
+              left = f .left;
+              offset = f .offset;
+              store = f .store;
+              within = f .within;
+              some = λ z. omega arith;
+            })
+
+        -- and one after which none does
+        pub level-on : (b : ℕ) → b ≡ k + 1 → r .level ≡ 0 → from b y ≡ from c x₀
+        level-on b eb g =
+            let d : b ≡ suc k = omega arith in
+            rw (d, f .store) (sym (stepped-goes k (from (suc k)) (closeStep K l w s k m x) _ (sym (f .level) ∙ g)) ∙ sym (from-step k x h) ∙ e)
+
+  -- ---- all of them
+  pub closed-small : (l : ℕ) (w : Side) (o : Shut) (r : Closure) (x : Memory) → w .length < 2 ^ 16 → l < 2 ^ 16 → Closed φ l w o r x → r .offset < 4294967296
+  closed-small l w o r x h g f = omega (arith, f .offset, start-small φ w (o .out .level) h (omega (arith, f .level, f .within)))
+
+  pub shut-none : (l : ℕ) (w : Side) (s c m : ℕ) (x : Memory) (r : Closure) → r ≡ idle c → l ≡ 0 → c ≤ A * l → Closed φ l w (shut K l w s c m x) r x
+  unfolding shut
+  shut-none zero w s c m x r d e h = rw d (record {
+    closed = refl;
+    level = refl;
+    left = refl;
+    offset = sym (start-first φ w 0 (omega arith));
+    store = refl;
+    within = omega arith;
+    all = h;
+  })
+  shut-none (suc l) w s c m x r d e h = absurd (omega arith)
+
+  shut-more : (l : ℕ) (w : Side) (s c m : ℕ) (x : Memory) →
+      shut K (suc l) w s c m x ≡ onward A (R * w .length) (shut K l (next w) ((s + 1) / 2) (c - A) (count lo (side s m)))
+      (closeLevel K (A - c) l w s c m x) (closeLevel K (A - c) l w s c m x .out .level)
+  unfolding shut
+  shut-more l w s c m x = refl
+
+  shut-is : (l : ℕ) (w : Side) (s c m : ℕ) (x : Memory) → 0 < l →
+      shut K l w s c m x ≡ onward A (R * w .length) (shut K (l - 1) (next w) ((s + 1) / 2) (c - A) (count lo (side s m)))
+      (closeLevel K (A - c) (l - 1) w s c m x) (closeLevel K (A - c) (l - 1) w s c m x .out .level)
+  shut-is zero w s c m x h = absurd (omega arith)
+  shut-is (suc l) w s c m x h = let p : suc l - 1 ≡ l = omega arith in rw p (shut-more l w s c m x)
+
+  module _ (l : ℕ) (w : Side) (s c m : ℕ) (x y : Memory) (r : Closure) (h : 0 < l)
+      (f : LevelClosed φ (l - 1 + 1) w (closeLevel K (A - c) (l - 1) w s c m x) r y) where
+    abbrev o : Shut
+    o = closeLevel K (A - c) (l - 1) w s c m x
+
+    pub shut-waits : 0 < r .level → Closed φ l w (shut K l w s c m x) r y
+    shut-waits g =
+        let e : shut K l w s c m x ≡ o = shut-is l w s c m x h ∙ onward-waits _ _ _ o (o .out .level) (omega (arith, f .level)) in
+        rw e (record {
+          closed = f .closed;
+          level = f .level;
+          left = f .left;
+          offset = f .offset;
+          store = f .store;
+          within = omega (arith, f .within);
+          all = omega (arith, f .some g, steps-more A l h);
+        })
+
+    pub shut-goes : (v : Side) (a p k d b e j : ℕ) (t z : Memory) (q : Closure) → r .level ≡ 0 → j ≡ K .stretch w →
+        v ≡ next w → a ≡ (s + 1) / 2 → p ≡ c - A →
+        k ≡ count lo (side s m) → Closed φ (l - 1) v (shut K (l - 1) v a p k (rest j y)) q t → z ≡ joinAt j y t →
+        e ≡ A → d ≡ deeper (q .level) → b ≡ further (q .level) j (q .offset) → Closed φ l w (shut K l w s c m x)
+        (record { closed = e + q .closed; level = d; left = q .left; offset = b }) z
+    shut-goes v a p k d b e j t z q g ej ev ea ep ek u ez ee ed eb =
+        let below : Closed φ (l - 1) (next w) (shut K (l - 1) (next w) ((s + 1) / 2) (c - A) (count lo (side s m))
+        (rest (R * w .length) (o .out .store))) q t = rw (ev, ea, ep, ek, ej, f .store) at u in
+        let is = shut-is l w s c m x h ∙ onward-goes _ _ _ o (o .out .level) (sym (f .level) ∙ g) in
+        rw is (record {
+          closed = ap (λ (i : ℕ). i + q .closed) ee ∙ ap (λ (i : ℕ). A + i) (below .closed);
+          level = ed ∙ ap deeper (below .level);
+          left = below .left;
+          offset = eb ∙ ap (λ (i : ℕ). further (q .level) i (q .offset)) ej ∙ under-offset φ w (q .offset) (q .level) _ (below .level) (below .offset);
+          store = ez ∙ ap (λ (i : ℕ). joinAt i y t) ej ∙ ap (λ (m : Memory). joinAt (R * w .length) m t) (f .store)
+              ∙ ap (joinAt (R * w .length) (o .out .store)) (below .store);
+          within = omega (arith, deeper-le (q .level) (l - 1) (below .within));
+          all = omega (arith, below .all, steps-more A l h);
+        })

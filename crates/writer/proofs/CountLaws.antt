@@ -1,21 +1,24 @@
 -- The laws of the derived numbers, as the code's branches meet them. Assumes nothing.
 use mathlib.Core.Path.{_≡_, refl, sym, ap, ap₂, _∙_}
 use mathlib.Core.Bool.{true, false, Bool}
-use Prim.Native.Nat.{ℕ, zero, suc, _+_, _-_, _*_, _/_, _<_, _≤_, min, _%_}
+use Prim.Native.Nat.{ℕ, zero, suc, _+_, _-_, _*_, _/_, _^_, _<_, _≤_, min, _%_}
 use native.Mathlib.Decide.{decLt, ℕ-discrete}
+use native.Mathlib.Nat.{mul-suc}
 use native.Mathlib.Omega.{arith}
 use Rattle.lifting.specs.Line.{lo, hi}
 use Rattle.lifting.specs.Grid.{Side, side, count}
 use Rattle.wavelet.specs.Bands.{Band, LL, HL, LH, HH, code, across, down}
 use Rattle.wavelet.specs.Levels.{next}
 use Rattle.wavelet.specs.Order.{firstSet, setRow, setHas}
-use Rattle.wavelet.proofs.StoreLaws.{store-none, store-below, store-le}
+use Rattle.wavelet.proofs.StoreLaws.{store-none, store-below}
 use Rattle.wavelet.proofs.SideLaws.{count-lo, count-hi, next-start, next-length}
+use Rattle.nine_seven.specs.Filters.{filterOf}
 use Rattle.level.specs.Level.{prev, completes}
 use Rattle.level.proofs.Places.{prev-is}
+use Rattle.filters.proofs.FigureLaws.{store-few}
 use Rattle.writer.specs.Counts.{deeper, deeperBy, further, made, most, mostLeft, bandAt, skip, startOf}
 use lib.Dec.{ltb, leb, eqb}
-use borrow.Author.Tests.{lt-ltb, le-ltb, le-leb, lt-leb, eq-eqb, ne-eqb, eqb-true, ltb-true, leb-true}
+use borrow.Author.Tests.{lt-ltb, le-ltb, le-leb, lt-leb, eq-eqb, eqb-true, ltb-true, leb-true}
 use Rattle.numbers.specs.Signal.{both, pick}
 use Rattle.numbers.proofs.Sweep as sweep
 
@@ -116,25 +119,32 @@ unfolding further
 further-some zero a o h = absurd (omega arith)
 further-some (suc v) a o h = refl
 
-pub start-first : (w : Side) (v : ℕ) → v ≤ 1 → startOf w v ≡ 0
-start-first w zero h = store-none w
-start-first w (suc zero) h = store-none w
-start-first w (suc (suc v)) h = absurd (omega arith)
+-- at the filter of number f
+module _ (f : ℕ) where
+  pub start-first : (w : Side) (v : ℕ) → v ≤ 1 → startOf f w v ≡ 0
+  start-first w zero h = store-none (filterOf f .rows) w
+  start-first w (suc zero) h = store-none (filterOf f .rows) w
+  start-first w (suc (suc v)) h = absurd (omega arith)
 
--- one level deeper
-pub start-more : (w : Side) (v : ℕ) → 1 < v → 4 * w .length + startOf (next w) (v - 1) ≡ startOf w v
-start-more w zero h = absurd (omega arith)
-start-more w (suc zero) h = absurd (omega arith)
-start-more w (suc (suc v)) h = let e : suc (suc v) - 1 ≡ suc v = omega arith in rw e (sym (store-below w v))
+  -- one level deeper
+  pub start-more : (w : Side) (v : ℕ) → 1 < v → filterOf f .rows * w .length + startOf f (next w) (v - 1) ≡ startOf f w v
+  start-more w zero h = absurd (omega arith)
+  start-more w (suc zero) h = absurd (omega arith)
+  start-more w (suc (suc v)) h = let e : suc (suc v) - 1 ≡ suc v = omega arith in rw e (sym (store-below (filterOf f .rows) w v))
 
--- seen from the level above
-pub start-deeper : (w : Side) (v : ℕ) → startOf w (deeper v) ≡ further v (4 * w .length) (startOf (next w) v)
-unfolding deeper further
-start-deeper w zero = store-none w
-start-deeper w (suc v) = store-below w v
+  -- seen from the level above
+  pub start-deeper : (w : Side) (v : ℕ) → startOf f w (deeper v) ≡ further v (filterOf f .rows * w .length) (startOf f (next w) v)
+  unfolding deeper further
+  start-deeper w zero = store-none (filterOf f .rows) w
+  start-deeper w (suc v) = store-below (filterOf f .rows) w v
 
-pub start-le : (w : Side) (v : ℕ) → startOf w v ≤ 8 * w .length + 4 * v
-start-le w v = omega (arith, store-le w (prev v), prev-is v)
+  pub start-small : (w : Side) (v : ℕ) → w .length < 2 ^ 16 → v < 2 ^ 16 → startOf f w v < 2 ^ 32
+  start-small w v h g = omega (arith, store-few f w (prev v), prev-is v)
+
+-- ---- the steps of l levels, a of them each
+pub steps-more : (a l : ℕ) → 0 < l → a * l ≡ a + a * (l - 1)
+steps-more a zero h = absurd (omega arith)
+steps-more a (suc l) h = let e : suc l - 1 ≡ l = omega arith in rw e (omega (arith, mul-suc a l))
 
 -- ---- how many sets are made, at the look-ahead a
 pub made-is : (a c s m : ℕ) → made a c s m ≡ min ((s % 2 + m + 1) / 2) ((s % 2 + (m - 1)) / 2 + 1 - a + c)

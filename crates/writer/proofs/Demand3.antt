@@ -13,49 +13,43 @@ use lib.ListN.{length, take, getD}
 use lib.Dec.{leb, le→leb}
 use Rattle.numbers.specs.Signal.{pick}
 use Rattle.numbers.specs.Word.{whole}
-use Rattle.wavelet.specs.Limits.{maxWidth, maxHeight, maxLevels, maxSample, maxOrigin}
+use Rattle.wavelet.specs.Limits.{maxHeight, maxSample, maxOrigin}
 use Rattle.wavelet.specs.Bands.{Grid}
-use Rattle.wavelet.specs.Questions.{within}
 use Rattle.wavelet.specs.Order.{RowName, inTurn, times, madeBy, closing, made}
-use Rattle.wavelet.proofs.QuestionLaws.{within-true}
 use Rattle.wavelet.proofs.OrderLaws.{turn-prefix}
 use Rattle.lifting.specs.Grid.{Side, side}
 use Rattle.wavelet.specs.Levels.{levelBand}
 use Rattle.wavelet.specs.ViewCall.{bandRowExists}
-use Rattle.wavelet.specs.Store.{storeLength}
 use Rattle.wavelet.proofs.OrderOnce.{made-once}
 use Rattle.wavelet.proofs.Bridge.{map-band}
 use Rattle.calls.specs.Lists.{All}
 use Rattle.calls.proofs.AllLaws.{all-map, all-take, all-at}
-use Rattle.level.specs.Level.{Memory, rest, ahead}
-use Rattle.writer.specs.Kind.{kind}
+use Rattle.nine_seven.specs.Filters.{filterOf}
+use Rattle.nine_seven.proofs.Filters.{filter-laws}
+use Rattle.level.specs.Level.{Memory, rest}
+use Rattle.filters.specs.Figures.{storeBy, streamable}
+use Rattle.filters.proofs.FigureLaws.{streams}
+use Rattle.filters.proofs.ForwardLaws.{laws-of}
 use Rattle.writer.specs.Taking.{columnsOf}
 use Rattle.writer.specs.Questions.{inRanges, setUpQuestion}
 use Rattle.writer.specs.History.{Call, row, Event, World, event, events, final, freshWorld, taken, finishes, finishedBy, DrawnRow, drawn}
 use Rattle.writer.specs.Demand3.{wholeRows, madeOf, waitingOf, answered, Begins, MapOf, HasValues, PlaneDrawn, Demand3}
-use Rattle.writer.proofs.KindLaws.{filter-laws, filter-few}
 use Rattle.writer.proofs.CountLaws.{code-one}
 use Rattle.writer.proofs.StateHolds.{differ, st}
 use Rattle.writer.proofs.CallLaws.{set-up-passed}
 use Rattle.writer.proofs.CallList.{Fits, coming, Right, At, own-sound, in-ranges, rows-all}
 use Rattle.writer.proofs.Reached.{rows-are, waiting-coming, offer-turned, offer-takes, finish-answer, draw-says, then-reached}
 
-few-levels : (l : ℕ) → within 1 maxLevels (suc l) ≡ true → suc l ≤ maxLevels
-few-levels l h = within-true 1 maxLevels (suc l) h .1
-
-some-width : (W : ℕ) → within 1 maxWidth W ≡ true → 0 < W
-some-width W h = within-true 1 maxWidth W h .0
-
--- a drawn row of words is a row of T.800's whole numbers, for a map
-right-values : (L : ℕ) (W : Side) (top H : ℕ) (g : Grid) → L ≤ maxLevels → (es : List Event) → Begins W H g es → (d : DrawnRow) → Right L W top H g d →
-    HasValues W top H g d
-right-values L W top H g few es m d t = record {
+-- a drawn row of words is a row of the filter's whole numbers, for a map; φ is the number of the filter
+right-values : (φ L : ℕ) (W : Side) (top H : ℕ) (g : Grid) → L ≤ filterOf φ .levels → (es : List Event) → Begins W H g es → (d : DrawnRow) →
+    Right φ L W top H g d → HasValues φ W top H g d
+right-values φ L W top H g few es m d t = record {
   are = λ b e j p.
       let same : b ≡ t .band = code-one b (t .band) (sym e ∙ t .band-is) in
       t .values j p
-      ∙ map-band (kind .filter) filter-laws W (side top H) g (m .map) (t .depth) (filter-few (omega (arith, t .deep))) (t .band) (d .row .row) j
+      ∙ map-band (filterOf φ) (filter-laws φ) W (side top H) g (m .map) (t .depth) (omega (arith, t .deep)) (t .band) (d .row .row) j
       (t .row-in) (subst (λ k. j < k) (t .length-is) p)
-      ∙ ap₂ (λ k c. levelBand (kind .filter) whole W (side top H) g k c (d .row .row) j) (sym (t .level-is)) (sym same);
+      ∙ ap₂ (λ k c. levelBand (filterOf φ) whole W (side top H) g k c (d .row .row) j) (sym (t .level-is)) (sym same);
 }
 
 -- a map that begins with the heights taken has at least the rows taken whole
@@ -107,66 +101,73 @@ pub height-range : (h : ℕ) → h ≤ maxSample → (pos 0 ≤ℤ pos h) × (po
 height-range h p = (record { le = le→leb 0 h (omega arith) }, record { le = le→leb h maxSample p })
 
 -- the rows made so far are the first of all
-made-prefix : (W : Side) (top L H r : ℕ) → r ≤ H → (k : List RowName) × (made (ahead kind) W top L r false ++ k ≡ made (ahead kind) W top L H true)
+made-prefix : (φ : ℕ) (W : Side) (top L H r : ℕ) → r ≤ H →
+    (k : List RowName) × (made (filterOf φ .ahead) W top L r false ++ k ≡ made (filterOf φ .ahead) W top L H true)
 unfolding made
-made-prefix W top L H r h =
-    let q = turn-prefix H r (madeBy (ahead kind) L 1 W top) h in (
-      q .0 ++ closing (ahead kind) L 1 W (side top H),
-      ap (λ b. b ++ (q .0 ++ closing (ahead kind) L 1 W (side top H))) (append-nil (inTurn r (madeBy (ahead kind) L 1 W top)))
-          ∙ sym (append-assoc (inTurn r (madeBy (ahead kind) L 1 W top)) (q .0) (closing (ahead kind) L 1 W (side top H)))
-          ∙ ap (λ b. b ++ closing (ahead kind) L 1 W (side top H)) (q .1),
+made-prefix φ W top L H r h =
+    let q = turn-prefix H r (madeBy (filterOf φ .ahead) L 1 W top) h in (
+      q .0 ++ closing (filterOf φ .ahead) L 1 W (side top H),
+      ap (λ b. b ++ (q .0 ++ closing (filterOf φ .ahead) L 1 W (side top H))) (append-nil (inTurn r (madeBy (filterOf φ .ahead) L 1 W top)))
+          ∙ sym (append-assoc (inTurn r (madeBy (filterOf φ .ahead) L 1 W top)) (q .0) (closing (filterOf φ .ahead) L 1 W (side top H)))
+          ∙ ap (λ b. b ++ closing (filterOf φ .ahead) L 1 W (side top H)) (q .1),
     )
 
-module _ (l : ℕ) (W : Side) (top : ℕ) (from : W .start ≤ maxOrigin) (low : top ≤ maxOrigin) (wide : within 1 maxWidth (W .length) ≡ true)
-    (deep : within 1 maxLevels (suc l) ≡ true) (es : List Event) (n r c cl v i : ℕ) (x : Memory)
-    (long : storeLength W (suc l) ≤ n) (a : At (suc l) W top (taken es) (finishedBy es) (drawn es) r c cl v i x) where
+module _ (φ l : ℕ) (W : Side) (top : ℕ) (from : W .start ≤ maxOrigin) (low : top ≤ maxOrigin) (sized : streamable φ W (suc l) ≡ true)
+    (es : List Event) (n r c cl v i : ℕ) (x : Memory) (long : storeBy φ W (suc l) ≤ n)
+    (a : At φ (suc l) W top (taken es) (finishedBy es) (drawn es) r c cl v i x) where
   abbrev M : ℕ
   M = suc l
+
+  some-width : 0 < W .length
+  some-width = streams φ W M sized .width .0
+
+  few : M ≤ filterOf φ .levels
+  few = streams φ W M sized .levels .1
 
   abbrev g₀ : Bool
   g₀ = finishedBy es
 
   abbrev w₀ : World
-  w₀ = record { writer = st W top M r c g₀ cl v i; length = n; store = x }
+  w₀ = record { writer = st φ W top M r c g₀ cl v i; length = n; store = x }
 
   rows-here : wholeRows W es ≡ r
-  rows-here = rows-are l W top from low wide deep es n r c cl v i x long a
+  rows-here = rows-are φ l W top from low sized es n r c cl v i x long a
 
-  waiting-here : waitingOf W top M es ≡ coming M W top g₀ cl v i r
-  waiting-here = waiting-coming l W top from low wide deep es n r c cl v i x long a
+  waiting-here : waitingOf φ W top M es ≡ coming φ M W top g₀ cl v i r
+  waiting-here = waiting-coming φ l W top from low sized es n r c cl v i x long a
 
-  made-here : madeOf W top M es ≡ made (ahead kind) W top M r g₀
+  made-here : madeOf φ W top M es ≡ made (filterOf φ .ahead) W top M r g₀
   unfolding madeOf
-  made-here = ap (λ b. made (ahead kind) W top M b g₀) rows-here
+  made-here = ap (λ b. made (filterOf φ .ahead) W top M b g₀) rows-here
 
-  ordered : map (λ d. d .row) (drawn es) ++ map (answered W) (waitingOf W top M es) ≡ map (answered W) (madeOf W top M es)
+  ordered : map (λ d. d .row) (drawn es) ++ map (answered W) (waitingOf φ W top M es) ≡ map (answered W) (madeOf φ W top M es)
   ordered =
-      let s = own-sound a in
+      let s = own-sound φ a in
       ap₂ (λ b d. b ++ map (answered W) d) (s .named) waiting-here
-      ∙ sym (map-append (answered W) (s .names) (coming M W top g₀ cl v i r))
+      ∙ sym (map-append (answered W) (s .names) (coming φ M W top g₀ cl v i r))
       ∙ ap (map (answered W)) (s .order ∙ sym made-here)
 
-  firsts : (H : ℕ) (g : Grid) → MapOf W H g es → (k : List RowName) × (made (ahead kind) W top M r g₀ ++ k ≡ made (ahead kind) W top M H true)
+  firsts : (H : ℕ) (g : Grid) → MapOf W H g es → (k : List RowName) × (made (filterOf φ .ahead) W top M r g₀ ++ k ≡ made (filterOf φ .ahead) W top M H true)
   firsts H g m = go g₀ refl
     where
       t : Fits W H g (taken es) g₀
       t = map-fits W H g es m
 
-      go : (b : Bool) → g₀ ≡ b → (k : List RowName) × (made (ahead kind) W top M r b ++ k ≡ made (ahead kind) W top M H true)
-      go false e = made-prefix W top M H r (rows-within (W .length) H r c (some-width (W .length) wide) (omega (arith, a .counted, t .within)))
+      go : (b : Bool) → g₀ ≡ b → (k : List RowName) × (made (filterOf φ .ahead) W top M r b ++ k ≡ made (filterOf φ .ahead) W top M H true)
+      go false e = made-prefix φ W top M H r (rows-within (W .length) H r c some-width (omega (arith, a .counted, t .within)))
       go true e =
-          let z : r ≡ H = rows-all (W .length) H r c (some-width (W .length) wide) (a .ended e .1) (sym (a .counted) ∙ t .whole e) in
-          ([], append-nil _ ∙ ap (λ b. made (ahead kind) W top M b true) z)
+          let z : r ≡ H = rows-all (W .length) H r c some-width (a .ended e .1) (sym (a .counted) ∙ t .whole e) in
+          ([], append-nil _ ∙ ap (λ b. made (filterOf φ .ahead) W top M b true) z)
 
   is-first : (H : ℕ) (g : Grid) → MapOf W H g es → (k : List RowName) × (map (λ d. d .row) (drawn es) ++ map (answered W) k ≡ map (answered W)
-      (made (ahead kind) W top M H true))
+      (made (filterOf φ .ahead) W top M H true))
   is-first H g m =
-      let s = own-sound a in
+      let s = own-sound φ a in
       let p = firsts H g m in (
-        coming M W top g₀ cl v i r ++ p .0,
-        ap (λ b. b ++ map (answered W) (coming M W top g₀ cl v i r ++ p .0)) (s .named)
-            ∙ sym (map-append (answered W) (s .names) (coming M W top g₀ cl v i r ++ p .0))
-            ∙ ap (map (answered W)) (sym (append-assoc (s .names) (coming M W top g₀ cl v i r) (p .0)) ∙ ap (λ b. b ++ p .0) (s .order) ∙ p .1),
+        coming φ M W top g₀ cl v i r ++ p .0,
+        ap (λ b. b ++ map (answered W) (coming φ M W top g₀ cl v i r ++ p .0)) (s .named)
+            ∙ sym (map-append (answered W) (s .names) (coming φ M W top g₀ cl v i r ++ p .0))
+            ∙ ap (map (answered W)) (sym (append-assoc (s .names) (coming φ M W top g₀ cl v i r) (p .0)) ∙ ap (λ b. b ++ p .0) (s .order) ∙ p .1),
       )
 
   map-there : All (λ h. h ≤ maxSample) (taken es) → (H : ℕ) × (g : Grid) × MapOf W H g es
@@ -185,14 +186,15 @@ module _ (l : ℕ) (W : Side) (top : ℕ) (from : W .start ≤ maxOrigin) (low :
     },
   )
 
-  early : (H : ℕ) (g : Grid) → Begins W H g es → All (HasValues W top H g) (take (length (made (ahead kind) W top M (wholeRows W es) false)) (drawn es))
+  early : (H : ℕ) (g : Grid) → Begins W H g es →
+      All (HasValues φ W top H g) (take (length (made (filterOf φ .ahead) W top M (wholeRows W es) false)) (drawn es))
   early H g m =
-      subst (λ k. All (HasValues W top H g) (take (length (made (ahead kind) W top M k false)) (drawn es))) (sym rows-here)
-      (all-map (right-values M W top H g (few-levels l deep) es m) (go g₀ refl a))
+      subst (λ k. All (HasValues φ W top H g) (take (length (made (filterOf φ .ahead) W top M k false)) (drawn es))) (sym rows-here)
+      (all-map (right-values φ M W top H g few es m) (go g₀ refl a))
     where
-      go : (b : Bool) → g₀ ≡ b → At M W top (taken es) g₀ (drawn es) r c cl v i x →
-          All (Right M W top H g) (take (length (made (ahead kind) W top M r false)) (drawn es))
-      go false e h = all-take (length (made (ahead kind) W top M r false)) (subst (λ b. At M W top (taken es) b (drawn es) r c cl v i x) e h .sound H g
+      go : (b : Bool) → g₀ ≡ b → At φ M W top (taken es) g₀ (drawn es) r c cl v i x →
+          All (Right φ M W top H g) (take (length (made (filterOf φ .ahead) W top M r false)) (drawn es))
+      go false e h = all-take (length (made (filterOf φ .ahead) W top M r false)) (subst (λ b. At φ M W top (taken es) b (drawn es) r c cl v i x) e h .sound H g
           (begins-fits W H g es m) .values)
       go true e h = h .early e .right H g (begins-fits W H g es m)
 
@@ -205,57 +207,57 @@ module _ (l : ℕ) (W : Side) (top : ℕ) (from : W .start ≤ maxOrigin) (low :
             ∙ ap (λ b. W .length * b) (sym rows-here),
       )
 
-  drew-all : g₀ ≡ true → waitingOf W top M es ≡ [] → PlaneDrawn W top M es
+  drew-all : g₀ ≡ true → waitingOf φ W top M es ≡ [] → PlaneDrawn W top M es
   drew-all e z = record {
-    names = madeOf W top M es;
+    names = madeOf φ W top M es;
     answers = sym (append-nil _) ∙ ap (λ b. map (λ d. d .row) (drawn es) ++ map (answered W) b) (sym z) ∙ ordered;
     once = λ y.
-        ap (times y) (made-here ∙ ap (made (ahead kind) W top M r) e)
-        ∙ made-once (ahead kind) (omega arith) W (side top r) M y
+        ap (times y) (made-here ∙ ap (made (filterOf φ .ahead) W top M r) e)
+        ∙ made-once (filterOf φ .ahead) (laws-of φ .ahead-some) W (side top r) M y
         ∙ ap (λ b. pick (bandRowExists W (side top b) M (y .level) (y .band) (y .row)) 1 0) (sym rows-here);
   }
 
-  claim : Demand3 W top M es (λ k. event k w₀)
+  claim : Demand3 φ W top M es (λ k. event k w₀)
   claim = record {
     in-order = ordered;
-    values = λ H g m. all-map (right-values M W top H g (few-levels l deep) es (m .begins)) (a .sound H g (map-fits W H g es m) .values);
+    values = λ H g m. all-map (right-values φ M W top H g few es (m .begins)) (a .sound H g (map-fits W H g es m) .values);
     early-values = early;
     first = is-first;
     some-map = map-there;
     finished-map = whole-map;
     all-drawn = drew-all;
-    draws = draw-says l W top from low wide deep es n r c cl v i x long a;
-    offers-turned = λ run. offer-turned l W top from low wide deep es n r c cl v i x long a run;
-    offers-taken = λ run. offer-takes l W top from low wide deep es n r c cl v i x long a run;
-    finishes = finish-answer l W top from low wide deep es n r c cl v i x long a;
+    draws = draw-says φ l W top from low sized es n r c cl v i x long a;
+    offers-turned = λ run. offer-turned φ l W top from low sized es n r c cl v i x long a run;
+    offers-taken = λ run. offer-takes φ l W top from low sized es n r c cl v i x long a run;
+    finishes = finish-answer φ l W top from low sized es n r c cl v i x long a;
   }
 
 -- ---- the theorem
-some-level : within 1 maxLevels 0 ≡ true → ⊥
-some-level e = omega (arith, within-true 1 maxLevels 0 e .0)
+some-level : (φ : ℕ) (W : Side) → streamable φ W 0 ≡ true → ⊥
+some-level φ W e = omega (arith, streams φ W 0 e .levels .0)
 
 -- every list of calls on a fresh writer: the state passes question 1, and demand 3 holds
-pub demand-3 : (W : Side) (top L n : ℕ) (x : Memory) → W .start ≤ maxOrigin → top ≤ maxOrigin → setUpQuestion W L n ≡ 0 → (cs : List Call) →
-    (let w = freshWorld W top L n x in (inRanges (final cs w .writer) ≡ true) × Demand3 W top L (events cs w) (λ k. event k (final cs w)))
-demand-3 W top zero n x from low h cs = absurd (some-level (set-up-passed W 0 n h .1))
-demand-3 W top (suc l) n x from low h cs =
-    let p = set-up-passed W (suc l) n h in
-    let w = freshWorld W top (suc l) n x in
-    let m = then-reached l W top from low (p .0) (p .1) n (w .store) (some-width (W .length) (p .0)) (p .2) cs in
+pub demand-3 : (f : ℕ) (W : Side) (top L n : ℕ) (x : Memory) → W .start ≤ maxOrigin → top ≤ maxOrigin → setUpQuestion f W L n ≡ 0 → (cs : List Call) →
+    (let w = freshWorld f W top L n x in (inRanges (final cs w .writer) ≡ true) × Demand3 f W top L (events cs w) (λ k. event k (final cs w)))
+demand-3 f W top zero n x from low h cs = absurd (some-level f W (set-up-passed f W 0 n h .0))
+demand-3 f W top (suc l) n x from low h cs =
+    let p = set-up-passed f W (suc l) n h in
+    let w = freshWorld f W top (suc l) n x in
+    let m = then-reached f l W top from low (p .0) n (w .store) (streams f W (suc l) (p .0) .width .0) (p .1) cs in
     let e = final cs w in
-    subst (λ s. (inRanges s ≡ true) × Demand3 W top (suc l) (events cs w) (λ k. event k (record { writer = s; length = e .length; store = e .store })))
+    subst (λ s. (inRanges s ≡ true) × Demand3 f W top (suc l) (events cs w) (λ k. event k (record { writer = s; length = e .length; store = e .store })))
     (sym (m .writer-is)) (
-      in-ranges (m .at) from low (p .0) (p .1),
-      claim l W top from low (p .0) (p .1) (events cs w) (e .length) (m .rows) (m .column) (m .closed) (m .level) (m .rest)
+      in-ranges f (m .at) from low (p .0),
+      claim f l W top from low (p .0) (events cs w) (e .length) (m .rows) (m .column) (m .closed) (m .level) (m .rest)
           (e .store) (m .long) (m .at),
     )
 
--- and it is still a writer of the set-up's columns
-pub columns-kept : (W : Side) (top L n : ℕ) (x : Memory) → W .start ≤ maxOrigin → top ≤ maxOrigin → setUpQuestion W L n ≡ 0 → (cs : List Call) →
-    columnsOf (final cs (freshWorld W top L n x) .writer) ≡ W
-columns-kept W top zero n x from low h cs = absurd (some-level (set-up-passed W 0 n h .1))
-columns-kept W top (suc l) n x from low h cs =
-    let p = set-up-passed W (suc l) n h in
-    let w = freshWorld W top (suc l) n x in
-    let m = then-reached l W top from low (p .0) (p .1) n (w .store) (some-width (W .length) (p .0)) (p .2) cs in
-    ap columnsOf (m .writer-is)
+-- and it is still a writer of the set-up's filter and columns
+pub set-up-stays : (f : ℕ) (W : Side) (top L n : ℕ) (x : Memory) → W .start ≤ maxOrigin → top ≤ maxOrigin → setUpQuestion f W L n ≡ 0 → (cs : List Call) →
+    (let s = final cs (freshWorld f W top L n x) .writer in (s .filter ≡ f) × (columnsOf s ≡ W))
+set-up-stays f W top zero n x from low h cs = absurd (some-level f W (set-up-passed f W 0 n h .0))
+set-up-stays f W top (suc l) n x from low h cs =
+    let p = set-up-passed f W (suc l) n h in
+    let w = freshWorld f W top (suc l) n x in
+    let m = then-reached f l W top from low (p .0) n (w .store) (streams f W (suc l) (p .0) .width .0) (p .1) cs in
+    (ap (λ s. s .filter) (m .writer-is), ap columnsOf (m .writer-is))

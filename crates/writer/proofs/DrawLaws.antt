@@ -9,65 +9,25 @@ use Rattle.wavelet.specs.Levels.{next}
 use Rattle.wavelet.specs.Order.{setRow}
 use Rattle.wavelet.proofs.SideLaws.{next-le}
 use Rattle.wavelet.proofs.StoreLaws.{store-back, store-next}
-use Rattle.level.specs.Level.{Memory, prev, rest, joinAt, ahead}
-use Rattle.level.specs.FiveThreeLevel.{fiveThree, bandPlace}
-use Rattle.level.proofs.Places.{place-room, prev-is}
+use Rattle.nine_seven.specs.Filters.{filterOf}
+use Rattle.level.specs.Level.{Memory, LevelKind, prev, rest, joinAt}
+use Rattle.level.proofs.Places.{prev-is}
 use Rattle.level.proofs.RestLaws.{rest-at, join-below, join-past}
+use Rattle.filters.specs.Forward.{kindOf}
+use Rattle.filters.proofs.ForwardLaws.{place-room}
 use Rattle.writer.specs.declared.Writer.{Writer}
 use Rattle.writer.specs.declared.cascade.Wait.{Wait}
 use Rattle.writer.specs.declared.draws.Level.{Level}
 use Rattle.writer.specs.Counts.{deeperBy, further, made, lowRows, bandAt, skip, startOf}
 use Rattle.writer.specs.Machine.{Out, under, settled, passOn}
 use Rattle.writer.specs.Draws.{lower, rowOf, waiting, pull}
-use Rattle.writer.specs.Taking.{columnsOf}
+use Rattle.writer.specs.Taking.{kind, columnsOf}
 use Rattle.writer.specs.Questions.{waitingRow}
 use Rattle.writer.specs.Calls.{pulled}
 use Rattle.writer.specs.Steps.{Left, Found, Reaches, columns, received, waitingAt, pullAt, from, spotOf, Walk}
 use Rattle.writer.proofs.CountLaws.{start-first, start-deeper, further-none, further-some, deeper-by-same, deeper-by-more, deeper-by-none}
 use Rattle.writer.proofs.CountLaws.{deeper-by-some, deeper-by-le, made-le, low-le, start-more}
 use Rattle.writer.proofs.CascadeLaws.{left-same, settled-waits, settled-goes}
-
--- the look-ahead
-abbrev A : ℕ
-A = ahead fiveThree
-
-module _ (w : Side) (s c i m : ℕ) where
-  pub waiting-here : (l v : ℕ) → 0 < l → v ≡ 1 → waiting fiveThree l w s c v i m ≡ rowOf fiveThree w (side s m) (prev (made A c s m)) (bandAt (prev i))
-  unfolding waiting
-  waiting-here zero v h e = absurd (omega arith)
-  waiting-here (suc l) zero h e = absurd (omega arith)
-  waiting-here (suc l) (suc zero) h e = refl
-  waiting-here (suc l) (suc (suc v)) h e = absurd (omega arith)
-
-  pub waiting-below : (l v : ℕ) → 0 < l → 1 < v → waiting fiveThree l w s c v i m ≡ lower (4 * w .length) (waiting fiveThree (l - 1) (next w)
-      ((s + 1) / 2) (c - A) (v - 1) i (lowRows s (made A c s m)))
-  unfolding waiting
-  waiting-below zero v h e = absurd (omega arith)
-  waiting-below (suc l) zero h e = absurd (omega arith)
-  waiting-below (suc l) (suc zero) h e = absurd (omega arith)
-  waiting-below (suc l) (suc (suc v)) h e =
-      let p : suc l - 1 ≡ l = omega arith in
-      let q : suc (suc v) - 1 ≡ suc v = omega arith in
-      rw (p, q) refl
-
-  pub pull-here : (l v : ℕ) (x : Memory) → 0 < l → v ≡ 1 → pull fiveThree l w s c v i m x ≡ settled (passOn fiveThree (l - 1) w s) (prev (made A c s m)) x
-      (skip w (side s m) (prev (made A c s m)) (prev i))
-  unfolding pull
-  pull-here zero v x h e = absurd (omega arith)
-  pull-here (suc l) zero x h e = absurd (omega arith)
-  pull-here (suc l) (suc zero) x h e = let p : suc l - 1 ≡ l = omega arith in rw p refl
-  pull-here (suc l) (suc (suc v)) x h e = absurd (omega arith)
-
-  pub pull-below : (l v : ℕ) (x : Memory) → 0 < l → 1 < v → pull fiveThree l w s c v i m x ≡ under (4 * w .length) x (pull fiveThree (l - 1) (next w)
-      ((s + 1) / 2) (c - A) (v - 1) i (lowRows s (made A c s m)) (rest (4 * w .length) x))
-  unfolding pull
-  pull-below zero v x h e = absurd (omega arith)
-  pull-below (suc l) zero x h e = absurd (omega arith)
-  pull-below (suc l) (suc zero) x h e = absurd (omega arith)
-  pull-below (suc l) (suc (suc v)) x h e =
-      let p : suc l - 1 ≡ l = omega arith in
-      let q : suc (suc v) - 1 ≡ suc v = omega arith in
-      rw (p, q) refl
 
 -- ---- the store from a place on, in two steps
 pub rest-rest : (a b : ℕ) (x : Memory) → rest b (rest a x) ≡ rest (a + b) x
@@ -110,46 +70,6 @@ rest-first x = fun-ext λ j. let k : 0 + j ≡ j = omega arith in rest-at 0 x j 
 from-first : (x : Memory) (o : Out) → from 0 0 x o ≡ o
 from-first x o = rw (join-first x (o .store), deeper-by-same (o .level)) refl
 
-module _ (w : Side) (s c m l v a i : ℕ) (e : v ≡ 1) (z : a ≡ 0) where
-  abbrev first : Level
-  first = record { below = l; width = w .length; x = w .start; rows = m; y = s; set = prev (made A c s m) }
-
-  at-first : waitingAt v a first i ≡ rowOf fiveThree w (side s m) (prev (made A c s m)) (bandAt (prev i))
-  unfolding waitingAt
-  at-first =
-      let k : 0 + bandPlace w (prev (made A c s m)) (bandAt (prev i)) ≡ bandPlace w (prev (made A c s m)) (bandAt (prev i)) = omega arith in
-      rw (z, e, k) refl
-
-  pull-first : (x : Memory) → pullAt v a first i x ≡ settled (passOn fiveThree l w s)
-      (prev (made A c s m)) x (skip w (side s m) (prev (made A c s m)) (prev i))
-  unfolding pullAt
-  pull-first x = rw (z, e, rest-first x) (from-first x _)
-
-starts-here : (w : Side) (v u : ℕ) → v ≡ 1 → startOf w (deeperBy (prev v) u) ≡ further u (startOf w v) (startOf w u)
-starts-here w v zero e =
-    sym (ap (startOf w) (deeper-by-none (prev v) 0 refl)) ∙ start-first w 0 (omega arith) ∙ further-none 0 (startOf w v) (startOf w 0) refl
-starts-here w v (suc u) e =
-    let k : prev v ≡ 0 = omega (arith, prev-is v) in
-    let z = start-first w v (omega arith) in
-    let q : startOf w (suc u) ≡ startOf w v + startOf w (suc u) = omega (arith, z) in
-    ap (λ (k : ℕ). startOf w (deeperBy k (suc u))) k ∙ ap (startOf w) (deeper-by-same (suc u)) ∙ q ∙ further-some (suc u) (startOf w v) _ (omega arith)
-
-pub reaches-here : (l : ℕ) (w : Side) (s c v m : ℕ) → 0 < l → v ≡ 1 → w .length < 2 ^ 16 → m < 2 ^ 32 →
-    Reaches l w s c v m (record { below = l - 1; width = w .length; x = w .start; rows = m; y = s; set = prev (made A c s m) })
-reaches-here l w s c v m h e g g′ =
-    let z = start-first w v (omega arith) in
-    let k : l - 1 + 1 ≡ l = omega arith in
-    record {
-      waits = λ i. waiting-here w s c i m l v h e ∙ sym (at-first w s c m (l - 1) v (startOf w v) i e z);
-      pulls = λ i x. pull-here w s c i m l v x h e ∙ sym (pull-first w s c m (l - 1) v (startOf w v) i e z x);
-      starts = λ u. starts-here w v u e;
-      room = rw (z, k) (omega arith);
-      wide = g;
-      rows = g′;
-      sets = omega (arith, prev-is (made A c s m), made-le A c s m);
-      deep = omega arith;
-    }
-
 -- the level before v
 prev-more : (v : ℕ) → 1 < v → suc (prev (v - 1)) ≡ prev v
 prev-more v h = omega (arith, prev-is v, prev-is (v - 1))
@@ -157,144 +77,238 @@ prev-more v h = omega (arith, prev-is v, prev-is (v - 1))
 from-under : (k a b : ℕ) (x : Memory) (o : Out) → under a x (from k b (rest a x) o) ≡ from (suc k) (a + b) x o
 from-under k a b x o = rw (join-join a b x (o .store), deeper-by-more k (o .level)) refl
 
-module _ (w : Side) (v : ℕ) (r : Level) (i : ℕ) (g : 1 < v) where
-  at-below : lower (4 * w .length) (waitingAt (v - 1) (startOf (next w) (v - 1)) r i) ≡ waitingAt v (startOf w v) r i
-  unfolding waitingAt
-  at-below =
-      let a = startOf (next w) (v - 1) in
-      let d = bandPlace (columns r) (r .set) (bandAt (prev i)) in
-      let e : suc (v - 1) ≡ v = omega arith in
-      let q : 4 * w .length + (a + d) ≡ startOf w v + d = omega (arith, start-more w v g) in
-      rw (e, q) refl
+-- φ is the number of the filter
+module _ (φ : ℕ) where
+  abbrev K : LevelKind
+  K = kindOf φ
 
-  pull-more : (x : Memory) → under (4 * w .length) x (pullAt (v - 1) (startOf (next w) (v - 1)) r i (rest (4 * w .length) x)) ≡ pullAt v (startOf w v) r i x
-  unfolding pullAt
-  pull-more x =
-      from-under (prev (v - 1)) (4 * w .length) (startOf (next w) (v - 1)) x _
-      ∙ rw (rest-rest (4 * w .length) (startOf (next w) (v - 1)) x, start-more w v g, prev-more v g) refl
+  -- the rows that a level keeps, and the look-ahead
+  abbrev R : ℕ
+  R = filterOf φ .rows
 
-starts-below : (w : Side) (v : ℕ) (h : Side) (u : ℕ) → 1 < v →
-    startOf (next w) (deeperBy (prev (v - 1)) u) ≡ further u (startOf (next w) (v - 1)) (startOf h u) →
-    startOf w (deeperBy (prev v) u) ≡ further u (startOf w v) (startOf h u)
-starts-below w v h zero g f =
-    sym (ap (startOf w) (deeper-by-none (prev v) 0 refl)) ∙ start-first w 0 (omega arith) ∙ further-none 0 (startOf w v) (startOf h 0) refl
-starts-below w v h (suc u) g f =
-    let k = prev (v - 1) in
-    let a = startOf (next w) (v - 1) in
-    let e : prev v ≡ suc k = sym (prev-more v g) in
-    let more : 0 < deeperBy k (suc u) = omega (arith, deeper-by-some k (suc u) (omega arith)) in
-    let sum : 4 * w .length + (a + startOf h (suc u)) ≡ startOf w v + startOf h (suc u) = omega (arith, start-more w v g) in
-    ap (λ (k : ℕ). startOf w (deeperBy k (suc u))) e
-    ∙ sym (ap (startOf w) (deeper-by-more k (suc u)))
-    ∙ start-deeper w (deeperBy k (suc u))
-    ∙ sym (further-some (deeperBy k (suc u)) (4 * w .length) _ more)
-    ∙ ap (_+_ (4 * w .length)) (f ∙ sym (further-some (suc u) a (startOf h (suc u)) (omega arith)))
-    ∙ sum
-    ∙ further-some (suc u) (startOf w v) _ (omega arith)
+  abbrev A : ℕ
+  A = filterOf φ .ahead
 
-pub reaches-below : (l : ℕ) (w : Side) (s c v m : ℕ) (h : Side) (b p k : ℕ) (r : Level) → 1 < v → v ≤ l → h ≡ next w → b ≡ (s + 1) / 2 → p ≡ c - A →
-    k ≡ lowRows s (made A c s m) → Reaches (l - 1) h b p (v - 1) k r → Reaches l w s c v m r
-reaches-below l w s c v m h b p k r g g′ eh eb ep ek f =
-    let below : Reaches (l - 1) (next w) ((s + 1) / 2) (c - A) (v - 1) (lowRows s (made A c s m)) r = rw (eh, eb, ep, ek) at f in
-    record {
-      waits = λ i. waiting-below w s c i m l v (omega arith) g ∙ ap (lower (4 * w .length)) (below .waits i) ∙ at-below w v r i g;
-      pulls =
-          λ i x. pull-below w s c i m l v x (omega arith) g ∙ ap (under (4 * w .length) x) (below .pulls i (rest (4 * w .length) x)) ∙ pull-more w v r i g x;
-      starts = λ u. starts-below w v (columns r) u g (below .starts u);
-      room = omega (arith, below .room, start-more w v g, store-back w l (omega arith));
-      wide = f .wide;
-      rows = f .rows;
-      sets = f .sets;
-      deep = omega (arith, f .deep);
-    }
+  module _ (w : Side) (s c i m : ℕ) where
+    pub waiting-here : (l v : ℕ) → 0 < l → v ≡ 1 → waiting K l w s c v i m ≡ rowOf K w (side s m) (prev (made A c s m)) (bandAt (prev i))
+    unfolding waiting
+    waiting-here zero v h e = absurd (omega arith)
+    waiting-here (suc l) zero h e = absurd (omega arith)
+    waiting-here (suc l) (suc zero) h e = refl
+    waiting-here (suc l) (suc (suc v)) h e = absurd (omega arith)
 
--- the way down from the first of l levels to level v has come to level k, of the columns u and n rows that start at t, b levels closed from there on: what is
--- found from there is what is found from the first
-module _ (l : ℕ) (w : Side) (s c v m : ℕ) where
-  pub record Walked (u : Side) (t b n k : ℕ) : Type 0 where
-    pub first : 0 < k
-    pub last : k ≤ v
-    pub wide : u .length < 2 ^ 16
-    pub rows : n < 2 ^ 32
-    pub found : (r : Level) → Reaches (l - (v - k)) u t b k n r → Reaches l w s c v m r
+    pub waiting-below : (l v : ℕ) → 0 < l → 1 < v → waiting K l w s c v i m ≡ lower (R * w .length) (waiting K (l - 1) (next w)
+        ((s + 1) / 2) (c - A) (v - 1) i (lowRows s (made A c s m)))
+    unfolding waiting
+    waiting-below zero v h e = absurd (omega arith)
+    waiting-below (suc l) zero h e = absurd (omega arith)
+    waiting-below (suc l) (suc zero) h e = absurd (omega arith)
+    waiting-below (suc l) (suc (suc v)) h e =
+        let p : suc l - 1 ≡ l = omega arith in
+        let q : suc (suc v) - 1 ≡ suc v = omega arith in
+        rw (p, q) refl
 
-  pub walk-start : Walk l w v m → Walked w s c m v
-  walk-start h =
-      let e : l - (v - v) ≡ l = omega arith in
-      record { first = h .first; last = omega arith; wide = h .wide; rows = h .rows; found = λ r f. rw e at f }
+    pub pull-here : (l v : ℕ) (x : Memory) → 0 < l → v ≡ 1 → pull K l w s c v i m x ≡ settled (passOn K (l - 1) w s) (prev (made A c s m)) x
+        (skip w (side s m) (prev (made A c s m)) (prev i))
+    unfolding pull
+    pull-here zero v x h e = absurd (omega arith)
+    pull-here (suc l) zero x h e = absurd (omega arith)
+    pull-here (suc l) (suc zero) x h e = let p : suc l - 1 ≡ l = omega arith in rw p refl
+    pull-here (suc l) (suc (suc v)) x h e = absurd (omega arith)
 
-  module _ (u : Side) (t b n k : ℕ) (d : v ≤ l) (h : Walked u t b n k) where
-    pub walk-on : (u′ : Side) (t′ b′ n′ : ℕ) → 1 < k → u′ ≡ next u → t′ ≡ (t + 1) / 2 → b′ ≡ b - A → n′ ≡ lowRows t (made A b t n) → Walked u′ t′ b′ n′ (k - 1)
-    walk-on u′ t′ b′ n′ g eu et eb en =
-        let below : (r : Level) → Reaches (l - (v - (k - 1))) u′ t′ b′ (k - 1) n′ r → Reaches l w s c v m r =
-        λ r f.
-        let e : l - (v - (k - 1)) ≡ l - (v - k) - 1 = omega (arith, h .last) in
-        h .found r (reaches-below (l - (v - k)) u t b k n u′ t′ b′ n′ r g (omega (arith, h .last)) eu et eb en (rw e at f)) in
-        record {
-          first = omega arith;
-          last = omega (arith, h .last);
-          wide = omega (arith, h .wide, next-le u, ap (λ (S : Side). S .length) eu);
-          rows = omega (arith, h .rows, low-le A b t n);
-          found = below;
-        }
+    pub pull-below : (l v : ℕ) (x : Memory) → 0 < l → 1 < v → pull K l w s c v i m x ≡ under (R * w .length) x (pull K (l - 1) (next w)
+        ((s + 1) / 2) (c - A) (v - 1) i (lowRows s (made A c s m)) (rest (R * w .length) x))
+    unfolding pull
+    pull-below zero v x h e = absurd (omega arith)
+    pull-below (suc l) zero x h e = absurd (omega arith)
+    pull-below (suc l) (suc zero) x h e = absurd (omega arith)
+    pull-below (suc l) (suc (suc v)) x h e =
+        let p : suc l - 1 ≡ l = omega arith in
+        let q : suc (suc v) - 1 ≡ suc v = omega arith in
+        rw (p, q) refl
 
-    pub walk-end : (i j : ℕ) → k ≤ 1 → i ≡ made A b t n → j ≡ prev i →
-        Reaches l w s c v m (record { below = l - v; width = u .length; x = u .start; rows = n; y = t; set = j })
-    walk-end i j g ei ej =
-        let e : l - (v - k) - 1 ≡ l - v = omega (arith, h .first, h .last) in
-        let z : prev (made A b t n) ≡ j = sym (ej ∙ ap prev ei) in
-        let f :
-        Reaches (l - (v - k)) u t b k n (record { below = l - (v - k) - 1; width = u .length; x = u .start; rows = n; y = t; set = prev (made A b t n) }) =
-        reaches-here (l - (v - k)) u t b k n (omega (arith, h .first, h .last)) (omega (arith, h .first)) (h .wide) (h .rows) in
-        h .found _ (rw (e, z) at f)
+  module _ (w : Side) (s c m l v a i : ℕ) (e : v ≡ 1) (z : a ≡ 0) where
+    abbrev first : Level
+    first = record { below = l; width = w .length; x = w .start; rows = m; y = s; set = prev (made A c s m) }
 
--- ---- the row that waits, and what the draw of it leaves
-module _ (v a : ℕ) (r : Level) (i : ℕ) where
-  at-is : (j b n d p : ℕ) → j ≡ prev i → b ≡ code (bandAt j) → n ≡ setRow (received r) (bandAt j) (r .set) → d ≡ count (across (bandAt j)) (columns r) →
-      p ≡ bandPlace (columns r) (r .set) (bandAt j) → record { level = v; band = b; row = n; length = d; start = a + p } ≡ spotOf (waitingAt v a r i)
-  unfolding waitingAt
-  at-is j b n d p ej eb en ed ep = cc
+    at-first : waitingAt φ v a first i ≡ rowOf K w (side s m) (prev (made A c s m)) (bandAt (prev i))
+    unfolding waitingAt
+    at-first =
+        let k : 0 + K .place w s (prev (made A c s m)) (bandAt (prev i)) ≡ K .place w s (prev (made A c s m)) (bandAt (prev i)) = omega arith in
+        rw (z, e, k) refl
 
-  pull-is : (x : Memory) (p j : ℕ) → p ≡ prev i → j ≡ skip (columns r) (received r) (r .set) p →
-      pullAt v a r i x ≡ from (prev v) a x (settled (passOn fiveThree (r .below) (columns r) (r .y)) (r .set) (rest a x) j)
-  unfolding pullAt
-  pull-is x p j ep ej = cc
+    pull-first : (x : Memory) → pullAt φ v a first i x ≡ settled (passOn K l w s)
+        (prev (made A c s m)) x (skip w (side s m) (prev (made A c s m)) (prev i))
+    unfolding pullAt
+    pull-first x = rw (z, e, rest-first x) (from-first x _)
 
-module _ (s : Writer) (r : Level) (f : Reaches (s .levels) (columnsOf s) (s .y) (s .closed) (s .level) (s .rows) r) (placed : s .offset ≡ startOf (columnsOf s)
-    (s .level)) where
-  row-is : waitingRow s ≡ waitingAt (s .level) (s .offset) r (s .left)
-  row-is = f .waits (s .left) ∙ ap (λ (a : ℕ). waitingAt (s .level) a r (s .left)) (sym placed)
+  starts-here : (w : Side) (v u : ℕ) → v ≡ 1 → startOf φ w (deeperBy (prev v) u) ≡ further u (startOf φ w v) (startOf φ w u)
+  starts-here w v zero e =
+      sym (ap (startOf φ w) (deeper-by-none (prev v) 0 refl)) ∙ start-first φ w 0 (omega arith) ∙ further-none 0 (startOf φ w v) (startOf φ w 0) refl
+  starts-here w v (suc u) e =
+      let k : prev v ≡ 0 = omega (arith, prev-is v) in
+      let z = start-first φ w v (omega arith) in
+      let q : startOf φ w (suc u) ≡ startOf φ w v + startOf φ w (suc u) = omega (arith, z) in
+      ap (λ (k : ℕ). startOf φ w (deeperBy k (suc u))) k ∙ ap (startOf φ w) (deeper-by-same (suc u)) ∙ q ∙ further-some (suc u) (startOf φ w v) _ (omega arith)
+
+  pub reaches-here : (l : ℕ) (w : Side) (s c v m : ℕ) → 0 < l → v ≡ 1 → w .length < 2 ^ 16 → m < 2 ^ 32 →
+      Reaches φ l w s c v m (record { below = l - 1; width = w .length; x = w .start; rows = m; y = s; set = prev (made A c s m) })
+  reaches-here l w s c v m h e g g′ =
+      let z = start-first φ w v (omega arith) in
+      let k : l - 1 + 1 ≡ l = omega arith in
+      record {
+        waits = λ i. waiting-here w s c i m l v h e ∙ sym (at-first w s c m (l - 1) v (startOf φ w v) i e z);
+        pulls = λ i x. pull-here w s c i m l v x h e ∙ sym (pull-first w s c m (l - 1) v (startOf φ w v) i e z x);
+        starts = λ u. starts-here w v u e;
+        room = rw (z, k) (omega arith);
+        wide = g;
+        rows = g′;
+        sets = omega (arith, prev-is (made A c s m), made-le A c s m);
+        deep = omega arith;
+      }
+
+  module _ (w : Side) (v : ℕ) (r : Level) (i : ℕ) (g : 1 < v) where
+    at-below : lower (R * w .length) (waitingAt φ (v - 1) (startOf φ (next w) (v - 1)) r i) ≡ waitingAt φ v (startOf φ w v) r i
+    unfolding waitingAt
+    at-below =
+        let a = startOf φ (next w) (v - 1) in
+        let d = K .place (columns r) (r .y) (r .set) (bandAt (prev i)) in
+        let e : suc (v - 1) ≡ v = omega arith in
+        let q : R * w .length + (a + d) ≡ startOf φ w v + d = omega (arith, start-more φ w v g) in
+        rw (e, q) refl
+
+    pull-more : (x : Memory) → under (R * w .length) x (pullAt φ (v - 1) (startOf φ (next w) (v - 1)) r i (rest (R * w .length) x))
+        ≡ pullAt φ v (startOf φ w v) r i x
+    unfolding pullAt
+    pull-more x =
+        from-under (prev (v - 1)) (R * w .length) (startOf φ (next w) (v - 1)) x _
+        ∙ rw (rest-rest (R * w .length) (startOf φ (next w) (v - 1)) x, start-more φ w v g, prev-more v g) refl
+
+  starts-below : (w : Side) (v : ℕ) (h : Side) (u : ℕ) → 1 < v →
+      startOf φ (next w) (deeperBy (prev (v - 1)) u) ≡ further u (startOf φ (next w) (v - 1)) (startOf φ h u) →
+      startOf φ w (deeperBy (prev v) u) ≡ further u (startOf φ w v) (startOf φ h u)
+  starts-below w v h zero g f =
+      sym (ap (startOf φ w) (deeper-by-none (prev v) 0 refl)) ∙ start-first φ w 0 (omega arith) ∙ further-none 0 (startOf φ w v) (startOf φ h 0) refl
+  starts-below w v h (suc u) g f =
+      let k = prev (v - 1) in
+      let a = startOf φ (next w) (v - 1) in
+      let e : prev v ≡ suc k = sym (prev-more v g) in
+      let more : 0 < deeperBy k (suc u) = omega (arith, deeper-by-some k (suc u) (omega arith)) in
+      let sum : R * w .length + (a + startOf φ h (suc u)) ≡ startOf φ w v + startOf φ h (suc u) = omega (arith, start-more φ w v g) in
+      ap (λ (k : ℕ). startOf φ w (deeperBy k (suc u))) e
+      ∙ sym (ap (startOf φ w) (deeper-by-more k (suc u)))
+      ∙ start-deeper φ w (deeperBy k (suc u))
+      ∙ sym (further-some (deeperBy k (suc u)) (R * w .length) _ more)
+      ∙ ap (_+_ (R * w .length)) (f ∙ sym (further-some (suc u) a (startOf φ h (suc u)) (omega arith)))
+      ∙ sum
+      ∙ further-some (suc u) (startOf φ w v) _ (omega arith)
+
+  pub reaches-below : (l : ℕ) (w : Side) (s c v m : ℕ) (h : Side) (b p k : ℕ) (r : Level) → 1 < v → v ≤ l → h ≡ next w → b ≡ (s + 1) / 2 → p ≡ c - A →
+      k ≡ lowRows s (made A c s m) → Reaches φ (l - 1) h b p (v - 1) k r → Reaches φ l w s c v m r
+  reaches-below l w s c v m h b p k r g g′ eh eb ep ek f =
+      let below : Reaches φ (l - 1) (next w) ((s + 1) / 2) (c - A) (v - 1) (lowRows s (made A c s m)) r = rw (eh, eb, ep, ek) at f in
+      record {
+        waits = λ i. waiting-below w s c i m l v (omega arith) g ∙ ap (lower (R * w .length)) (below .waits i) ∙ at-below w v r i g;
+        pulls =
+            λ i x. pull-below w s c i m l v x (omega arith) g ∙ ap (under (R * w .length) x) (below .pulls i (rest (R * w .length) x)) ∙ pull-more w v r i g x;
+        starts = λ u. starts-below w v (columns r) u g (below .starts u);
+        room = omega (arith, below .room, start-more φ w v g, store-back R w l (omega arith));
+        wide = f .wide;
+        rows = f .rows;
+        sets = f .sets;
+        deep = omega (arith, f .deep);
+      }
+
+  -- the way down from the first of l levels to level v has come to level k, of the columns u and n rows that start at t, b levels closed from there on: what is
+  -- found from there is what is found from the first
+  module _ (l : ℕ) (w : Side) (s c v m : ℕ) where
+    pub record Walked (u : Side) (t b n k : ℕ) : Type 0 where
+      pub first : 0 < k
+      pub last : k ≤ v
+      pub wide : u .length < 2 ^ 16
+      pub rows : n < 2 ^ 32
+      pub found : (r : Level) → Reaches φ (l - (v - k)) u t b k n r → Reaches φ l w s c v m r
+
+    pub walk-start : Walk l w v m → Walked w s c m v
+    walk-start h =
+        let e : l - (v - v) ≡ l = omega arith in
+        record { first = h .first; last = omega arith; wide = h .wide; rows = h .rows; found = λ r f. rw e at f }
+
+    module _ (u : Side) (t b n k : ℕ) (d : v ≤ l) (h : Walked u t b n k) where
+      pub walk-on : (u′ : Side) (t′ b′ n′ : ℕ) → 1 < k → u′ ≡ next u → t′ ≡ (t + 1) / 2 → b′ ≡ b - A → n′ ≡ lowRows t (made A b t n) →
+          Walked u′ t′ b′ n′ (k - 1)
+      walk-on u′ t′ b′ n′ g eu et eb en =
+          let below : (r : Level) → Reaches φ (l - (v - (k - 1))) u′ t′ b′ (k - 1) n′ r → Reaches φ l w s c v m r =
+          λ r f.
+          let e : l - (v - (k - 1)) ≡ l - (v - k) - 1 = omega (arith, h .last) in
+          h .found r (reaches-below (l - (v - k)) u t b k n u′ t′ b′ n′ r g (omega (arith, h .last)) eu et eb en (rw e at f)) in
+          record {
+            first = omega arith;
+            last = omega (arith, h .last);
+            wide = omega (arith, h .wide, next-le u, ap (λ (S : Side). S .length) eu);
+            rows = omega (arith, h .rows, low-le A b t n);
+            found = below;
+          }
+
+      pub walk-end : (i j : ℕ) → k ≤ 1 → i ≡ made A b t n → j ≡ prev i →
+          Reaches φ l w s c v m (record { below = l - v; width = u .length; x = u .start; rows = n; y = t; set = j })
+      walk-end i j g ei ej =
+          let e : l - (v - k) - 1 ≡ l - v = omega (arith, h .first, h .last) in
+          let z : prev (made A b t n) ≡ j = sym (ej ∙ ap prev ei) in
+          let f :
+          Reaches φ (l - (v - k)) u t b k n (record { below = l - (v - k) - 1; width = u .length; x = u .start; rows = n; y = t; set = prev (made A b t n) }) =
+          reaches-here (l - (v - k)) u t b k n (omega (arith, h .first, h .last)) (omega (arith, h .first)) (h .wide) (h .rows) in
+          h .found _ (rw (e, z) at f)
+
+  -- ---- the row that waits, and what the draw of it leaves
+  module _ (v a : ℕ) (r : Level) (i : ℕ) where
+    at-is : (j b n d p : ℕ) → j ≡ prev i → b ≡ code (bandAt j) → n ≡ setRow (received r) (bandAt j) (r .set) → d ≡ count (across (bandAt j)) (columns r) →
+        p ≡ K .place (columns r) (r .y) (r .set) (bandAt j) → record { level = v; band = b; row = n; length = d; start = a + p } ≡ spotOf (waitingAt φ v a r i)
+    unfolding waitingAt
+    at-is j b n d p ej eb en ed ep = cc
+
+    pull-is : (x : Memory) (p j : ℕ) → p ≡ prev i → j ≡ skip (columns r) (received r) (r .set) p →
+        pullAt φ v a r i x ≡ from (prev v) a x (settled (passOn K (r .below) (columns r) (r .y)) (r .set) (rest a x) j)
+    unfolding pullAt
+    pull-is x p j ep ej = cc
+
+module _ (s : Writer) (r : Level) (f : Reaches (s .filter) (s .levels) (columnsOf s) (s .y) (s .closed) (s .level) (s .rows) r)
+    (placed : s .offset ≡ startOf (s .filter) (columnsOf s) (s .level)) where
+  row-is : waitingRow s ≡ waitingAt (s .filter) (s .level) (s .offset) r (s .left)
+  row-is = f .waits (s .left) ∙ ap (λ (a : ℕ). waitingAt (s .filter) (s .level) a r (s .left)) (sym placed)
 
   pub found : (i b n d p : ℕ) → 0 < s .level → i ≡ prev (s .left) → b ≡ code (bandAt i) → n ≡ setRow (received r) (bandAt i) (r .set) →
-      d ≡ count (across (bandAt i)) (columns r) → p ≡ bandPlace (columns r) (r .set) (bandAt i) → Found (s .levels) (columnsOf s) (waitingRow s)
+      d ≡ count (across (bandAt i)) (columns r) → p ≡ kind s .place (columns r) (r .y) (r .set) (bandAt i) →
+      Found (s .filter) (s .levels) (columnsOf s) (waitingRow s)
       (record { level = s .level; band = b; row = n; length = d; start = s .offset + p })
   found i b n d p h ei eb en ed ep =
-      let q = place-room (columns r) (r .set) (bandAt i) in
-      let g = store-next (columns r) (r .below) in
+      let q = place-room (s .filter) (columns r) (r .y) (r .set) (bandAt i) in
+      let g = store-next (filterOf (s .filter) .rows) (columns r) (r .below) in
       record {
-        spot = at-is (s .level) (s .offset) r (s .left) i b n d p ei eb en ed ep ∙ ap spotOf (sym row-is);
+        spot = at-is (s .filter) (s .level) (s .offset) r (s .left) i b n d p ei eb en ed ep ∙ ap spotOf (sym row-is);
         room = omega (arith, placed, f .room);
         within = omega (arith, f .deep);
       }
 
   module _ (x : Memory) (p i : ℕ) (ep : p ≡ prev (s .left)) (ei : i ≡ skip (columns r) (received r) (r .set) p) where
-    draw-is : pulled s x ≡ from (prev (s .level)) (s .offset) x (settled (passOn fiveThree (r .below) (columns r) (r .y)) (r .set) (rest (s .offset) x) i)
+    draw-is : pulled s x ≡ from (prev (s .level)) (s .offset) x (settled (passOn (kind s) (r .below) (columns r) (r .y)) (r .set) (rest (s .offset) x) i)
     draw-is =
         f .pulls (s .left) x
-        ∙ ap (λ (a : ℕ). pullAt (s .level) a r (s .left) x) (sym placed)
-        ∙ pull-is (s .level) (s .offset) r (s .left) x p i ep ei
+        ∙ ap (λ (a : ℕ). pullAt (s .filter) (s .level) a r (s .left) x) (sym placed)
+        ∙ pull-is (s .filter) (s .level) (s .offset) r (s .left) x p i ep ei
 
     -- the next band of the set waits
-    pub pull-waits : 0 < s .level → 0 < i → Left (s .levels) (columnsOf s) (pulled s x) (record { level = s .level; left = i; offset = s .offset }) x
+    pub pull-waits : 0 < s .level → 0 < i →
+        Left (s .filter) (s .levels) (columnsOf s) (pulled s x) (record { level = s .level; left = i; offset = s .offset }) x
     pull-waits h g =
-        let q = settled-waits (passOn fiveThree (r .below) (columns r) (r .y)) (r .set) i (rest (s .offset) x) g in
+        let q = settled-waits (passOn (kind s) (r .below) (columns r) (r .y)) (r .set) i (rest (s .offset) x) g in
         let v : 1 + prev (s .level) ≡ s .level = omega (arith, prev-is (s .level)) in
         let d : deeperBy (prev (s .level)) 1 ≡ s .level = sym (deeper-by-some (prev (s .level)) 1 (omega arith)) ∙ v in
-        left-same (s .levels) (columnsOf s) _ _ _ x (draw-is ∙ ap (from (prev (s .level)) (s .offset) x) q)
+        left-same (s .filter) (s .levels) (columnsOf s) _ _ _ x (draw-is ∙ ap (from (prev (s .level)) (s .offset) x) q)
         (record {
           level = sym d;
           left = refl;
-          offset = placed ∙ ap (startOf (columnsOf s)) (sym d);
+          offset = placed ∙ ap (startOf (s .filter) (columnsOf s)) (sym d);
           store = join-rest (s .offset) x;
           within = omega
               (arith, f .deep);
@@ -302,20 +316,20 @@ module _ (s : Writer) (r : Level) (f : Reaches (s .levels) (columnsOf s) (s .y) 
 
     -- its LL row goes on
     pub pull-goes : (o : Wait) (t z : Memory) (d b : ℕ) → 0 < s .level → i ≡ 0 →
-        Left (r .below + 1) (columns r) (passOn fiveThree (r .below) (columns r) (r .y) (r .set) (rest (s .offset) x)) o t →
+        Left (s .filter) (r .below + 1) (columns r) (passOn (kind s) (r .below) (columns r) (r .y) (r .set) (rest (s .offset) x)) o t →
         z ≡ joinAt (s .offset) x t → d ≡ deeperBy (s .level - 1) (o .level) → b ≡ further (o .level) (s .offset) (o .offset) →
-        Left (s .levels) (columnsOf s) (pulled s x) (record { level = d; left = o .left; offset = b }) z
+        Left (s .filter) (s .levels) (columnsOf s) (pulled s x) (record { level = d; left = o .left; offset = b }) z
     pull-goes o t z d b h g a ez ed eb =
-        let q = settled-goes (passOn fiveThree (r .below) (columns r) (r .y)) (r .set) i (rest (s .offset) x) g in
+        let q = settled-goes (passOn (kind s) (r .below) (columns r) (r .y)) (r .set) i (rest (s .offset) x) g in
         let k : s .level - 1 ≡ prev (s .level) = omega (arith, prev-is (s .level)) in
-        let u : Out = passOn fiveThree (r .below) (columns r) (r .y) (r .set) (rest (s .offset) x) in
-        left-same (s .levels) (columnsOf s) _ _ _ z (draw-is ∙ ap (from (prev (s .level)) (s .offset) x) q)
+        let u : Out = passOn (kind s) (r .below) (columns r) (r .y) (r .set) (rest (s .offset) x) in
+        left-same (s .filter) (s .levels) (columnsOf s) _ _ _ z (draw-is ∙ ap (from (prev (s .level)) (s .offset) x) q)
         (record {
           level = ed ∙ ap (λ (k : ℕ). deeperBy k (o .level)) k ∙ ap (deeperBy (prev (s .level))) (a .level);
           left = a .left;
           offset =
               eb ∙ ap (λ (v : ℕ). further v (s .offset) (o .offset)) (a .level) ∙ ap (further (u .level) (s .offset)) (a .offset)
-              ∙ ap (λ (p : ℕ). further (u .level) p (startOf (columns r) (u .level))) placed ∙ sym (f .starts (u .level));
+              ∙ ap (λ (p : ℕ). further (u .level) p (startOf (s .filter) (columns r) (u .level))) placed ∙ sym (f .starts (u .level));
           store = ez ∙ ap (joinAt (s .offset) x) (a .store);
           within = omega (arith, ed, deeper-by-le (s .level - 1) (o .level), a .within, f .deep);
         })

@@ -7,15 +7,14 @@ use lib.Dec.{leb, ltb, eqb}
 use borrow.Author.Tests.{leb-true, ltb-true, le-leb, lt-leb, lt-ltb, le-ltb, eq-eqb, ne-eqb, eqb-true, eqb-false}
 use Rattle.numbers.specs.Signal.{both}
 use Rattle.numbers.proofs.Sweep as sweep
-use Rattle.wavelet.specs.Limits.{maxWidth, maxHeight, maxLevels, maxOrigin}
-use Rattle.wavelet.specs.Questions.{ask, within}
+use Rattle.wavelet.specs.Limits.{maxWidth, maxHeight, maxOrigin}
+use Rattle.wavelet.specs.Questions.{ask}
 use Rattle.lifting.specs.Grid.{Side}
 use Rattle.wavelet.proofs.LimitLaws.{levels-small}
-use Rattle.wavelet.proofs.QuestionLaws.{within-true}
 use Rattle.wavelet.specs.Levels.{next}
-use Rattle.wavelet.specs.Store.{storeLength}
-use Rattle.level.specs.Level.{ahead}
-use Rattle.level.specs.FiveThreeLevel.{fiveThree}
+use Rattle.nine_seven.specs.Filters.{filterOf, isFilter}
+use Rattle.filters.specs.Figures.{storeBy, streamable}
+use Rattle.filters.proofs.FigureLaws.{streams, levels-most}
 use Rattle.writer.specs.declared.Writer.{Writer}
 use Rattle.writer.specs.Counts.{mostLeft, startOf}
 use Rattle.writer.specs.Taking.{columnsOf}
@@ -44,12 +43,12 @@ module _ (p q : ℕ) where
   asked-all false b h = absurd (omega arith)
 
 -- ---- question 1, the tests of sizes and counts passed: what waits is left
-pub ranges-last : (s : Writer) → onGrid (s .x) (s .y) ≡ true → within 1 maxWidth (s .width) ≡ true → within 1 maxLevels (s .levels) ≡ true →
+pub ranges-last : (s : Writer) → onGrid (s .x) (s .y) ≡ true → streamable (s .filter) (columnsOf s) (s .levels) ≡ true →
     s .rows ≤ maxHeight → s .column < s .width →
-    s .closed ≤ ahead fiveThree * s .levels → s .level ≤ s .levels → (b : Bool) → b ≡ both (leb (s .left) (mostLeft (s .levels) (s .level)))
-    (eqb (s .offset) (startOf (columnsOf s) (s .level))) → b ≡ inRanges s
+    s .closed ≤ filterOf (s .filter) .ahead * s .levels → s .level ≤ s .levels → (b : Bool) → b ≡ both (leb (s .left) (mostLeft (s .levels) (s .level)))
+    (eqb (s .offset) (startOf (s .filter) (columnsOf s) (s .level))) → b ≡ inRanges s
 unfolding inRanges
-ranges-last s o a b d e f g t is = is ∙ simp (o, a, b, le-leb _ _ d, lt-ltb _ _ e, le-leb _ _ f, le-leb _ _ g)
+ranges-last s o a d e f g t is = is ∙ simp (o, a, le-leb _ _ d, lt-ltb _ _ e, le-leb _ _ f, le-leb _ _ g)
 
 -- what waits: too many bands left, or a number of them that can be; k is how many can
 module _ (a k : ℕ) (t : Bool) where
@@ -59,37 +58,43 @@ module _ (a k : ℕ) (t : Bool) where
   pub left-yes : (m : ℕ) (b : Bool) → k ≡ m → a ≤ k → b ≡ t → b ≡ both (leb a m) t
   left-yes m b e h f = f ∙ simp (le-leb a m (omega arith))
 
--- ---- where a level's stretch begins, the stretches before it taken off o
-pub begins-short : (w : Side) (k o : ℕ) → 1 < k → o < 4 * w .length → false ≡ eqb o (startOf w k)
-begins-short w k o h g = sym (ne-eqb o (startOf w k) (λ e. absurd (omega (arith, start-more w k h))))
+-- ---- where a level's stretch begins, the stretches before it taken off o; f is the number of the filter
+module _ (f : ℕ) where
+  pub begins-short : (w : Side) (k o : ℕ) → 1 < k → o < filterOf f .rows * w .length → false ≡ eqb o (startOf f w k)
+  begins-short w k o h g = sym (ne-eqb o (startOf f w k) (λ e. absurd (omega (arith, start-more f w k h))))
 
-pub begins-on : (w : Side) (k o a : ℕ) (h : Side) → a ≡ 4 * w .length → 1 < k → a ≤ o → h ≡ next w → eqb (o - a) (startOf h (k - 1)) ≡ eqb o (startOf w k)
-begins-on w k o a h s g f e = go (eqb o (startOf w k)) refl
-  where
-    more : a + startOf h (k - 1) ≡ startOf w k
-    more = rw (s, e) (start-more w k g)
+  pub begins-on : (w : Side) (k o a : ℕ) (h : Side) → a ≡ filterOf f .rows * w .length → 1 < k → a ≤ o → h ≡ next w →
+      eqb (o - a) (startOf f h (k - 1)) ≡ eqb o (startOf f w k)
+  begins-on w k o a h s g d e = go (eqb o (startOf f w k)) refl
+    where
+      more : a + startOf f h (k - 1) ≡ startOf f w k
+      more = rw (s, e) (start-more f w k g)
 
-    go : (t : Bool) → eqb o (startOf w k) ≡ t → eqb (o - a) (startOf h (k - 1)) ≡ t
-    go true d = eq-eqb (o - a) (startOf h (k - 1)) (omega (arith, eqb-true o (startOf w k) d, more))
-    go false d = ne-eqb (o - a) (startOf h (k - 1)) (λ (z : o - a ≡ startOf h (k - 1)). eqb-false o (startOf w k) d (omega (arith, more)))
+      go : (t : Bool) → eqb o (startOf f w k) ≡ t → eqb (o - a) (startOf f h (k - 1)) ≡ t
+      go true z = eq-eqb (o - a) (startOf f h (k - 1)) (omega (arith, eqb-true o (startOf f w k) z, more))
+      go false z = ne-eqb (o - a) (startOf f h (k - 1)) (λ (y : o - a ≡ startOf f h (k - 1)). eqb-false o (startOf f w k) z (omega (arith, more)))
 
-pub begins-first : (w : Side) (k o : ℕ) → k ≤ 1 → eqb o 0 ≡ eqb o (startOf w k)
-begins-first w k o h = ap (eqb o) (sym (start-first w k h))
+  pub begins-first : (w : Side) (k o : ℕ) → k ≤ 1 → eqb o 0 ≡ eqb o (startOf f w k)
+  begins-first w k o h = ap (eqb o) (sym (start-first f w k h))
+
+pub few-levels : (f L : ℕ) → L ≤ filterOf f .levels → L < 2 ^ 16
+few-levels f L h = omega (arith, levels-most f, levels-small)
 
 -- ---- a state that passes questions 1 and 5
 pub record Sound (s : Writer) (n : ℕ) : Type 0 where
   pub across : s .x ≤ maxOrigin
   pub down : s .y ≤ maxOrigin
+  pub filter : isFilter (s .filter) ≡ true
   pub width : (1 ≤ s .width) × (s .width ≤ maxWidth)
-  pub levels : (1 ≤ s .levels) × (s .levels ≤ maxLevels)
+  pub levels : (1 ≤ s .levels) × (s .levels ≤ filterOf (s .filter) .levels)
   pub deep : s .levels < 2 ^ 16
   pub rows : s .rows ≤ maxHeight
   pub column : s .column < s .width
-  pub closed : s .closed ≤ ahead fiveThree * s .levels
+  pub closed : s .closed ≤ filterOf (s .filter) .ahead * s .levels
   pub level : s .level ≤ s .levels
   pub left : s .left ≤ mostLeft (s .levels) (s .level)
-  pub placed : s .offset ≡ startOf (columnsOf s) (s .level)
-  pub room : storeLength (columnsOf s) (s .levels) ≤ n
+  pub placed : s .offset ≡ startOf (s .filter) (columnsOf s) (s .level)
+  pub room : storeBy (s .filter) (columnsOf s) (s .levels) ≤ n
 
 module _ (s : Writer) (n : ℕ) where
   pub state-no : (x : ℕ) → (stateQuestion s n ≡ 0 → ⊥) → ask (inRanges s) 1 (ask (longEnough n s) 5 x) ≡ stateQuestion s n
@@ -107,8 +112,8 @@ module _ (s : Writer) (n : ℕ) where
       let o = sweep.both _ _ (e .0) in
       let p = sweep.both _ _ (o .0) in
       let a = sweep.both _ _ (o .1) in
-      let b = sweep.both _ _ (a .1) in
-      let d = sweep.both _ _ (b .1) in
+      let d = sweep.both _ _ (a .1) in
+      let b = streams (s .filter) (columnsOf s) (s .levels) (a .0) in
       let f = sweep.both _ _ (d .1) in
       let g = sweep.both _ _ (f .1) in
       let i = sweep.both _ _ (g .1) in
@@ -116,9 +121,10 @@ module _ (s : Writer) (n : ℕ) where
       record {
         across = leb-true _ _ (p .0);
         down = leb-true _ _ (p .1);
-        width = within-true 1 maxWidth _ (a .0);
-        levels = within-true 1 maxLevels _ (b .0);
-        deep = omega (arith, within-true 1 maxLevels _ (b .0), levels-small);
+        filter = b .known;
+        width = b .width;
+        levels = b .levels;
+        deep = few-levels (s .filter) (s .levels) (b .levels .1);
         rows = leb-true _ _ (d .0);
         column = ltb-true _ _ (f .0);
         closed = leb-true _ _ (g .0);

@@ -2,7 +2,6 @@ pub mod CountLaws
 pub mod Filling
 pub mod Waiting
 pub mod CascadeHolds
-pub mod KindLaws
 pub mod StateHolds
 pub mod CallList
 pub mod CallsKeep

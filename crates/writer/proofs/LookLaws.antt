@@ -13,7 +13,7 @@ use Rattle.numbers.specs.Signal.{pick}
 use Rattle.wavelet.specs.Questions.{ask}
 use Rattle.lifting.specs.Grid.{Side}
 use Rattle.wavelet.specs.Limits.{maxOrigin}
-use Rattle.wavelet.specs.Store.{storeLength}
+use Rattle.filters.specs.Figures.{storeBy}
 use Rattle.wavelet.specs.View.{bandColumns}
 use Rattle.wavelet.specs.Order.{RowName}
 use Rattle.calls.specs.Lists.{Reply, gives, refused, unless, seen, Area}
@@ -45,9 +45,9 @@ module _ (s : Writer) (t : Bool) (e : t ≡ inRanges s) where
   unfolding waitsReply waitsQuestion
   look-passes b h f = rw (yes h) (ap gives f)
 
-  pub look-sound : not t ≡ false → Sound s (storeLength (columnsOf s) (s .levels))
+  pub look-sound : not t ≡ false → Sound s (storeBy (s .filter) (columnsOf s) (s .levels))
   look-sound h =
-      let k = storeLength (columnsOf s) (s .levels) in
+      let k = storeBy (s .filter) (columnsOf s) (s .levels) in
       sound s k (unfold stateQuestion longEnough in rw (yes h, le-leb k k (omega arith)) refl)
 
   none-awaited : (v : ℕ) → v ≡ 0 → noRow ≡ awaited v s
@@ -61,7 +61,7 @@ module _ (s : Writer) (t : Bool) (e : t ≡ inRanges s) where
   pub look-none : not t ≡ false → s .level ≡ 0 → gives noRow ≡ waitsReply s
   look-none h f = look-passes noRow h (none-awaited (s .level) f)
 
-  pub look-row : (r : Spot) → Found (s .levels) (columnsOf s) (waitingRow s) r → not t ≡ false → 0 < s .level →
+  pub look-row : (r : Spot) → Found (s .filter) (s .levels) (columnsOf s) (waitingRow s) r → not t ≡ false → 0 < s .level →
       gives (record { level = r .level; band = r .band; row = r .row; length = r .length }) ≡ waitsReply s
   look-row r f h p =
       look-passes _ h
@@ -103,13 +103,13 @@ none-is : (h : Handed) → given h ≡ none → rowHanded h ≡ noRow
 none-is (aRow c t) e = let z : _≡_ {A = ℕ} 0 1 = cc in absurd (omega arith)
 none-is nothing e = refl
 
-pub look-waits : (W : Side) (top L n : ℕ) (x : Memory) → W .start ≤ maxOrigin → top ≤ maxOrigin → setUpQuestion W L n ≡ 0 → (cs : List Call) →
-    (let w = freshWorld W top L n x in waitsReply (final cs w .writer) ≡ gives (nextRow W (waitingOf W top L (events cs w))))
+pub look-waits : (f : ℕ) (W : Side) (top L n : ℕ) (x : Memory) → W .start ≤ maxOrigin → top ≤ maxOrigin → setUpQuestion f W L n ≡ 0 → (cs : List Call) →
+    (let w = freshWorld f W top L n x in waitsReply (final cs w .writer) ≡ gives (nextRow W (waitingOf f W top L (events cs w))))
 unfolding event
-look-waits W top L n x from low s cs = go (waitingOf W top L (events cs w)) refl
+look-waits f W top L n x from low s cs = go (waitingOf f W top L (events cs w)) refl
   where
     w : World
-    w = freshWorld W top L n x
+    w = freshWorld f W top L n x
 
     e : World
     e = final cs w
@@ -117,11 +117,11 @@ look-waits W top L n x from low s cs = go (waitingOf W top L (events cs w)) refl
     area : ℕ → Area
     area k = record { size = k; numbers = λ _. pos 0 }
 
-    drawn-as : (k : ℕ) (g : Given) → drawSays W (waitingOf W top L (events cs w)) k ≡ gives g →
+    drawn-as : (k : ℕ) (g : Given) → drawSays W (waitingOf f W top L (events cs w)) k ≡ gives g →
         seen given (drawReply (e .writer) (e .length) k (e .store)) ≡ gives g
-    drawn-as k g z = let d = demand-3 W top L n x from low s cs .1 .draws (area k) .says in cc (d, z)
+    drawn-as k g z = let d = demand-3 f W top L n x from low s cs .1 .draws (area k) .says in cc (d, z)
 
-    go : (l : List RowName) → waitingOf W top L (events cs w) ≡ l → waitsReply (e .writer) ≡ gives (nextRow W l)
+    go : (l : List RowName) → waitingOf f W top L (events cs w) ≡ l → waitsReply (e .writer) ≡ gives (nextRow W l)
     go [] z =
         let h = named _ none (drawn-as 0 none (ap (λ l. drawSays W l 0) z)) in
         look-says (e .writer) (e .length) 0 (e .store) (h .0) (h .1) ∙ ap gives (none-is (h .0) (h .2))

@@ -16,12 +16,13 @@ use Rattle.wavelet.specs.Limits.{maxHeight}
 use Rattle.wavelet.proofs.LimitLaws.{width-small, height-small}
 use Rattle.calls.specs.Lists.{gives, refused}
 use Rattle.level.specs.Level.{Memory}
-use Rattle.level.specs.FiveThreeLevel.{fiveThree}
-use Rattle.level.specs.Heights.{heightAt, heightsPut}
+use Rattle.level.specs.Heights.{heightAt}
+use Rattle.filters.specs.Forward.{heightsPut}
+use Rattle.filters.proofs.ForwardLaws.{height-more, height-none}
 use Rattle.writer.specs.declared.Writer.{Writer}
 use Rattle.writer.specs.declared.cascade.Wait.{Wait}
 use Rattle.writer.specs.Machine.{arrive}
-use Rattle.writer.specs.Taking.{columnsOf, Taking, none, oneMore, takes, begun, complete, heightPut, rowMakes, offering}
+use Rattle.writer.specs.Taking.{kind, columnsOf, Taking, none, oneMore, takes, begun, complete, heightPut, rowMakes, offering}
 use Rattle.writer.specs.Questions.{offerQuestion, either, inRanges, longEnough}
 use Rattle.writer.specs.Calls.{offerReply, offerStore}
 use Rattle.writer.specs.Steps.{Left}
@@ -127,65 +128,65 @@ module _ (s : Writer) where
 
 -- ---- one height
 module _ (h : ℕ) (run : List ℕ) (s : Writer) (x : Memory) (t : takes s ≡ true) where
-  one-inside : s .column + 1 < s .width → offering fiveThree (h ∷ run) s x ≡ oneMore (offering fiveThree run (begun s) (heightPut fiveThree h s x))
+  one-inside : s .column + 1 < s .width → offering (kind s) (h ∷ run) s x ≡ oneMore (offering (kind s) run (begun s) (heightPut (kind s) h s x))
   unfolding offering
   one-inside g = simp (t, lt-ltb (s .column + 1) (s .width) g)
 
   one-whole : s .width ≤ s .column + 1 →
-      offering fiveThree (h ∷ run) s x ≡ oneMore (offering fiveThree run (complete s (rowMakes fiveThree s (heightPut fiveThree h s x)))
-      (rowMakes fiveThree s (heightPut fiveThree h s x) .store))
+      offering (kind s) (h ∷ run) s x ≡ oneMore (offering (kind s) run (complete s (rowMakes (kind s) s (heightPut (kind s) h s x)))
+      (rowMakes (kind s) s (heightPut (kind s) h s x) .store))
   unfolding offering
   one-whole g = simp (t, le-ltb (s .column + 1) (s .width) g)
 
-pub offer-end : (run : List ℕ) (s : Writer) (x : Memory) → takes s ≡ false → offering fiveThree run s x ≡ none s x
+pub offer-end : (run : List ℕ) (s : Writer) (x : Memory) → takes s ≡ false → offering (kind s) run s x ≡ none s x
 unfolding offering
 offer-end [] s x e = refl
 offer-end (h ∷ run) s x e = simp e
 
-pub offer-used : (s : Writer) (x : Memory) → offering fiveThree [] s x ≡ none s x
+pub offer-used : (s : Writer) (x : Memory) → offering (kind s) [] s x ≡ none s x
 unfolding offering
 offer-used s x = refl
 
 -- ---- a stretch
 module _ (run : List ℕ) (s : Writer) (x : Memory) (t : takes s ≡ true) where
   abbrev filled : ℕ → Memory
-  filled n = heightsPut (columnsOf s) (s .y % 2 + s .rows) (s .column) n (heightAt run) x
+  filled n = heightsPut (s .filter) (columnsOf s) (s .y % 2 + s .rows) (s .column) n (heightAt run) x
 
   abbrev moved : ℕ → Writer
   moved n = atColumn s (s .column + n)
 
-  filled-more : (n : ℕ) → heightPut fiveThree (getD run n 0) (moved n) (filled n) ≡ filled (suc n)
-  unfolding heightsPut
-  filled-more n = refl
+  filled-more : (n : ℕ) → heightPut (kind s) (getD run n 0) (moved n) (filled n) ≡ filled (suc n)
+  filled-more n = sym (height-more (s .filter) (columnsOf s) (s .y) (s .rows) (s .column) n (heightAt run) x)
 
   moved-more : (n : ℕ) → begun (moved n) ≡ moved (suc n)
   moved-more n = ap (atColumn s) (omega arith)
 
-  inside : (n : ℕ) → n ≤ length run → s .column + n < s .width → offering fiveThree run s x ≡ plus n (offering fiveThree (drop n run) (moved n) (filled n))
-  unfolding heightsPut
-  inside zero a b = let k : s .column + 0 ≡ s .column = omega arith in rw k (plus-none (offering fiveThree run s x))
+  inside : (n : ℕ) → n ≤ length run → s .column + n < s .width → offering (kind s) run s x ≡ plus n (offering (kind s) (drop n run) (moved n) (filled n))
+  inside zero a b =
+      let k : s .column + 0 ≡ s .column = omega arith in
+      rw (k, height-none (s .filter) (columnsOf s) (s .y % 2 + s .rows) (s .column) (heightAt run) x) (plus-none (offering (kind s) run s x))
   inside (suc n) a b =
       inside n (omega arith) (omega arith)
-      ∙ ap (λ (l : List ℕ). plus n (offering fiveThree l (moved n) (filled n))) (drop-cons run n 0 (omega arith))
+      ∙ ap (λ (l : List ℕ). plus n (offering (kind s) l (moved n) (filled n))) (drop-cons run n 0 (omega arith))
       ∙ ap (plus n) (one-inside (getD run n 0) (drop (suc n) run) (moved n) (filled n) (takes-at s _ ∙ t) (omega arith))
       ∙ plus-more n _
       ∙ cc (filled-more n, moved-more n)
 
   whole : (n : ℕ) → 0 < n → n ≤ length run → s .column + n ≡ s .width →
-      offering fiveThree run s x ≡ plus n (offering fiveThree (drop n run) (complete s (arrive fiveThree (s .levels) (columnsOf s) (s .y) (s .rows) (filled n)))
-      (arrive fiveThree (s .levels) (columnsOf s) (s .y) (s .rows) (filled n) .store))
+      offering (kind s) run s x ≡ plus n (offering (kind s) (drop n run) (complete s (arrive (kind s) (s .levels) (columnsOf s) (s .y) (s .rows) (filled n)))
+      (arrive (kind s) (s .levels) (columnsOf s) (s .y) (s .rows) (filled n) .store))
   whole zero g a b = absurd (omega arith)
   whole (suc n) g a b =
       inside n (omega arith) (omega arith)
-      ∙ ap (λ (l : List ℕ). plus n (offering fiveThree l (moved n) (filled n))) (drop-cons run n 0 (omega arith))
+      ∙ ap (λ (l : List ℕ). plus n (offering (kind s) l (moved n) (filled n))) (drop-cons run n 0 (omega arith))
       ∙ ap (plus n) (one-whole (getD run n 0) (drop (suc n) run) (moved n) (filled n) (takes-at s _ ∙ t) (omega arith))
       ∙ plus-more n _
-      ∙ ap (λ (y : Memory). plus (suc n) (offering fiveThree (drop (suc n) run) (complete s (arrive fiveThree (s .levels) (columnsOf s) (s .y) (s .rows) y))
-      (arrive fiveThree (s .levels) (columnsOf s) (s .y) (s .rows) y .store))) (filled-more n)
+      ∙ ap (λ (y : Memory). plus (suc n) (offering (kind s) (drop (suc n) run) (complete s (arrive (kind s) (s .levels) (columnsOf s) (s .y) (s .rows) y))
+      (arrive (kind s) (s .levels) (columnsOf s) (s .y) (s .rows) y .store))) (filled-more n)
 
 -- ---- how far an offer of `run` to s₀ has gone: k heights taken, and the writer and the store then
 abbrev pub Gone : List ℕ → Writer → Memory → ℕ → Writer → Memory → Type 0
-Gone run s₀ x₀ k s x = offering fiveThree run s₀ x₀ ≡ plus k (offering fiveThree (drop k run) s x)
+Gone run s₀ x₀ k s x = offering (kind s₀) run s₀ x₀ ≡ plus k (offering (kind s) (drop k run) s x)
 
 module _ (run : List ℕ) (s₀ : Writer) (x₀ : Memory) (k : ℕ) (s : Writer) (x : Memory) (g : Gone run s₀ x₀ k s x) where
   from : heightAt (drop k run) ≡ (λ j. heightAt run (k + j))
@@ -215,16 +216,16 @@ module _ (run : List ℕ) (s₀ : Writer) (x₀ : Memory) (k : ℕ) (s : Writer)
 
   -- the end: the next stretch has no height
   pub gone-all : (n : ℕ) → n ≡ nextCount s (length run - k) → n ≡ 0 → s .column < s .width → k ≤ length run →
-      offering fiveThree run s₀ x₀ ≡ record { taken = k; writer = s; store = x }
+      offering (kind s₀) run s₀ x₀ ≡ record { taken = k; writer = s; store = x }
   unfolding nextCount
   gone-all n e z h a = g ∙ ap (plus k) (go (takes s) refl) ∙ ap (λ (i : ℕ). record { taken = i; writer = s; store = x }) (omega arith)
     where
-      go : (b : Bool) → takes s ≡ b → offering fiveThree (drop k run) s x ≡ none s x
+      go : (b : Bool) → takes s ≡ b → offering (kind s) (drop k run) s x ≡ none s x
       go false q = offer-end (drop k run) s x q
       go true q =
           let f : n ≡ min (s .width - s .column) (length run - k) = e ∙ simp q in
           let i : k ≡ length run = omega arith in
-          ap (λ (j : ℕ). offering fiveThree (drop j run) s x) i ∙ ap (λ (l : List ℕ). offering fiveThree l s x) (drop-length run) ∙ offer-used s x
+          ap (λ (j : ℕ). offering (kind s) (drop j run) s x) i ∙ ap (λ (l : List ℕ). offering (kind s) l s x) (drop-length run) ∙ offer-used s x
 
 -- ---- before each turn of an offer's loop: m is the store, and m₀ the store at the start
 pub record Offering (run : List ℕ) (s₀ : Writer) (m₀ m : List ℤ) (s : Writer) (k n : ℕ) : Type 0 where
@@ -270,7 +271,7 @@ module _ (s : Writer) (l q : ℕ) (run : List ℕ) (x : Memory) (e : q ≡ offer
   unfolding offerReply offerStore
   offer-no h = rw (← e) (unless-no q _ h, changed-no q _ x h)
 
-  pub offer-yes : (k : ℕ) (r : Writer) (y : Memory) → q ≡ 0 → offering fiveThree run s x ≡ record { taken = k; writer = r; store = y } →
+  pub offer-yes : (k : ℕ) (r : Writer) (y : Memory) → q ≡ 0 → offering (kind s) run s x ≡ record { taken = k; writer = r; store = y } →
       (gives (record { taken = k; writer = r }) ≡ offerReply s l run x) × (y ≡ offerStore s l run x)
   unfolding offerReply offerStore
   offer-yes k r y z f = rw (← e, f) (unless-yes q _ z, changed-yes q _ x z)
@@ -282,21 +283,21 @@ sound-taker s l f =
         room = f .room;
         wide = omega (arith, f .width, width-small);
         rows = omega (arith, f .rows, height-small);
-        deep = omega
-            (arith, f .levels);
+        deep = f .deep;
       };
       column = f .column;
       deep = omega (arith, f .levels);
     }
 
 -- ---- what a stretch leaves
-module _ (s : Writer) (run : List ℕ) (k n : ℕ) (x y : Memory) (l : ℕ) (t : Taker s l) (e : y ≡ heightsPut (columnsOf s) (s .y % 2 + s .rows) (s .column) n
+module _ (s : Writer) (run : List ℕ) (k n : ℕ) (x y : Memory) (l : ℕ) (t : Taker s l)
+    (e : y ≡ heightsPut (s .filter) (columnsOf s) (s .y % 2 + s .rows) (s .column) n
     (λ j. heightAt run (k + j)) x) where
   pub stretched-inside : s .column + n < s .width → Stretched s run k n x (atColumn s (s .column + n)) y l
   stretched-inside h = record { inside = λ g. (refl, e); whole = λ g. absurd (omega arith); taker = record { room = t .room; column = h; deep = t .deep } }
 
   pub stretched-whole : (o : Wait) (z : Memory) → s .column + n ≡ s .width → s .rows < maxHeight →
-      Left (s .levels) (columnsOf s) (arrive fiveThree (s .levels) (columnsOf s) (s .y) (s .rows) y) o z →
+      Left (s .filter) (s .levels) (columnsOf s) (arrive (kind s) (s .levels) (columnsOf s) (s .y) (s .rows) y) o z →
       Stretched s run k n x
       (record {
         x = s .x;
@@ -310,6 +311,7 @@ module _ (s : Writer) (run : List ℕ) (k n : ℕ) (x y : Memory) (l : ℕ) (t :
         level = o .level;
         left = o .left;
         offset = o .offset;
+        filter = s .filter;
       }) z l
   stretched-whole o z h b f =
       let g = rw e at f in

@@ -13,11 +13,10 @@ use Rattle.lifting.specs.Grid.{Side}
 use Rattle.wavelet.specs.Limits.{maxHeight, maxOrigin}
 use Rattle.calls.specs.Lists.{gives, unless, changedUnless, seen, Area}
 use Rattle.calls.specs.Lists as lists
-use Rattle.writer.specs.Kind.{kind}
 use Rattle.writer.specs.declared.Writer.{Writer}
 use Rattle.writer.specs.Counts.{startOf}
 use Rattle.writer.specs.Machine.{Out}
-use Rattle.writer.specs.Taking.{columnsOf, Taking, takes, offering}
+use Rattle.writer.specs.Taking.{kind, columnsOf, Taking, takes, offering}
 use Rattle.writer.specs.Questions.{inRanges, longEnough, setUpQuestion, offerQuestion, drawQuestion, finishQuestion}
 use Rattle.writer.specs.Holds.{left, after}
 use Rattle.writer.specs.Calls.{setUpStore, took, waits, closing, resumed, handed, handedStore, handedArea, offerReply, offerStore, drawReply, drawStore}
@@ -26,12 +25,12 @@ use Rattle.writer.specs.History.{Call, offer, draw, finish, offered, dre
 use Rattle.writer.specs.Before as before
 use Rattle.writer.specs.Before.{Before}
 use Rattle.writer.proofs.StateHolds.{st, fresh-st}
-use Rattle.writer.proofs.Demand3.{columns-kept}
+use Rattle.writer.proofs.Demand3.{set-up-stays}
 use Rattle.level.specs.Level.{Memory}
 
 -- the writer before, with its offset
 abbrev carry : Before → Writer
-carry b = st (b .columns) (b .start) (b .levels) (b .rows) (b .column) (b .finished) (b .closed) (b .level) (b .left)
+carry b = st (b .filter) (b .columns) (b .start) (b .levels) (b .rows) (b .column) (b .finished) (b .closed) (b .level) (b .left)
 
 abbrev carries : before.World → World
 carries w = record { writer = carry (w .writer); length = w .length; store = w .store }
@@ -40,7 +39,7 @@ abbrev taking : before.Taking → Taking
 taking t = record { taken = t .taken; writer = carry (t .writer); store = t .store }
 
 -- ---- heights taken
-same-taking : (run : List ℕ) (b : Before) (x : Memory) → offering kind run (carry b) x ≡ taking (before.offering run b x)
+same-taking : (run : List ℕ) (b : Before) (x : Memory) → offering (kind (carry b)) run (carry b) x ≡ taking (before.offering run b x)
 unfolding offering before.offering takes before.takes
 same-taking [] b x = refl
 same-taking (h ∷ run) b x =
@@ -70,7 +69,7 @@ both-yes false = refl
 module _ (b : Before) where
   same-ranges : inRanges (carry b) ≡ before.inRanges b
   unfolding inRanges before.inRanges
-  same-ranges = simp (eq-eqb (carry b .offset) (startOf (columnsOf (carry b)) (b .level)) refl, both-yes)
+  same-ranges = simp (eq-eqb (carry b .offset) (startOf (b .filter) (columnsOf (carry b)) (b .level)) refl, both-yes)
 
   same-offer : (n k : ℕ) → offerQuestion (carry b) n k ≡ before.offerQuestion b n k
   unfolding offerQuestion before.offerQuestion longEnough before.longEnough
@@ -170,26 +169,30 @@ unfolding lists.final
 list-final [] w = refl
 list-final (k ∷ cs) w = ap (final cs) (call-next (w .writer) (w .length) (w .store) k) ∙ list-final cs (before.next k w)
 
-fresh-carries : (W : Side) (top L n : ℕ) (x : Memory) → freshWorld W top L n x ≡ carries (before.freshWorld W top L n x)
-fresh-carries W top L n x = ap (λ s. record { writer = s; length = n; store = setUpStore W L n x }) (fresh-st W top L)
+fresh-carries : (f : ℕ) (W : Side) (top L n : ℕ) (x : Memory) → freshWorld f W top L n x ≡ carries (before.freshWorld f W top L n x)
+fresh-carries f W top L n x = ap (λ s. record { writer = s; length = n; store = setUpStore f W L n x }) (fresh-st f W top L)
 
--- ---- the theorems: of a set-up of the columns W, rows that start at `top`, and L levels on a store of n numbers in which x stood, and any list of calls
-pub same-events : (W : Side) (top L n : ℕ) (x : Memory) (cs : List Call) → events cs (freshWorld W top L n x) ≡ before.events cs (before.freshWorld W top L n x)
-same-events W top L n x cs = ap (events cs) (fresh-carries W top L n x) ∙ list-events cs (before.freshWorld W top L n x)
+-- ---- the theorems: of a set-up of the filter of number f, the columns W, rows that start at `top`, and L levels on a store of n numbers in which x stood,
+-- and any list of calls
+pub same-events : (f : ℕ) (W : Side) (top L n : ℕ) (x : Memory) (cs : List Call) →
+    events cs (freshWorld f W top L n x) ≡ before.events cs (before.freshWorld f W top L n x)
+same-events f W top L n x cs = ap (events cs) (fresh-carries f W top L n x) ∙ list-events cs (before.freshWorld f W top L n x)
 
-same-final : (W : Side) (top L n : ℕ) (x : Memory) (cs : List Call) →
-    final cs (freshWorld W top L n x) ≡ carries (before.final cs (before.freshWorld W top L n x))
-same-final W top L n x cs = ap (final cs) (fresh-carries W top L n x) ∙ list-final cs (before.freshWorld W top L n x)
+same-final : (f : ℕ) (W : Side) (top L n : ℕ) (x : Memory) (cs : List Call) →
+    final cs (freshWorld f W top L n x) ≡ carries (before.final cs (before.freshWorld f W top L n x))
+same-final f W top L n x cs = ap (final cs) (fresh-carries f W top L n x) ∙ list-final cs (before.freshWorld f W top L n x)
 
-pub same-store : (W : Side) (top L n : ℕ) (x : Memory) (cs : List Call) →
-    final cs (freshWorld W top L n x) .store ≡ before.final cs (before.freshWorld W top L n x) .store
-same-store W top L n x cs = ap (λ w. w .store) (same-final W top L n x cs)
+pub same-store : (f : ℕ) (W : Side) (top L n : ℕ) (x : Memory) (cs : List Call) →
+    final cs (freshWorld f W top L n x) .store ≡ before.final cs (before.freshWorld f W top L n x) .store
+same-store f W top L n x cs = ap (λ w. w .store) (same-final f W top L n x cs)
 
 -- of a set-up that passed
-pub offset-is : (W : Side) (top L n : ℕ) (x : Memory) → W .start ≤ maxOrigin → top ≤ maxOrigin → setUpQuestion W L n ≡ 0 → (cs : List Call) →
-    (let s = final cs (freshWorld W top L n x) .writer in s .offset ≡ startOf W (s .level))
-offset-is W top L n x from low h cs =
-    let e = same-final W top L n x cs in
+pub offset-is : (f : ℕ) (W : Side) (top L n : ℕ) (x : Memory) → W .start ≤ maxOrigin → top ≤ maxOrigin → setUpQuestion f W L n ≡ 0 → (cs : List Call) →
+    (let s = final cs (freshWorld f W top L n x) .writer in s .offset ≡ startOf f W (s .level))
+offset-is f W top L n x from low h cs =
+    let e = same-final f W top L n x cs in
+    let k = set-up-stays f W top L n x from low h cs in
+    let v = final cs (freshWorld f W top L n x) .writer .level in
     ap (λ w. w .writer .offset) e
-    ∙ sym (ap (λ w. startOf (columnsOf (w .writer)) (w .writer .level)) e)
-    ∙ ap (λ k. startOf k (final cs (freshWorld W top L n x) .writer .level)) (columns-kept W top L n x from low h cs)
+    ∙ sym (ap (λ w. startOf (w .writer .filter) (columnsOf (w .writer)) (w .writer .level)) e)
+    ∙ ap₂ (λ i S. startOf i S v) (k .0) (k .1)

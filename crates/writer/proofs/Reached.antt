@@ -11,15 +11,16 @@ use lib.Dec.{leb, eqb}
 use borrow.Author.Tests.{le-leb, lt-ltb, le-ltb, ne-eqb}
 use Rattle.numbers.specs.Signal.{pick}
 use Rattle.lifting.specs.Halves.{fronted}
-use Rattle.wavelet.specs.Limits.{maxWidth, maxLevels, maxOrigin}
-use Rattle.wavelet.specs.Questions.{ask, within}
+use Rattle.wavelet.specs.Limits.{maxOrigin}
+use Rattle.wavelet.specs.Questions.{ask}
 use Rattle.wavelet.specs.Order.{RowName, made}
 use Rattle.lifting.specs.Grid.{Side}
 use Rattle.wavelet.specs.View.{bandColumns}
-use Rattle.wavelet.specs.Store.{storeLength}
 use Rattle.calls.specs.Lists.{Reply, gives, refused, unless, seen, Area, gathered, ever}
 use Rattle.calls.proofs.ListLaws.{either-no, gathered-snoc, ever-snoc, list-reached}
-use Rattle.writer.specs.Kind.{kind}
+use Rattle.nine_seven.specs.Filters.{filterOf}
+use Rattle.filters.specs.Figures.{storeBy, streamable}
+use Rattle.filters.specs.Forward.{kindOf}
 use Rattle.writer.specs.declared.Writer.{Writer}
 use Rattle.writer.specs.Machine.{Out}
 use Rattle.writer.specs.Draws.{Waiting, waiting, pull}
@@ -36,39 +37,42 @@ use Rattle.writer.proofs.StateHolds.{st, fresh-st}
 use Rattle.writer.proofs.CallLaws.{finish-may, offer-may}
 use Rattle.writer.proofs.CallList.{coming, At, whole-rows, begun-row, in-ranges, waiting-is, none-waits, none-eqb, Offered, offering-good, head-is}
 use Rattle.writer.proofs.CallList.{draw-good, finish-good, fresh-at}
-use Rattle.level.specs.Level.{Memory, rest, ahead}
+use Rattle.level.specs.Level.{Memory, LevelKind, rest}
 
 -- where it may take, an offer of one height or more takes one
-pub takes-one : (run : List ℕ) (s : Writer) (x : Memory) → takes s ≡ true → 0 < length run → 0 < offering kind run s x .taken
+pub takes-one : (K : LevelKind) (run : List ℕ) (s : Writer) (x : Memory) → takes s ≡ true → 0 < length run → 0 < offering K run s x .taken
 unfolding offering
-takes-one [] s x e p = absurd (omega arith)
-takes-one (h ∷ run) s x e p = rw e (omega arith)
+takes-one K [] s x e p = absurd (omega arith)
+takes-one K (h ∷ run) s x e p = rw e (omega arith)
 
-module _ (l : ℕ) (W : Side) (top : ℕ) (from : W .start ≤ maxOrigin) (low : top ≤ maxOrigin) (wide : within 1 maxWidth (W .length) ≡ true)
-    (deep : within 1 maxLevels (suc l) ≡ true) where
+-- φ is the number of the filter
+module _ (φ l : ℕ) (W : Side) (top : ℕ) (from : W .start ≤ maxOrigin) (low : top ≤ maxOrigin) (sized : streamable φ W (suc l) ≡ true) where
+  abbrev K : LevelKind
+  K = kindOf φ
+
   abbrev L : ℕ
   L = suc l
 
   abbrev State : List Event → (r c cl v i : ℕ) → Memory → Type 0
-  State es r c cl v i x = At L W top (taken es) (finishedBy es) (drawn es) r c cl v i x
+  State es r c cl v i x = At φ L W top (taken es) (finishedBy es) (drawn es) r c cl v i x
 
   -- ---- what every list of calls reaches
   pub record Reached (es : List Event) (w : World) : Type 0 where
-    pub long : storeLength W L ≤ w .length
+    pub long : storeBy φ W L ≤ w .length
     pub rows : ℕ
     pub column : ℕ
     pub closed : ℕ
     pub level : ℕ
     pub rest : ℕ
-    pub writer-is : w .writer ≡ st W top L rows column (finishedBy es) closed level rest
+    pub writer-is : w .writer ≡ st φ W top L rows column (finishedBy es) closed level rest
     pub at : State es rows column closed level rest (w .store)
 
   abbrev world : Writer → ℕ → Memory → World
   world s n x = record { writer = s; length = n; store = x }
 
   -- one event more
-  more : (es : List Event) (e : Event) (f : Bool) (n r c cl v i : ℕ) (x : Memory) → storeLength W L ≤ n → either (finishedBy es) (finishes e) ≡ f →
-      At L W top (taken es ++ takenBy e) f (drawn es ++ drawnBy e) r c cl v i x → Reached (es ++ e ∷ []) (world (st W top L r c f cl v i) n x)
+  more : (es : List Event) (e : Event) (f : Bool) (n r c cl v i : ℕ) (x : Memory) → storeBy φ W L ≤ n → either (finishedBy es) (finishes e) ≡ f →
+      At φ L W top (taken es ++ takenBy e) f (drawn es ++ drawnBy e) r c cl v i x → Reached (es ++ e ∷ []) (world (st φ W top L r c f cl v i) n x)
   more es e f n r c cl v i x long z a =
       let g : f ≡ finishedBy (es ++ e ∷ []) = sym (ever-snoc finishes es e ∙ z) in
       record {
@@ -78,55 +82,55 @@ module _ (l : ℕ) (W : Side) (top : ℕ) (from : W .start ≤ maxOrigin) (low :
         closed = cl;
         level = v;
         rest = i;
-        writer-is = ap (λ b. st W top L r c b cl v i) g;
+        writer-is = ap (λ b. st φ W top L r c b cl v i) g;
         at =
-            subst₂ (λ t d. At L W top t (finishedBy (es ++ e ∷ [])) d r c cl v i x) (sym (gathered-snoc takenBy es e)) (sym (gathered-snoc drawnBy es e))
-            (subst (λ b. At L W top (taken es ++ takenBy e) b (drawn es ++ drawnBy e) r c cl v i x) g a);
+            subst₂ (λ t d. At φ L W top t (finishedBy (es ++ e ∷ [])) d r c cl v i x) (sym (gathered-snoc takenBy es e)) (sym (gathered-snoc drawnBy es e))
+            (subst (λ b. At φ L W top (taken es ++ takenBy e) b (drawn es ++ drawnBy e) r c cl v i x) g a);
       }
 
-  module _ (es : List Event) (n r c cl v i : ℕ) (x : Memory) (long : storeLength W L ≤ n) (a : State es r c cl v i x) where
+  module _ (es : List Event) (n r c cl v i : ℕ) (x : Memory) (long : storeBy φ W L ≤ n) (a : State es r c cl v i x) where
     abbrev f : Bool
     f = finishedBy es
 
     abbrev s : Writer
-    s = st W top L r c f cl v i
+    s = st φ W top L r c f cl v i
 
     abbrev w : World
     w = world s n x
 
     ranges : inRanges s ≡ true
-    ranges = in-ranges a from low wide deep
+    ranges = in-ranges φ a from low sized
 
     enough : longEnough n s ≡ true
     unfolding longEnough
-    enough = le-leb (storeLength W L) n long
+    enough = le-leb (storeBy φ W L) n long
 
     -- a call that changes nothing
     unchanged : (e : Event) → takenBy e ≡ [] → finishes e ≡ false → drawnBy e ≡ [] → Reached (es ++ e ∷ []) w
     unchanged e p q d =
         more es e f n r c cl v i x long (ap (either f) q ∙ either-no f)
-        (subst₂ (λ t b. At L W top t f b r c cl v i x) (sym (ap (λ b. taken es ++ b) p ∙ append-nil _)) (sym (ap (λ b. drawn es ++ b) d ∙ append-nil _)) a)
+        (subst₂ (λ t b. At φ L W top t f b r c cl v i x) (sym (ap (λ b. taken es ++ b) p ∙ append-nil _)) (sym (ap (λ b. drawn es ++ b) d ∙ append-nil _)) a)
 
     -- ---- by the history
     pub rows-are : wholeRows W es ≡ r
     unfolding wholeRows
-    rows-are = whole-rows a
+    rows-are = whole-rows φ a
 
-    pub waiting-coming : waitingOf W top L es ≡ coming L W top f cl v i r
+    pub waiting-coming : waitingOf φ W top L es ≡ coming φ L W top f cl v i r
     unfolding waitingOf madeOf
-    waiting-coming = ap (λ m. drop (length (drawn es)) (made (ahead kind) W top L m f)) rows-are ∙ waiting-is a
+    waiting-coming = ap (λ m. drop (length (drawn es)) (made (filterOf φ .ahead) W top L m f)) rows-are ∙ waiting-is φ a
 
-    pub none-is : isNone (waitingOf W top L es) ≡ eqb v 0
-    none-is = ap isNone waiting-coming ∙ none-eqb l W top (drawn es) (taken es) f r c cl v i x a
+    pub none-is : isNone (waitingOf φ W top L es) ≡ eqb v 0
+    none-is = ap isNone waiting-coming ∙ none-eqb φ l W top (drawn es) (taken es) f r c cl v i x a
 
     -- ---- an offer
-    offer-question : (k : ℕ) → offerQuestion s n k ≡ offerTurned W top L es k
+    offer-question : (k : ℕ) → offerQuestion s n k ≡ offerTurned φ W top L es k
     unfolding offerQuestion offerTurned
     offer-question k = simp (ranges, enough, none-is, rows-are)
 
     module _ (run : List ℕ) where
       abbrev t : Taking
-      t = offering kind run s x
+      t = offering K run s x
 
       offer-refused : (q : ℕ) → offerQuestion s n (length run) ≡ suc q → (event (offer run) w ≡ offered run (refused (suc q))) × (next (offer run) w ≡ w)
       unfolding event next offerReply offerStore
@@ -141,15 +145,15 @@ module _ (l : ℕ) (W : Side) (top : ℕ) (from : W .start ≤ maxOrigin) (low :
       not-finished : offerQuestion s n (length run) ≡ 0 → f ≡ false
       not-finished e = offer-may s n (length run) e .0
 
-      offer-open : offerQuestion s n (length run) ≡ 0 → 0 < length run → takes (st W top L r c false cl v i) ≡ true
+      offer-open : offerQuestion s n (length run) ≡ 0 → 0 < length run → takes (st φ W top L r c false cl v i) ≡ true
       unfolding takes
       offer-open e = offer-may s n (length run) e .1
 
       abbrev T : Bool → Taking
-      T b = offering kind run (st W top L r c b cl v i) x
+      T b = offering K run (st φ W top L r c b cl v i) x
 
-      taking : f ≡ false → Offered l W top (drawn es) run (taken es) (T false)
-      taking z = offering-good l W top (drawn es) run (taken es) r c cl v i x (subst (λ b. At L W top (taken es) b (drawn es) r c cl v i x) z a)
+      taking : f ≡ false → Offered φ l W top (drawn es) run (taken es) (T false)
+      taking z = offering-good φ l W top (drawn es) run (taken es) r c cl v i x (subst (λ b. At φ L W top (taken es) b (drawn es) r c cl v i x) z a)
 
       offer-went : f ≡ false → Reached (es ++ offered run (gives (t .taken)) ∷ []) (world (t .writer) n (t .store))
       offer-went z =
@@ -158,7 +162,7 @@ module _ (l : ℕ) (W : Side) (top : ℕ) (from : W .start ≤ maxOrigin) (low :
           subst (λ k. Reached (es ++ offered run (gives (T false .taken)) ∷ []) (world k n (T false .store))) (sym (o .writer-is))
           (more es (offered run (gives (T false .taken))) false n (o .rows) (o .column) (o .closed) (o .level) (o .left) (T false .store) long
           (either-no f ∙ z)
-          (subst (λ b. At L W top (taken es ++ take (T false .taken) run) false b (o .rows) (o .column) (o .closed) (o .level) (o .left) (T false .store))
+          (subst (λ b. At φ L W top (taken es ++ take (T false .taken) run) false b (o .rows) (o .column) (o .closed) (o .level) (o .left) (T false .store))
           (sym (append-nil (drawn es))) (o .at))))
 
       pub offer-reached : (b : ℕ) → offerQuestion s n (length run) ≡ b → Reached (es ++ event (offer run) w ∷ []) (next (offer run) w)
@@ -169,10 +173,10 @@ module _ (l : ℕ) (W : Side) (top : ℕ) (from : W .start ≤ maxOrigin) (low :
           let p = offer-refused q e in
           subst₂ (λ d k. Reached (es ++ d ∷ []) k) (sym (p .0)) (sym (p .1)) (unchanged (offered run (refused (suc q))) refl refl refl)
 
-      pub offer-turned : (q : ℕ) → offerTurned W top L es (length run) ≡ suc q → event (offer run) w ≡ offered run (refused (suc q))
+      pub offer-turned : (q : ℕ) → offerTurned φ W top L es (length run) ≡ suc q → event (offer run) w ≡ offered run (refused (suc q))
       offer-turned q e = offer-refused q (offer-question (length run) ∙ e) .0
 
-      pub offer-takes : offerTurned W top L es (length run) ≡ 0 → (k : ℕ) × (event (offer run) w ≡ offered run (gives k)) × Takes W top L es (length run) k
+      pub offer-takes : offerTurned φ W top L es (length run) ≡ 0 → (k : ℕ) × (event (offer run) w ≡ offered run (gives k)) × Takes φ W top L es (length run) k
       unfolding takesOn
       offer-takes e =
           let q = offer-question (length run) ∙ e in
@@ -182,19 +186,19 @@ module _ (l : ℕ) (W : Side) (top : ℕ) (from : W .start ≤ maxOrigin) (low :
             offer-passed q .0 ∙ ap (λ b. offered run (gives (T b .taken))) z,
             record {
               most = o .most;
-              some = λ p. takes-one run
-                  (st W top L r c false cl v i) x (offer-open q p) p;
+              some = λ p. takes-one K run
+                  (st φ W top L r c false cl v i) x (offer-open q p) p;
               until = o .until;
               stop = o .stop;
             },
           )
 
     -- ---- a finish
-    finish-question : finishQuestion s n ≡ finishTurned W top L es
+    finish-question : finishQuestion s n ≡ finishTurned φ W top L es
     unfolding finishQuestion finishTurned
-    finish-question = simp (ranges, enough, none-is, rows-are, begun-row a)
+    finish-question = simp (ranges, enough, none-is, rows-are, begun-row φ a)
 
-    pub finish-answer : event finish w ≡ finished (unless (finishTurned W top L es) tt)
+    pub finish-answer : event finish w ≡ finished (unless (finishTurned φ W top L es) tt)
     unfolding event finishReply
     finish-answer = ap finished (go (finishQuestion s n) ∙ ap (λ b. unless b tt) finish-question)
       where
@@ -203,10 +207,10 @@ module _ (l : ℕ) (W : Side) (top : ℕ) (from : W .start ≤ maxOrigin) (low :
         go (suc b) = refl
 
     abbrev k : Shut
-    k = shut kind L W top 0 r x
+    k = shut K L W top 0 r x
 
     finish-passed : finishQuestion s n ≡ 0 →
-        (event finish w ≡ finished (gives tt)) × (next finish w ≡ world (st W top L r c true (k .closed) (k .out .level) (k .out .left)) n (k .out .store))
+        (event finish w ≡ finished (gives tt)) × (next finish w ≡ world (st φ W top L r c true (k .closed) (k .out .level) (k .out .left)) n (k .out .store))
     unfolding event next finishReply finishStore
     finish-passed e = (rw e refl, rw e refl)
 
@@ -220,8 +224,9 @@ module _ (l : ℕ) (W : Side) (top : ℕ) (from : W .start ≤ maxOrigin) (low :
         let m = finish-may s n e in
         subst₂ (λ d g. Reached (es ++ d ∷ []) g) (sym (p .0)) (sym (p .1))
         (more es (finished (gives tt)) true n r c (k .closed) (k .out .level) (k .out .left) (k .out .store) long (done f)
-        (subst₂ (λ d g. At L W top d true g r c (k .closed) (k .out .level) (k .out .left) (k .out .store)) (sym (append-nil _)) (sym (append-nil _))
-        (finish-good l W top (drawn es) (taken es) r c cl v i x (subst (λ b. At L W top (taken es) b (drawn es) r c cl v i x) (m .0) a) (m .1) (m .2) (m .3))))
+        (subst₂ (λ d g. At φ L W top d true g r c (k .closed) (k .out .level) (k .out .left) (k .out .store)) (sym (append-nil _)) (sym (append-nil _))
+        (finish-good φ l W top (drawn es) (taken es) r c cl v i x (subst (λ b. At φ L W top (taken es) b (drawn es) r c cl v i x) (m .0) a)
+        (m .1) (m .2) (m .3))))
       where
         done : (b : Bool) → either b true ≡ true
         done true = refl
@@ -235,9 +240,9 @@ module _ (l : ℕ) (W : Side) (top : ℕ) (from : W .start ≤ maxOrigin) (low :
   same b = record { size = b .size; numbers = b .numbers }
 
   -- nothing waits
-  module _ (es : List Event) (n r c cl i : ℕ) (x : Memory) (long : storeLength W L ≤ n) (a : State es r c cl 0 i x) (b : Area) where
+  module _ (es : List Event) (n r c cl i : ℕ) (x : Memory) (long : storeBy φ W L ≤ n) (a : State es r c cl 0 i x) (b : Area) where
     abbrev s₀ : Writer
-    s₀ = st W top L r c (finishedBy es) cl 0 i
+    s₀ = st φ W top L r c (finishedBy es) cl 0 i
 
     question-none : drawQuestion s₀ n (b .size) ≡ 0
     unfolding drawQuestion
@@ -252,24 +257,24 @@ module _ (l : ℕ) (W : Side) (top : ℕ) (from : W .start ≤ maxOrigin) (low :
         subst₂ (λ d k. Reached (es ++ d ∷ []) k) (sym (draw-none .0)) (sym (draw-none .1))
         (unchanged es n r c cl 0 i x long a (drew b (gives none) (same b)) refl refl refl)
 
-    none-says : DrawSeen W top L es b (event (draw b) (world s₀ n x))
+    none-says : DrawSeen φ W top L es b (event (draw b) (world s₀ n x))
     none-says =
-        let e : waitingOf W top L es ≡ [] = waiting-coming es n r c cl 0 i x long a ∙ none-waits a refl in
+        let e : waitingOf φ W top L es ≡ [] = waiting-coming es n r c cl 0 i x long a ∙ none-waits φ a refl in
         record { area = same b; says = draw-none .0 ∙ ap (λ l. drew b (drawSays W l (b .size)) (same b)) (sym e); size-is = refl; surplus = λ j p. refl }
 
   -- a row waits
-  module _ (es : List Event) (n r c cl u i : ℕ) (x : Memory) (long : storeLength W L ≤ n) (a : State es r c cl (suc u) i x) (b : Area) where
+  module _ (es : List Event) (n r c cl u i : ℕ) (x : Memory) (long : storeBy φ W L ≤ n) (a : State es r c cl (suc u) i x) (b : Area) where
     abbrev f₁ : Bool
     f₁ = finishedBy es
 
     abbrev s₁ : Writer
-    s₁ = st W top L r c f₁ cl (suc u) i
+    s₁ = st φ W top L r c f₁ cl (suc u) i
 
     abbrev q : Waiting
-    q = waiting kind L W top cl (suc u) i r
+    q = waiting K L W top cl (suc u) i r
 
     abbrev o : Out
-    o = pull kind L W top cl (suc u) i r x
+    o = pull K L W top cl (suc u) i r x
 
     abbrev R : Shut
     R = resumed f₁ s₁ o (o .level)
@@ -289,7 +294,7 @@ module _ (l : ℕ) (W : Side) (top : ℕ) (from : W .start ≤ maxOrigin) (low :
 
     draw-row : leb (q .length) (b .size) ≡ true →
         (event (draw b) (world s₁ n x) ≡ drew b (gives (row (bandRow q))) (record { size = b .size; numbers = z })) ×
-        (next (draw b) (world s₁ n x) ≡ world (st W top L r c f₁ (R .closed) (R .out .level) (R .out .left)) n (R .out .store))
+        (next (draw b) (world s₁ n x) ≡ world (st φ W top L r c f₁ (R .closed) (R .out .level) (R .out .left)) n (R .out .store))
     unfolding event next drawReply drawStore drawArea
     draw-row e = let p : drawQuestion s₁ n (b .size) ≡ 0 = question-some ∙ ap (λ t. ask t 12 0) e in (rw p refl, rw p refl)
 
@@ -311,14 +316,14 @@ module _ (l : ℕ) (W : Side) (top : ℕ) (from : W .start ≤ maxOrigin) (low :
         let d = drew b (gives (row (bandRow q))) (record { size = b .size; numbers = z }) in
         subst₂ (λ d k. Reached (es ++ d ∷ []) k) (sym (p .0)) (sym (p .1))
         (more es d f₁ n r c (R .closed) (R .out .level) (R .out .left) (R .out .store) long (either-no f₁)
-        (subst (λ t. At L W top t f₁ (drawn es ++ drawnBy d) r c (R .closed) (R .out .level) (R .out .left) (R .out .store)) (sym (append-nil (taken es)))
-        (draw-good l W top (drawn es) (taken es) f₁ r c cl u i x a z values-are)))
+        (subst (λ t. At φ L W top t f₁ (drawn es ++ drawnBy d) r c (R .closed) (R .out .level) (R .out .left) (R .out .store)) (sym (append-nil (taken es)))
+        (draw-good φ l W top (drawn es) (taken es) f₁ r c cl u i x a z values-are)))
 
-    some-says : (t : Bool) → leb (q .length) (b .size) ≡ t → DrawSeen W top L es b (event (draw b) (world s₁ n x))
+    some-says : (t : Bool) → leb (q .length) (b .size) ≡ t → DrawSeen φ W top L es b (event (draw b) (world s₁ n x))
     some-says t e = go t e
       where
-        h : (m : RowName) × (k : List RowName) × (coming L W top f₁ cl (suc u) i r ≡ m ∷ k) × (bandRow q ≡ answered W m)
-        h = head-is l W top (drawn es) (taken es) f₁ r c cl u i x a
+        h : (m : RowName) × (k : List RowName) × (coming φ L W top f₁ cl (suc u) i r ≡ m ∷ k) × (bandRow q ≡ answered W m)
+        h = head-is φ l W top (drawn es) (taken es) f₁ r c cl u i x a
 
         m : RowName
         m = h .0
@@ -326,12 +331,12 @@ module _ (l : ℕ) (W : Side) (top : ℕ) (from : W .start ≤ maxOrigin) (low :
         long-is : q .length ≡ bandColumns W (m .level) (m .band)
         long-is = ap (λ y. y .length) (h .3)
 
-        says-is : drawSays W (waitingOf W top L es) (b .size) ≡ pick (leb (q .length) (b .size)) (gives (row (answered W m))) (refused 12)
+        says-is : drawSays W (waitingOf φ W top L es) (b .size) ≡ pick (leb (q .length) (b .size)) (gives (row (answered W m))) (refused 12)
         says-is =
             ap (λ y. drawSays W y (b .size)) (waiting-coming es n r c cl (suc u) i x long a ∙ h .2)
             ∙ ap (λ y. pick (leb y (b .size)) (gives (row (answered W m))) (refused 12)) (sym long-is)
 
-        go : (t : Bool) → leb (q .length) (b .size) ≡ t → DrawSeen W top L es b (event (draw b) (world s₁ n x))
+        go : (t : Bool) → leb (q .length) (b .size) ≡ t → DrawSeen φ W top L es b (event (draw b) (world s₁ n x))
         go false e =
             record {
               area = same b;
@@ -340,7 +345,7 @@ module _ (l : ℕ) (W : Side) (top : ℕ) (from : W .start ≤ maxOrigin) (low :
               surplus = λ j p. refl;
             }
         go true e =
-            let y : drawSays W (waitingOf W top L es) (b .size) ≡ gives (row (answered W m)) = says-is
+            let y : drawSays W (waitingOf φ W top L es) (b .size) ≡ gives (row (answered W m)) = says-is
             ∙ ap (λ y. pick y (gives (row (answered W m))) (refused 12)) e in
             record {
               area = record { size = b .size; numbers = z };
@@ -349,20 +354,20 @@ module _ (l : ℕ) (W : Side) (top : ℕ) (from : W .start ≤ maxOrigin) (low :
               surplus = λ j p. surplus-is j (subst (λ k. k ≤ j) (ap written y ∙ sym long-is) p);
             }
 
-  draw-reached : (es : List Event) (n r c cl v i : ℕ) (x : Memory) → storeLength W L ≤ n → State es r c cl v i x → (b : Area) →
-      Reached (es ++ event (draw b) (world (st W top L r c (finishedBy es) cl v i) n x) ∷ [])
-      (next (draw b) (world (st W top L r c (finishedBy es) cl v i) n x))
+  draw-reached : (es : List Event) (n r c cl v i : ℕ) (x : Memory) → storeBy φ W L ≤ n → State es r c cl v i x → (b : Area) →
+      Reached (es ++ event (draw b) (world (st φ W top L r c (finishedBy es) cl v i) n x) ∷ [])
+      (next (draw b) (world (st φ W top L r c (finishedBy es) cl v i) n x))
   draw-reached es n r c cl zero i x long a b = none-reached es n r c cl i x long a b
   draw-reached es n r c cl (suc u) i x long a b = some-reached es n r c cl u i x long a b _ refl
 
-  pub draw-says : (es : List Event) (n r c cl v i : ℕ) (x : Memory) → storeLength W L ≤ n → State es r c cl v i x → (b : Area) →
-      DrawSeen W top L es b (event (draw b) (world (st W top L r c (finishedBy es) cl v i) n x))
+  pub draw-says : (es : List Event) (n r c cl v i : ℕ) (x : Memory) → storeBy φ W L ≤ n → State es r c cl v i x → (b : Area) →
+      DrawSeen φ W top L es b (event (draw b) (world (st φ W top L r c (finishedBy es) cl v i) n x))
   draw-says es n r c cl zero i x long a b = none-says es n r c cl i x long a b
   draw-says es n r c cl (suc u) i x long a b = some-says es n r c cl u i x long a b _ refl
 
   -- ---- every call, and every list of calls
-  call-reached : (k : Call) (es : List Event) (n r c cl v i : ℕ) (x : Memory) → storeLength W L ≤ n → State es r c cl v i x →
-      Reached (es ++ event k (world (st W top L r c (finishedBy es) cl v i) n x) ∷ []) (next k (world (st W top L r c (finishedBy es) cl v i) n x))
+  call-reached : (k : Call) (es : List Event) (n r c cl v i : ℕ) (x : Memory) → storeBy φ W L ≤ n → State es r c cl v i x →
+      Reached (es ++ event k (world (st φ W top L r c (finishedBy es) cl v i) n x) ∷ []) (next k (world (st φ W top L r c (finishedBy es) cl v i) n x))
   call-reached (offer run) es n r c cl v i x long a = offer-reached es n r c cl v i x long a run _ refl
   call-reached (draw b) es n r c cl v i x long a = draw-reached es n r c cl v i x long a b
   call-reached finish es n r c cl v i x long a = finish-reached es n r c cl v i x long a _ refl
@@ -372,11 +377,11 @@ module _ (l : ℕ) (W : Side) (top : ℕ) (from : W .start ≤ maxOrigin) (low :
       subst (λ s. Reached (es ++ event k (world s (w .length) (w .store)) ∷ []) (next k (world s (w .length) (w .store)))) (sym (m .writer-is))
       (call-reached k es (w .length) (m .rows) (m .column) (m .closed) (m .level) (m .rest) (w .store) (m .long) (m .at))
 
-  fresh-reached : (n : ℕ) (x : Memory) → 0 < W .length → storeLength W L ≤ n → Reached [] (world (fresh W top L) n x)
+  fresh-reached : (n : ℕ) (x : Memory) → 0 < W .length → storeBy φ W L ≤ n → Reached [] (world (fresh φ W top L) n x)
   unfolding gathered ever
   fresh-reached n x p long =
-      record { long = long; rows = 0; column = 0; closed = 0; level = 0; rest = 0; writer-is = fresh-st W top L; at = fresh-at L W top x p }
+      record { long = long; rows = 0; column = 0; closed = 0; level = 0; rest = 0; writer-is = fresh-st φ W top L; at = fresh-at φ L W top x p }
 
-  pub then-reached : (n : ℕ) (x : Memory) → 0 < W .length → storeLength W L ≤ n → (cs : List Call) →
-      (let w = world (fresh W top L) n x in Reached (events cs w) (final cs w))
-  then-reached n x p long cs = list-reached event next Reached step-reached cs [] (world (fresh W top L) n x) (fresh-reached n x p long)
+  pub then-reached : (n : ℕ) (x : Memory) → 0 < W .length → storeBy φ W L ≤ n → (cs : List Call) →
+      (let w = world (fresh φ W top L) n x in Reached (events cs w) (final cs w))
+  then-reached n x p long cs = list-reached event next Reached step-reached cs [] (world (fresh φ W top L) n x) (fresh-reached n x p long)

@@ -16,211 +16,221 @@ use Rattle.lifting.specs.Grid.{Side, side, count}
 use Rattle.lifting.specs.Halves.{fronted}
 use Rattle.wavelet.specs.Levels.{next}
 use Rattle.wavelet.specs.Order.{lastSet}
-use Rattle.wavelet.specs.Store.{storeLength}
 use Rattle.wavelet.proofs.StoreLaws.{store-below}
 use Rattle.wavelet.specs.Bands.{LL}
 use Rattle.calls.specs.Lists.{changedUnless}
+use Rattle.nine_seven.specs.Filters.{filterOf}
 use Rattle.level.specs.Level.{Memory, LevelKind, completes, prev, rest, joinAt, ahead}
-use Rattle.level.specs.FiveThreeLevel.{fiveThree}
 use Rattle.level.proofs.RestLaws.{rest-at, join-past}
 use Rattle.level.proofs.LevelLaws.{LevelLaws}
-use Rattle.level.proofs.LevelLaws.{five-three-laws}
+use Rattle.filters.specs.Figures.{storeBy}
+use Rattle.filters.specs.Forward.{kindOf, heldOf, endedOf}
+use Rattle.filters.proofs.ForwardLaws.{laws-of}
 use Rattle.writer.specs.declared.Writer.{Writer}
 use Rattle.writer.specs.Counts.{made, lowRows, most, skip}
 use Rattle.writer.specs.Machine.{Out, still, under, passed, settled, arrived, arrive, passOn}
 use Rattle.writer.specs.Draws.{pull}
 use Rattle.writer.specs.Closing.{Shut, stepped, onward, closeStep, closeLevel, shut}
-use Rattle.writer.specs.Taking.{columnsOf, none, oneMore, takes, begun, complete, heightPut, rowMakes, offering}
+use Rattle.writer.specs.Taking.{kind, columnsOf, none, oneMore, takes, begun, complete, heightPut, rowMakes, offering}
 use Rattle.writer.specs.Questions.{setUpQuestion, offerQuestion, drawQuestion, finishQuestion}
 use Rattle.writer.specs.Calls.{setUpStore, offerStore, resumed, handedStore, drawStore, finishStore}
 use Rattle.writer.proofs.CallLaws.{offer-sound}
-open LevelLaws five-three-laws using (cell-past, put-past, make-past, close-past)
-
-abbrev K : LevelKind
-K = fiveThree
 
 -- y is x from place n on
 abbrev Past : ℕ → Memory → Memory → Type 0
 Past n x y = (j : ℕ) → n ≤ j → y j ≡ x j
 
-under-past : (l : ℕ) (w : Side) (x t : Memory) → Past (storeLength (next w) l) (rest (4 * w .length) x) t →
-    Past (storeLength w (suc l)) x (joinAt (4 * w .length) x t)
-under-past l w x t h j p =
-    let a : ℕ = 4 * w .length in
-    let q : a + storeLength (next w) l ≤ j = omega (arith, store-below w l) in
-    let k : a + (j - a) ≡ j = omega arith in
-    join-past a x t j (omega arith) ∙ h (j - a) (omega arith) ∙ rest-at a x (j - a) ∙ ap x k
+-- φ is the number of the filter
+module _ (φ : ℕ) where
+  abbrev K : LevelKind
+  K = kindOf φ
 
--- ---- a row goes down the levels
-abbrev Arrives : ℕ → Type 0
-Arrives L = (w : Side) (s m : ℕ) (x : Memory) → Past (storeLength w L) x (arrive K L w s m x .store)
+  -- the rows that a level keeps
+  abbrev R : ℕ
+  R = filterOf φ .rows
 
-pass-past : (l : ℕ) → Arrives l → (w : Side) (s n : ℕ) (x : Memory) → Past (storeLength w (suc l)) x (passOn K l w s n x .store)
-unfolding passed
-pass-past zero ih w s n x j p = refl
-pass-past (suc l) ih w s n x j p = go (leb (s % 2) n)
-  where
-    o : Out
-    o = arrive K (suc l) (next w) ((s + 1) / 2) (n - s % 2) (K .put (next w) ((s + 1) / 2) (n - s % 2) (λ i. x (K .place w s n LL + i))
-        (rest (4 * w .length) x))
+  abbrev laws : LevelLaws K (heldOf φ) (endedOf φ)
+  laws = laws-of φ
 
-    go : (t : Bool) → pick t (under (4 * w .length) x o) (still x) .store j ≡ x j
-    go true =
-        under-past (suc l) w x _
-        (λ i q. ih (next w) ((s + 1) / 2) (n - s % 2) _ i q
-        ∙ put-past (next w) ((s + 1) / 2) (n - s % 2) _ (rest (4 * w .length) x) i (omega (arith, store-below (next w) l))) j p
-    go false = refl
+  under-past : (l : ℕ) (w : Side) (x t : Memory) → Past (storeBy φ (next w) l) (rest (R * w .length) x) t →
+      Past (storeBy φ w (suc l)) x (joinAt (R * w .length) x t)
+  under-past l w x t h j p =
+      let a : ℕ = R * w .length in
+      let q : a + storeBy φ (next w) l ≤ j = omega (arith, store-below R w l) in
+      let k : a + (j - a) ≡ j = omega arith in
+      join-past a x t j (omega arith) ∙ h (j - a) (omega arith) ∙ rest-at a x (j - a) ∙ ap x k
 
-settle-past : (l : ℕ) → Arrives l → (w : Side) (s n : ℕ) (x y : Memory) → Past (storeLength w (suc l)) x y → (i : ℕ) →
-    Past (storeLength w (suc l)) x (settled (passOn K l w s) n y i .store)
-unfolding settled
-settle-past l ih w s n x y h zero j p = pass-past l ih w s n y j p ∙ h j p
-settle-past l ih w s n x y h (suc i) j p = h j p
+  -- ---- a row goes down the levels
+  abbrev Arrives : ℕ → Type 0
+  Arrives L = (w : Side) (s m : ℕ) (x : Memory) → Past (storeBy φ w L) x (arrive K L w s m x .store)
 
-pub arrive-past : (L : ℕ) → Arrives L
-unfolding arrive arrived
-arrive-past zero w s m x j p = refl
-arrive-past (suc l) w s m x j p = go (arrive-past l) (completes (ahead K) s m)
-  where
-    n : ℕ
-    n = (s % 2 + m) / 2 - ahead K
+  pass-past : (l : ℕ) → Arrives l → (w : Side) (s n : ℕ) (x : Memory) → Past (storeBy φ w (suc l)) x (passOn K l w s n x .store)
+  unfolding passed
+  pass-past zero ih w s n x j p = refl
+  pass-past (suc l) ih w s n x j p = go (leb (s % 2) n)
+    where
+      o : Out
+      o = arrive K (suc l) (next w) ((s + 1) / 2) (n - s % 2) (K .put (next w) ((s + 1) / 2) (n - s % 2) (λ i. x (K .place w s n LL + i))
+          (rest (R * w .length) x))
 
-    o : Out
-    o = settled (passOn K l w s) n (K .make w s n x) (skip w (side s (m + 1)) n (most l))
+      go : (t : Bool) → pick t (under (R * w .length) x o) (still x) .store j ≡ x j
+      go true =
+          under-past (suc l) w x _
+          (λ i q. ih (next w) ((s + 1) / 2) (n - s % 2) _ i q
+          ∙ laws .put-past (next w) ((s + 1) / 2) (n - s % 2) _ (rest (R * w .length) x) i (omega (arith, store-below R (next w) l))) j p
+      go false = refl
 
-    go : Arrives l → (b : Bool) → pick b o (still x) .store j ≡ x j
-    go ih true =
-        settle-past l ih w s n x _ (λ i q. make-past w s n x i (omega (arith, store-below w l))) (skip w (side s (m + 1)) n (most l)) j p
-    go ih false = refl
+  settle-past : (l : ℕ) → Arrives l → (w : Side) (s n : ℕ) (x y : Memory) → Past (storeBy φ w (suc l)) x y → (i : ℕ) →
+      Past (storeBy φ w (suc l)) x (settled (passOn K l w s) n y i .store)
+  unfolding settled
+  settle-past l ih w s n x y h zero j p = pass-past l ih w s n y j p ∙ h j p
+  settle-past l ih w s n x y h (suc i) j p = h j p
 
--- ---- a row is drawn
-pub pull-past : (L : ℕ) (w : Side) (s c v i m : ℕ) (x : Memory) → Past (storeLength w L) x (pull K L w s c v i m x .store)
-unfolding pull
-pull-past zero w s c v i m x j p = refl
-pull-past (suc l) w s c zero i m x j p = refl
-pull-past (suc l) w s c (suc zero) i m x j p =
-    settle-past l (arrive-past l) w s (prev (made (ahead K) c s m)) x x (λ _ _. refl) (skip w (side s m) (prev (made (ahead K) c s m)) (prev i)) j p
-pull-past (suc l) w s c (suc (suc v)) i m x j p =
-    under-past l w x _ (λ a q. pull-past l (next w) ((s + 1) / 2) (c - ahead K) (suc v) i (lowRows s (made (ahead K) c s m)) (rest (4 * w .length) x) a q) j p
+  pub arrive-past : (L : ℕ) → Arrives L
+  unfolding arrive arrived
+  arrive-past zero w s m x j p = refl
+  arrive-past (suc l) w s m x j p = go (arrive-past l) (completes (ahead K) s m)
+    where
+      n : ℕ
+      n = (s % 2 + m) / 2 - ahead K
 
--- ---- levels close
-step-past : (l : ℕ) (w : Side) (s c m : ℕ) (x : Memory) → Past (storeLength w (suc l)) x (closeStep K l w s c m x .store)
-unfolding closeStep
-step-past l w s c m x j p = go (both (ltb 0 m) (leb n (lastSet (side s m))))
-  where
-    n : ℕ
-    n = made (ahead K) c s m
+      o : Out
+      o = settled (passOn K l w s) n (K .make w s n x) (skip w (side s (m + 1)) n (most l))
 
-    go : (t : Bool) → pick t (settled (passOn K l w s) n (K .close w (side s m) n x) (skip w (side s m) n (most l))) (still x) .store j ≡ x j
-    go true =
-        settle-past l (arrive-past l) w s n x _ (λ i q. close-past w (side s m) n x i (omega (arith, store-below w l))) (skip w (side s m) n (most l)) j p
-    go false = refl
+      go : Arrives l → (b : Bool) → pick b o (still x) .store j ≡ x j
+      go ih true =
+          settle-past l ih w s n x _ (λ i q. laws .make-past w s n x i (omega (arith, store-below R w l))) (skip w (side s (m + 1)) n (most l)) j p
+      go ih false = refl
 
-level-past : (f l : ℕ) (w : Side) (s c m : ℕ) (x : Memory) → Past (storeLength w (suc l)) x (closeLevel K f l w s c m x .out .store)
-unfolding closeLevel stepped
-level-past zero l w s c m x j p = refl
-level-past (suc f) l w s c m x j p = go (level-past f l w s (suc c) m) (closeStep K l w s c m x .level)
-  where
-    o : Out
-    o = closeStep K l w s c m x
+  -- ---- a row is drawn
+  pub pull-past : (L : ℕ) (w : Side) (s c v i m : ℕ) (x : Memory) → Past (storeBy φ w L) x (pull K L w s c v i m x .store)
+  unfolding pull
+  pull-past zero w s c v i m x j p = refl
+  pull-past (suc l) w s c zero i m x j p = refl
+  pull-past (suc l) w s c (suc zero) i m x j p =
+      settle-past l (arrive-past l) w s (prev (made (ahead K) c s m)) x x (λ _ _. refl) (skip w (side s m) (prev (made (ahead K) c s m)) (prev i)) j p
+  pull-past (suc l) w s c (suc (suc v)) i m x j p =
+      under-past l w x _ (λ a q. pull-past l (next w) ((s + 1) / 2) (c - ahead K) (suc v) i (lowRows s (made (ahead K) c s m)) (rest (R * w .length) x) a q) j p
 
-    on : Memory → Shut
-    on y = closeLevel K f l w s (suc c) m y
+  -- ---- levels close
+  step-past : (l : ℕ) (w : Side) (s c m : ℕ) (x : Memory) → Past (storeBy φ w (suc l)) x (closeStep K l w s c m x .store)
+  unfolding closeStep
+  step-past l w s c m x j p = go (both (ltb 0 m) (leb n (lastSet (side s m))))
+    where
+      n : ℕ
+      n = made (ahead K) c s m
 
-    go : ((y : Memory) → Past (storeLength w (suc l)) y (on y .out .store)) → (v : ℕ) → stepped c on o v .out .store j ≡ x j
-    go ih zero = ih (o .store) j p ∙ step-past l w s c m x j p
-    go ih (suc v) = step-past l w s c m x j p
+      go : (t : Bool) → pick t (settled (passOn K l w s) n (K .close w (side s m) n x) (skip w (side s m) n (most l))) (still x) .store j ≡ x j
+      go true =
+          settle-past l (arrive-past l) w s n x _ (λ i q. laws .close-past w (side s m) n x i (omega (arith, store-below R w l)))
+          (skip w (side s m) n (most l)) j p
+      go false = refl
 
-pub shut-past : (L : ℕ) (w : Side) (s c m : ℕ) (x : Memory) → Past (storeLength w L) x (shut K L w s c m x .out .store)
-unfolding shut onward
-shut-past zero w s c m x j p = refl
-shut-past (suc l) w s c m x j p =
-    go (shut-past l (next w) ((s + 1) / 2) (c - ahead K) (count lo (side s m))) (o .out .level)
-  where
-    o : Shut
-    o = closeLevel K (ahead K - c) l w s c m x
+  level-past : (f l : ℕ) (w : Side) (s c m : ℕ) (x : Memory) → Past (storeBy φ w (suc l)) x (closeLevel K f l w s c m x .out .store)
+  unfolding closeLevel stepped
+  level-past zero l w s c m x j p = refl
+  level-past (suc f) l w s c m x j p = go (level-past f l w s (suc c) m) (closeStep K l w s c m x .level)
+    where
+      o : Out
+      o = closeStep K l w s c m x
 
-    below : Memory → Shut
-    below y = shut K l (next w) ((s + 1) / 2) (c - ahead K) (count lo (side s m)) y
+      on : Memory → Shut
+      on y = closeLevel K f l w s (suc c) m y
 
-    closed : o .out .store j ≡ x j
-    closed = level-past (ahead K - c) l w s c m x j p
+      go : ((y : Memory) → Past (storeBy φ w (suc l)) y (on y .out .store)) → (v : ℕ) → stepped c on o v .out .store j ≡ x j
+      go ih zero = ih (o .store) j p ∙ step-past l w s c m x j p
+      go ih (suc v) = step-past l w s c m x j p
 
-    go : ((y : Memory) → Past (storeLength (next w) l) y (below y .out .store)) → (v : ℕ) → onward (ahead K) (4 * w .length) below o v .out .store j ≡ x j
-    go ih zero = under-past l w (o .out .store) _ (ih (rest (4 * w .length) (o .out .store))) j p ∙ closed
-    go ih (suc v) = closed
+  pub shut-past : (L : ℕ) (w : Side) (s c m : ℕ) (x : Memory) → Past (storeBy φ w L) x (shut K L w s c m x .out .store)
+  unfolding shut onward
+  shut-past zero w s c m x j p = refl
+  shut-past (suc l) w s c m x j p =
+      go (shut-past l (next w) ((s + 1) / 2) (c - ahead K) (count lo (side s m))) (o .out .level)
+    where
+      o : Shut
+      o = closeLevel K (ahead K - c) l w s c m x
 
--- ---- heights are taken
-abbrev Taken : ℕ → List ℕ → Type 0
-Taken n run = (s : Writer) (x : Memory) → 4 * s .width ≤ n → storeLength (columnsOf s) (s .levels) ≤ n → s .column < s .width →
-    Past n x (offering K run s x .store)
+      below : Memory → Shut
+      below y = shut K l (next w) ((s + 1) / 2) (c - ahead K) (count lo (side s m)) y
 
-offering-past : (n : ℕ) (run : List ℕ) → Taken n run
-unfolding offering
-offering-past n [] s x a b h j p = refl
-offering-past n (e ∷ run) s x a b h j p = go (offering-past n run) (takes s) (ltb (s .column + 1) (s .width)) refl
-  where
-    y : Memory
-    y = heightPut K e s x
+      closed : o .out .store j ≡ x j
+      closed = level-past (ahead K - c) l w s c m x j p
 
-    put : y j ≡ x j
-    put = cell-past (columnsOf s) (s .y) (s .rows) (s .column) (pos e) x j h (omega arith)
+      go : ((y : Memory) → Past (storeBy φ (next w) l) y (below y .out .store)) → (v : ℕ) → onward (ahead K) (R * w .length) below o v .out .store j ≡ x j
+      go ih zero = under-past l w (o .out .store) _ (ih (rest (R * w .length) (o .out .store))) j p ∙ closed
+      go ih (suc v) = closed
 
-    o : Out
-    o = rowMakes K s y
+  -- ---- heights are taken
+  abbrev Taken : ℕ → List ℕ → Type 0
+  Taken n run = (s : Writer) (x : Memory) → R * s .width ≤ n → storeBy φ (columnsOf s) (s .levels) ≤ n → s .column < s .width →
+      Past n x (offering K run s x .store)
 
-    go : Taken n run → (t c : Bool) → ltb (s .column + 1) (s .width) ≡ c →
-        pick t (oneMore (pick c (offering K run (begun s) y) (offering K run (complete s o) (o .store)))) (none s x) .store j ≡ x j
-    go ih false c q = refl
-    go ih true true q = ih (begun s) y a b (ltb-true _ _ q) j p ∙ put
-    go ih true false q =
-        ih (complete s o) (o .store) a b (omega arith) j p ∙ arrive-past (s .levels) (columnsOf s) (s .y) (s .rows) y j (omega arith) ∙ put
+  offering-past : (n : ℕ) (run : List ℕ) → Taken n run
+  unfolding offering
+  offering-past n [] s x a b h j p = refl
+  offering-past n (e ∷ run) s x a b h j p = go (offering-past n run) (takes s) (ltb (s .column + 1) (s .width)) refl
+    where
+      y : Memory
+      y = heightPut K e s x
+
+      put : y j ≡ x j
+      put = laws .cell-past (columnsOf s) (s .y) (s .rows) (s .column) (pos e) x j h (omega arith)
+
+      o : Out
+      o = rowMakes K s y
+
+      go : Taken n run → (t c : Bool) → ltb (s .column + 1) (s .width) ≡ c →
+          pick t (oneMore (pick c (offering K run (begun s) y) (offering K run (complete s o) (o .store)))) (none s x) .store j ≡ x j
+      go ih false c q = refl
+      go ih true true q = ih (begun s) y a b (ltb-true _ _ q) j p ∙ put
+      go ih true false q =
+          ih (complete s o) (o .store) a b (omega arith) j p ∙ arrive-past (s .levels) (columnsOf s) (s .y) (s .rows) y j (omega arith) ∙ put
 
 -- ---- the calls
-pub set-up-surplus : (W : Side) (L n : ℕ) (x : Memory) (j : ℕ) → storeLength W L ≤ j → setUpStore W L n x j ≡ x j
+pub set-up-surplus : (f : ℕ) (W : Side) (L n : ℕ) (x : Memory) (j : ℕ) → storeBy f W L ≤ j → setUpStore f W L n x j ≡ x j
 unfolding setUpStore fronted
-set-up-surplus W L n x j p = go (setUpQuestion W L n)
+set-up-surplus f W L n x j p = go (setUpQuestion f W L n)
   where
-    go : (q : ℕ) → changedUnless q (fronted (storeLength W L) (λ _. pos 0) x) x j ≡ x j
-    go zero = unfold fronted in simp (le-ltb j (storeLength W L) p)
+    go : (q : ℕ) → changedUnless q (fronted (storeBy f W L) (λ _. pos 0) x) x j ≡ x j
+    go zero = unfold fronted in simp (le-ltb j (storeBy f W L) p)
     go (suc q) = refl
 
-pub offer-surplus : (s : Writer) (n : ℕ) (run : List ℕ) (x : Memory) (j : ℕ) → storeLength (columnsOf s) (s .levels) ≤ j →
+pub offer-surplus : (s : Writer) (n : ℕ) (run : List ℕ) (x : Memory) (j : ℕ) → storeBy (s .filter) (columnsOf s) (s .levels) ≤ j →
     offerStore s n run x j ≡ x j
 unfolding offerStore
 offer-surplus s n run x j p = go (offerQuestion s n (length run)) refl
   where
-    wide : (l : ℕ) → 1 ≤ l → 4 * s .width ≤ storeLength (columnsOf s) l
+    wide : (l : ℕ) → 1 ≤ l → filterOf (s .filter) .rows * s .width ≤ storeBy (s .filter) (columnsOf s) l
     wide zero h = absurd (omega arith)
-    wide (suc l) h = omega (arith, store-below (columnsOf s) l)
+    wide (suc l) h = omega (arith, store-below (filterOf (s .filter) .rows) (columnsOf s) l)
 
-    go : (q : ℕ) → offerQuestion s n (length run) ≡ q → changedUnless q (offering fiveThree run s x .store) x j ≡ x j
+    go : (q : ℕ) → offerQuestion s n (length run) ≡ q → changedUnless q (offering (kind s) run s x .store) x j ≡ x j
     go zero e =
         let k = offer-sound s n (length run) e in
-        offering-past (storeLength (columnsOf s) (s .levels)) run s x (wide (s .levels) (k .levels .0)) (omega arith) (k .column) j p
+        offering-past (s .filter) (storeBy (s .filter) (columnsOf s) (s .levels)) run s x (wide (s .levels) (k .levels .0)) (omega arith) (k .column) j p
     go (suc q) e = refl
 
-pub finish-surplus : (s : Writer) (n : ℕ) (x : Memory) (j : ℕ) → storeLength (columnsOf s) (s .levels) ≤ j → finishStore s n x j ≡ x j
+pub finish-surplus : (s : Writer) (n : ℕ) (x : Memory) (j : ℕ) → storeBy (s .filter) (columnsOf s) (s .levels) ≤ j → finishStore s n x j ≡ x j
 unfolding finishStore
 finish-surplus s n x j p = go (finishQuestion s n)
   where
-    go : (q : ℕ) → changedUnless q (shut fiveThree (s .levels) (columnsOf s) (s .y) 0 (s .rows) x .out .store) x j ≡ x j
-    go zero = shut-past (s .levels) (columnsOf s) (s .y) 0 (s .rows) x j p
+    go : (q : ℕ) → changedUnless q (shut (kind s) (s .levels) (columnsOf s) (s .y) 0 (s .rows) x .out .store) x j ≡ x j
+    go zero = shut-past (s .filter) (s .levels) (columnsOf s) (s .y) 0 (s .rows) x j p
     go (suc q) = refl
 
-pub draw-surplus : (s : Writer) (n k : ℕ) (x : Memory) (j : ℕ) → storeLength (columnsOf s) (s .levels) ≤ j → drawStore s n k x j ≡ x j
+pub draw-surplus : (s : Writer) (n k : ℕ) (x : Memory) (j : ℕ) → storeBy (s .filter) (columnsOf s) (s .levels) ≤ j → drawStore s n k x j ≡ x j
 unfolding drawStore resumed
 draw-surplus s n k x j p = go (drawQuestion s n k) (s .level)
   where
     o : Out
-    o = pull fiveThree (s .levels) (columnsOf s) (s .y) (s .closed) (s .level) (s .left) (s .rows) x
+    o = pull (kind s) (s .levels) (columnsOf s) (s .y) (s .closed) (s .level) (s .left) (s .rows) x
 
     pulled-past : o .store j ≡ x j
-    pulled-past = pull-past (s .levels) (columnsOf s) (s .y) (s .closed) (s .level) (s .left) (s .rows) x j p
+    pulled-past = pull-past (s .filter) (s .levels) (columnsOf s) (s .y) (s .closed) (s .level) (s .left) (s .rows) x j p
 
     on : (f : Bool) (v : ℕ) → resumed f s o v .out .store j ≡ x j
     on false v = pulled-past
-    on true zero = shut-past (s .levels) (columnsOf s) (s .y) (s .closed) (s .rows) (o .store) j p ∙ pulled-past
+    on true zero = shut-past (s .filter) (s .levels) (columnsOf s) (s .y) (s .closed) (s .rows) (o .store) j p ∙ pulled-past
     on true (suc v) = pulled-past
 
     go : (q v : ℕ) → changedUnless q (handedStore v s x) x j ≡ x j

@@ -2,20 +2,21 @@
 -- It is the reference of `same-events` and `same-store` (proofs/Offset.antt); no contract cites it.
 use mathlib.Core.Bool.{Bool, true, false, not}
 use mathlib.Core.List.{List, [], _∷_}
-use Prim.Native.Nat.{ℕ, zero, suc, _+_, _*_, _%_}
+use Prim.Native.Nat.{ℕ, zero, suc, _+_, _*_}
 use lib.IntN.{pos}
 use lib.ListN.{length}
 use lib.Dec.{leb, ltb, eqb}
 use Rattle.numbers.specs.Signal.{pick, both, stored}
 use Rattle.lifting.specs.Grid.{Side}
 use Rattle.lifting.specs.Halves.{fronted}
-use Rattle.wavelet.specs.Limits.{maxWidth, maxHeight, maxLevels}
-use Rattle.wavelet.specs.Questions.{ask, within}
-use Rattle.wavelet.specs.Store.{storeLength}
+use Rattle.wavelet.specs.Limits.{maxHeight}
+use Rattle.wavelet.specs.Questions.{ask}
 use Rattle.calls.specs.Lists.{unless, changedUnless, Area}
 use Rattle.calls.specs.Lists as lists
-use Rattle.level.specs.Level.{Memory, rest, ahead}
-use Rattle.writer.specs.Kind.{kind}
+use Rattle.nine_seven.specs.Filters.{filterOf}
+use Rattle.level.specs.Level.{Memory, LevelKind, rest}
+use Rattle.filters.specs.Forward.{kindOf}
+use Rattle.filters.specs.Figures.{storeBy, streamable}
 use Rattle.writer.specs.Counts.{mostLeft}
 use Rattle.writer.specs.Machine.{Out, arrive}
 use Rattle.writer.specs.Draws.{Waiting, waiting, pull}
@@ -25,6 +26,7 @@ use Rattle.writer.specs.Calls.{setUpStore, bandRow}
 use Rattle.writer.specs.History.{Call, offer, draw, finish, Given, row, none, Event, offered, drew, finished}
 
 pub record Before : Type 0 where
+  pub filter : ℕ
   pub columns : Side
   pub start : ℕ
   pub levels : ℕ
@@ -35,8 +37,12 @@ pub record Before : Type 0 where
   pub level : ℕ
   pub left : ℕ
 
-abbrev pub at : Side → (s L r c : ℕ) → Bool → (cl v i : ℕ) → Before
-at W s L r c f cl v i = record { columns = W; start = s; levels = L; rows = r; column = c; finished = f; closed = cl; level = v; left = i }
+abbrev pub at : ℕ → Side → (s L r c : ℕ) → Bool → (cl v i : ℕ) → Before
+at f W s L r c e cl v i =
+    record { filter = f; columns = W; start = s; levels = L; rows = r; column = c; finished = e; closed = cl; level = v; left = i }
+
+abbrev pub kind : Before → LevelKind
+kind s = kindOf (s .filter)
 
 -- ---- heights taken
 pub record Taking : Type 0 where
@@ -48,10 +54,10 @@ unfoldable pub takes : Before → Bool
 takes s = both (eqb (s .level) 0) (ltb (s .rows) maxHeight)
 
 abbrev pub begun : Before → Before
-begun s = at (s .columns) (s .start) (s .levels) (s .rows) (s .column + 1) (s .finished) (s .closed) (s .level) (s .left)
+begun s = at (s .filter) (s .columns) (s .start) (s .levels) (s .rows) (s .column + 1) (s .finished) (s .closed) (s .level) (s .left)
 
 abbrev pub complete : Before → Out → Before
-complete s o = at (s .columns) (s .start) (s .levels) (s .rows + 1) 0 (s .finished) (s .closed) (o .level) (o .left)
+complete s o = at (s .filter) (s .columns) (s .start) (s .levels) (s .rows + 1) 0 (s .finished) (s .closed) (o .level) (o .left)
 
 abbrev pub untaken : Before → Memory → Taking
 untaken s x = record { taken = 0; writer = s; store = x }
@@ -60,10 +66,10 @@ abbrev pub oneMore : Taking → Taking
 oneMore t = record { taken = suc (t .taken); writer = t .writer; store = t .store }
 
 abbrev pub heightPut : ℕ → Before → Memory → Memory
-heightPut h s x = stored (kind .cell (s .columns) (s .start) (s .rows) (s .column)) (pos h) x
+heightPut h s x = stored (kind s .cell (s .columns) (s .start) (s .rows) (s .column)) (pos h) x
 
 abbrev pub rowMakes : Before → Memory → Out
-rowMakes s x = arrive kind (s .levels) (s .columns) (s .start) (s .rows) x
+rowMakes s x = arrive (kind s) (s .levels) (s .columns) (s .start) (s .rows) x
 
 unfoldable pub offering : List ℕ → Before → Memory → Taking
 offering [] s x = untaken s x
@@ -79,19 +85,18 @@ offering (h ∷ run) s x =
 unfoldable pub inRanges : Before → Bool
 inRanges s =
     both (onGrid (s .columns .start) (s .start))
-    (both (within 1 maxWidth (s .columns .length))
-    (both (within 1 maxLevels (s .levels))
+    (both (streamable (s .filter) (s .columns) (s .levels))
     (both (leb (s .rows) maxHeight)
     (both (ltb (s .column) (s .columns .length))
-    (both (leb (s .closed) (ahead kind * s .levels))
+    (both (leb (s .closed) (filterOf (s .filter) .ahead * s .levels))
     (both (leb (s .level) (s .levels))
-    (leb (s .left) (mostLeft (s .levels) (s .level)))))))))
+    (leb (s .left) (mostLeft (s .levels) (s .level))))))))
 
 unfoldable pub longEnough : ℕ → Before → Bool
-longEnough n s = leb (storeLength (s .columns) (s .levels)) n
+longEnough n s = leb (storeBy (s .filter) (s .columns) (s .levels)) n
 
 abbrev pub waitingRow : Before → Waiting
-waitingRow s = waiting kind (s .levels) (s .columns) (s .start) (s .closed) (s .level) (s .left) (s .rows)
+waitingRow s = waiting (kind s) (s .levels) (s .columns) (s .start) (s .closed) (s .level) (s .left) (s .rows)
 
 unfoldable pub offerQuestion : Before → ℕ → ℕ → ℕ
 offerQuestion s n k =
@@ -120,18 +125,18 @@ finishQuestion s n =
 
 -- ---- what a finish and a draw leave
 abbrev pub waits : Bool → Before → Shut → Before
-waits f s r = at (s .columns) (s .start) (s .levels) (s .rows) (s .column) f (r .closed) (r .out .level) (r .out .left)
+waits e s r = at (s .filter) (s .columns) (s .start) (s .levels) (s .rows) (s .column) e (r .closed) (r .out .level) (r .out .left)
 
 abbrev pub closing : Before → Memory → Shut
-closing s x = shut kind (s .levels) (s .columns) (s .start) 0 (s .rows) x
+closing s x = shut (kind s) (s .levels) (s .columns) (s .start) 0 (s .rows) x
 
 unfoldable pub resumed : Bool → Before → Out → ℕ → Shut
 resumed false s o v = record { closed = s .closed; out = o }
-resumed true s o zero = shut kind (s .levels) (s .columns) (s .start) (s .closed) (s .rows) (o .store)
+resumed true s o zero = shut (kind s) (s .levels) (s .columns) (s .start) (s .closed) (s .rows) (o .store)
 resumed true s o (suc v) = record { closed = s .closed; out = o }
 
 abbrev pub pulled : Before → Memory → Out
-pulled s x = pull kind (s .levels) (s .columns) (s .start) (s .closed) (s .level) (s .left) (s .rows) x
+pulled s x = pull (kind s) (s .levels) (s .columns) (s .start) (s .closed) (s .level) (s .left) (s .rows) x
 
 abbrev pub afterDraw : Before → Memory → Shut
 afterDraw s x = resumed (s .finished) s (pulled s x) (pulled s x .level)
@@ -207,5 +212,5 @@ abbrev pub final : List Call → World → World
 final = lists.final next
 
 -- a set-up that passed
-abbrev pub freshWorld : Side → ℕ → ℕ → ℕ → Memory → World
-freshWorld W s L n x = world (at W s L 0 0 false 0 0 0) n (setUpStore W L n x)
+abbrev pub freshWorld : ℕ → Side → ℕ → ℕ → ℕ → Memory → World
+freshWorld f W s L n x = world (at f W s L 0 0 false 0 0 0) n (setUpStore f W L n x)

@@ -7,24 +7,23 @@ use lib.ListN.{length}
 use Rattle.lifting.specs.Halves.{fronted}
 use Rattle.wavelet.specs.Bands.{code}
 use Rattle.lifting.specs.Grid.{Side}
-use Rattle.wavelet.specs.Store.{storeLength}
 use Rattle.calls.specs.Lists.{Reply, unless, changedUnless}
 use Rattle.level.specs.Level.{Memory, rest}
-use Rattle.writer.specs.Kind.{kind}
+use Rattle.filters.specs.Figures.{storeBy}
 use Rattle.writer.specs.declared.Writer.{Writer}
 use Rattle.writer.specs.declared.BandRow.{BandRow}
 use Rattle.writer.specs.Counts.{startOf}
 use Rattle.writer.specs.Machine.{Out}
 use Rattle.writer.specs.Draws.{Waiting, pull}
 use Rattle.writer.specs.Closing.{Shut, shut}
-use Rattle.writer.specs.Taking.{columnsOf, Taking, offering}
+use Rattle.writer.specs.Taking.{kind, columnsOf, Taking, offering}
 use Rattle.writer.specs.Questions.{waitingRow, setUpQuestion, offerQuestion, drawQuestion, waitsQuestion, finishQuestion}
 use Rattle.writer.specs.Answers.{Took, Handed, aRow, nothing}
 
 -- ---- set-up: "Set-up zeroes the needed part."
--- of a map whose columns are W and whose rows start at s
-abbrev pub fresh : Side → ℕ → ℕ → Writer
-fresh W s L = record {
+-- with the filter of number f, of a map whose columns are W and whose rows start at s
+abbrev pub fresh : ℕ → Side → ℕ → ℕ → Writer
+fresh f W s L = record {
   x = W .start;
   y = s;
   width = W .length;
@@ -36,43 +35,45 @@ fresh W s L = record {
   level = 0;
   left = 0;
   offset = 0;
+  filter = f;
 }
 
-unfoldable pub setUpReply : Side → ℕ → ℕ → ℕ → Reply Writer
-setUpReply W s L n = unless (setUpQuestion W L n) (fresh W s L)
+unfoldable pub setUpReply : ℕ → Side → ℕ → ℕ → ℕ → Reply Writer
+setUpReply f W s L n = unless (setUpQuestion f W L n) (fresh f W s L)
 
-unfoldable pub setUpStore : Side → ℕ → ℕ → Memory → Memory
-setUpStore W L n x = changedUnless (setUpQuestion W L n) (fronted (storeLength W L) (λ _. pos 0) x) x
+unfoldable pub setUpStore : ℕ → Side → ℕ → ℕ → Memory → Memory
+setUpStore f W L n x = changedUnless (setUpQuestion f W L n) (fronted (storeBy f W L) (λ _. pos 0) x) x
 
 -- ---- offer
 abbrev pub took : Taking → Took
 took t = record { taken = t .taken; writer = t .writer }
 
 unfoldable pub offerReply : Writer → ℕ → List ℕ → Memory → Reply Took
-offerReply s n run x = unless (offerQuestion s n (length run)) (took (offering kind run s x))
+offerReply s n run x = unless (offerQuestion s n (length run)) (took (offering (kind s) run s x))
 
 unfoldable pub offerStore : Writer → ℕ → List ℕ → Memory → Memory
-offerStore s n run x = changedUnless (offerQuestion s n (length run)) (offering kind run s x .store) x
+offerStore s n run x = changedUnless (offerQuestion s n (length run)) (offering (kind s) run s x .store) x
 
 -- ---- finish: "At the finish level 1 closes first, then level 2, and so on."
--- the writer with what waits, f: finished
+-- the writer with what waits, e: finished
 abbrev pub waits : Bool → Writer → Shut → Writer
-waits f s r = record {
+waits e s r = record {
   x = s .x;
   y = s .y;
   width = s .width;
   levels = s .levels;
   rows = s .rows;
   column = s .column;
-  finished = f;
+  finished = e;
   closed = r .closed;
   level = r .out .level;
   left = r .out .left;
-  offset = startOf (columnsOf s) (r .out .level);
+  offset = startOf (s .filter) (columnsOf s) (r .out .level);
+  filter = s .filter;
 }
 
 abbrev pub closing : Writer → Memory → Shut
-closing s x = shut kind (s .levels) (columnsOf s) (s .y) 0 (s .rows) x
+closing s x = shut (kind s) (s .levels) (columnsOf s) (s .y) 0 (s .rows) x
 
 unfoldable pub finishReply : Writer → ℕ → Memory → Reply Writer
 finishReply s n x = unless (finishQuestion s n) (waits true s (closing s x))
@@ -83,11 +84,11 @@ finishStore s n x = changedUnless (finishQuestion s n) (closing s x .out .store)
 -- ---- draw: the row is handed out; once finished and nothing waits, the levels close on
 unfoldable pub resumed : Bool → Writer → Out → ℕ → Shut
 resumed false s o v = record { closed = s .closed; out = o }
-resumed true s o zero = shut kind (s .levels) (columnsOf s) (s .y) (s .closed) (s .rows) (o .store)
+resumed true s o zero = shut (kind s) (s .levels) (columnsOf s) (s .y) (s .closed) (s .rows) (o .store)
 resumed true s o (suc v) = record { closed = s .closed; out = o }
 
 abbrev pub pulled : Writer → Memory → Out
-pulled s x = pull kind (s .levels) (columnsOf s) (s .y) (s .closed) (s .level) (s .left) (s .rows) x
+pulled s x = pull (kind s) (s .levels) (columnsOf s) (s .y) (s .closed) (s .level) (s .left) (s .rows) x
 
 abbrev pub afterDraw : Writer → Memory → Shut
 afterDraw s x = resumed (s .finished) s (pulled s x) (pulled s x .level)

@@ -4,9 +4,9 @@ use Prim.Native.Nat.{ℕ, zero, suc, _+_, _-_, _/_, _%_, min}
 use Rattle.numbers.specs.Signal.{pick}
 use Rattle.lifting.specs.Grid.{Side}
 use Rattle.wavelet.specs.Bands.{Band, LL, HL, LH, HH}
-use Rattle.wavelet.specs.Store.{storeLength}
 use Rattle.wavelet.specs.Order.{setHas}
 use Rattle.level.specs.Level.{prev}
+use Rattle.filters.specs.Figures.{storeBy}
 
 -- A level's number seen from the level above it, and from k levels above it; 0 is no level.
 unfoldable pub deeper : ℕ → ℕ
@@ -54,6 +54,6 @@ unfoldable pub skip : Side → Side → ℕ → ℕ → ℕ
 skip W H n zero = zero
 skip W H n (suc i) = pick (setHas W H (bandAt i) n) (suc i) (skip W H n i)
 
--- Where the stretch of level v begins, v from 1: the store of the levels before it ends there. 0 where v is no level.
-abbrev pub startOf : Side → ℕ → ℕ
-startOf W v = storeLength W (prev v)
+-- Where the stretch of level v begins, v from 1, f being the filter's number: the store of the levels before it ends there. 0 where v is no level.
+abbrev pub startOf : ℕ → Side → ℕ → ℕ
+startOf f W v = storeBy f W (prev v)

@@ -1,5 +1,6 @@
 -- Demand 3 for the writer: document 01, "The lists of demand 3". One claim about a whole list of calls on a fresh writer and its line store,
--- by the calls' arguments and answers alone. The writer's columns are W, its rows start at coordinate s, and it has L levels.
+-- by the calls' arguments and answers alone. The writer's filter has the number f, its columns are W, its rows start at coordinate s, and it has L levels.
+-- Document 02, Q-8: the rows, their order and their values are those of the filter.
 use mathlib.Core.Path.{_≡_}
 use mathlib.Core.Bool.{Bool, true, false, not}
 use mathlib.Core.List.{List, [], _∷_, _++_, map}
@@ -19,8 +20,7 @@ use Rattle.wavelet.specs.Levels.{levelBand}
 use Rattle.wavelet.specs.View.{bandColumns}
 use Rattle.wavelet.specs.ViewCall.{bandRowExists}
 use Rattle.calls.specs.Lists.{Reply, gives, refused, unless, Area, All}
-use Rattle.level.specs.Level.{ahead}
-use Rattle.writer.specs.Kind.{kind}
+use Rattle.nine_seven.specs.Filters.{filterOf}
 use Rattle.writer.specs.declared.BandRow.{BandRow}
 use Rattle.writer.specs.Questions.{either}
 use Rattle.writer.specs.History.{Call, offer, draw, finish, Given, row, none, Event, offered, drew, finished}
@@ -30,12 +30,12 @@ use Rattle.writer.specs.History.{taken, finishedBy, DrawnRow, drawn}
 unfoldable pub wholeRows : Side → List Event → ℕ
 wholeRows W es = length (taken es) / W .length
 
-unfoldable pub madeOf : Side → ℕ → ℕ → List Event → List RowName
-madeOf W s L es = made (ahead kind) W s L (wholeRows W es) (finishedBy es)
+unfoldable pub madeOf : ℕ → Side → ℕ → ℕ → List Event → List RowName
+madeOf f W s L es = made (filterOf f .ahead) W s L (wholeRows W es) (finishedBy es)
 
 -- "Waiting: made and not drawn."
-unfoldable pub waitingOf : Side → ℕ → ℕ → List Event → List RowName
-waitingOf W s L es = drop (length (drawn es)) (madeOf W s L es)
+unfoldable pub waitingOf : ℕ → Side → ℕ → ℕ → List Event → List RowName
+waitingOf f W s L es = drop (length (drawn es)) (madeOf f W s L es)
 
 -- a name as an answer gives it
 abbrev pub answered : Side → RowName → BandRow
@@ -59,10 +59,10 @@ pub record MapOf (W : Side) (H : ℕ) (g : Grid) (es : List Event) : Type 0 wher
   pub begins : Begins W H g es
   pub all : finishedBy es ≡ true → length (taken es) ≡ W .length * H
 
--- the values of a drawn row are the map's, T.800's whole numbers
-pub record HasValues (W : Side) (s H : ℕ) (g : Grid) (d : DrawnRow) : Type 0 where
+-- the values of a drawn row are the map's by the filter, whole numbers
+pub record HasValues (f : ℕ) (W : Side) (s H : ℕ) (g : Grid) (d : DrawnRow) : Type 0 where
   pub are : (b : Band) → d .row .band ≡ code b → (i : ℕ) → i < d .row .length →
-      d .values i ≡ levelBand (kind .filter) whole W (side s H) g (d .row .level) b (d .row .row) i
+      d .values i ≡ levelBand (filterOf f) whole W (side s H) g (d .row .level) b (d .row .row) i
 
 -- "The rows drawn then are exactly the plane's band rows, each once."
 pub record PlaneDrawn (W : Side) (s L : ℕ) (es : List Event) : Type 0 where
@@ -89,64 +89,64 @@ written (gives none) = 0
 written (refused q) = 0
 
 -- what is seen of it: the answer, and the output area afterwards, its surplus untouched
-pub record DrawSeen (W : Side) (s L : ℕ) (es : List Event) (a : Area) (e : Event) : Type 0 where
+pub record DrawSeen (f : ℕ) (W : Side) (s L : ℕ) (es : List Event) (a : Area) (e : Event) : Type 0 where
   pub area : Area
-  pub says : e ≡ drew a (drawSays W (waitingOf W s L es) (a .size)) area
+  pub says : e ≡ drew a (drawSays W (waitingOf f W s L es) (a .size)) area
   pub size-is : area .size ≡ a .size
-  pub surplus : (i : ℕ) → written (drawSays W (waitingOf W s L es) (a .size)) ≤ i → area .numbers i ≡ a .numbers i
+  pub surplus : (i : ℕ) → written (drawSays W (waitingOf f W s L es) (a .size)) ≤ i → area .numbers i ≡ a .numbers i
 
 -- after j heights more no row would wait, and the row limit is not reached
-unfoldable pub takesOn : Side → ℕ → ℕ → List Event → ℕ → Bool
-takesOn W s L es j =
-    both (isNone (drop (length (drawn es)) (made (ahead kind) W s L ((length (taken es) + j) / W .length) false)))
+unfoldable pub takesOn : ℕ → Side → ℕ → ℕ → List Event → ℕ → Bool
+takesOn f W s L es j =
+    both (isNone (drop (length (drawn es)) (made (filterOf f .ahead) W s L ((length (taken es) + j) / W .length) false)))
     (ltb ((length (taken es) + j) / W .length) maxHeight)
 
 -- an offer of k heights: 9, 8, 10, or it takes "heights until a band row waits, the row limit is reached or the run is used up"
-unfoldable pub offerTurned : Side → ℕ → ℕ → List Event → ℕ → ℕ
-offerTurned W s L es k =
+unfoldable pub offerTurned : ℕ → Side → ℕ → ℕ → List Event → ℕ → ℕ
+offerTurned f W s L es k =
     ask (not (finishedBy es)) 9
-    (ask (isNone (waitingOf W s L es)) 8
+    (ask (isNone (waitingOf f W s L es)) 8
     (ask (either (eqb k 0) (ltb (wholeRows W es) maxHeight)) 10
     0))
 
-pub record Takes (W : Side) (s L : ℕ) (es : List Event) (k n : ℕ) : Type 0 where
+pub record Takes (f : ℕ) (W : Side) (s L : ℕ) (es : List Event) (k n : ℕ) : Type 0 where
   pub most : n ≤ k
   pub some : 0 < k → 0 < n
-  pub until : (j : ℕ) → j < n → takesOn W s L es j ≡ true
-  pub stop : n < k → takesOn W s L es n ≡ false
+  pub until : (j : ℕ) → j < n → takesOn f W s L es j ≡ true
+  pub stop : n < k → takesOn f W s L es n ≡ false
 
 -- a finish: 9, 8, 11
-unfoldable pub finishTurned : Side → ℕ → ℕ → List Event → ℕ
-finishTurned W s L es =
+unfoldable pub finishTurned : ℕ → Side → ℕ → ℕ → List Event → ℕ
+finishTurned f W s L es =
     ask (not (finishedBy es)) 9
-    (ask (isNone (waitingOf W s L es)) 8
+    (ask (isNone (waitingOf f W s L es)) 8
     (ask (both (ltb 0 (wholeRows W es)) (eqb (length (taken es) % W .length) 0)) 11
     0))
 
 -- ---- the claim, of the events es of any list of calls; `then` is what would be seen of a further call
-pub record Demand3 (W : Side) (s L : ℕ) (es : List Event) (then : Call → Event) : Type 0 where
+pub record Demand3 (f : ℕ) (W : Side) (s L : ℕ) (es : List Event) (then : Call → Event) : Type 0 where
   -- the rows drawn, then those waiting, are the rows made, in the order of the rules; each is answered with its level, band, number, length
-  pub in-order : map (λ d. d .row) (drawn es) ++ map (answered W) (waitingOf W s L es) ≡ map (answered W) (madeOf W s L es)
+  pub in-order : map (λ d. d .row) (drawn es) ++ map (answered W) (waitingOf f W s L es) ≡ map (answered W) (madeOf f W s L es)
   -- they have the values of every map that begins with the heights taken: until a finish passes all of them, then those made before it;
   -- of the map that was finished all of them
-  pub values : (H : ℕ) (g : Grid) → MapOf W H g es → All (HasValues W s H g) (drawn es)
+  pub values : (H : ℕ) (g : Grid) → MapOf W H g es → All (HasValues f W s H g) (drawn es)
   pub early-values : (H : ℕ) (g : Grid) → Begins W H g es →
-      All (HasValues W s H g) (take (length (made (ahead kind) W s L (wholeRows W es) false)) (drawn es))
+      All (HasValues f W s H g) (take (length (made (filterOf f .ahead) W s L (wholeRows W es) false)) (drawn es))
   -- and are the first in that map's order
   pub first : (H : ℕ) (g : Grid) → MapOf W H g es →
-      (r : List RowName) × (map (λ d. d .row) (drawn es) ++ map (answered W) r ≡ map (answered W) (made (ahead kind) W s L H true))
+      (r : List RowName) × (map (λ d. d .row) (drawn es) ++ map (answered W) r ≡ map (answered W) (made (filterOf f .ahead) W s L H true))
   -- there is such a map, the heights taken being 16-bit numbers
   pub some-map : All (λ h. h ≤ maxSample) (taken es) → (H : ℕ) × (g : Grid) × MapOf W H g es
   -- once finished, the heights taken are a map
   pub finished-map : finishedBy es ≡ true →
       (1 ≤ wholeRows W es) × (wholeRows W es ≤ maxHeight) × (length (taken es) ≡ W .length * wholeRows W es)
   -- and once none waits, the rows drawn are its plane's band rows, each once
-  pub all-drawn : finishedBy es ≡ true → waitingOf W s L es ≡ [] → PlaneDrawn W s L es
+  pub all-drawn : finishedBy es ≡ true → waitingOf f W s L es ≡ [] → PlaneDrawn W s L es
   -- a draw
-  pub draws : (a : Area) → DrawSeen W s L es a (then (draw a))
+  pub draws : (a : Area) → DrawSeen f W s L es a (then (draw a))
   -- an offer
-  pub offers-turned : (run : List ℕ) (q : ℕ) → offerTurned W s L es (length run) ≡ suc q → then (offer run) ≡ offered run (refused (suc q))
-  pub offers-taken : (run : List ℕ) → offerTurned W s L es (length run) ≡ 0 →
-      (n : ℕ) × (then (offer run) ≡ offered run (gives n)) × Takes W s L es (length run) n
+  pub offers-turned : (run : List ℕ) (q : ℕ) → offerTurned f W s L es (length run) ≡ suc q → then (offer run) ≡ offered run (refused (suc q))
+  pub offers-taken : (run : List ℕ) → offerTurned f W s L es (length run) ≡ 0 →
+      (n : ℕ) × (then (offer run) ≡ offered run (gives n)) × Takes f W s L es (length run) n
   -- a finish
-  pub finishes : then finish ≡ finished (unless (finishTurned W s L es) tt)
+  pub finishes : then finish ≡ finished (unless (finishTurned f W s L es) tt)

@@ -76,10 +76,10 @@ events = lists.events event next
 abbrev pub final : List Call → World → World
 final = lists.final next
 
--- "Fresh means the state and line store of a set-up that passed": of the columns W, rows that start at s and L levels, on a store of n numbers in which x
--- stood
-abbrev pub freshWorld : Side → ℕ → ℕ → ℕ → Memory → World
-freshWorld W s L n x = record { writer = fresh W s L; length = n; store = setUpStore W L n x }
+-- "Fresh means the state and line store of a set-up that passed": of the filter of number f, the columns W, rows that start at s and L levels, on a store of
+-- n numbers in which x stood
+abbrev pub freshWorld : ℕ → Side → ℕ → ℕ → ℕ → Memory → World
+freshWorld f W s L n x = record { writer = fresh f W s L; length = n; store = setUpStore f W L n x }
 
 -- ---- "Taken: of each passed offer's run the first heights, as many as its answer says, run after run."
 abbrev pub takenBy : Event → List ℕ

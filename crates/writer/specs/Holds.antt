@@ -1,6 +1,6 @@
 -- What stands in the line store of a writer, for a map g of H rows: `Holds H g s x`. While a band row of any level waits, its values are the map's;
 -- that is in it too.
--- The numbers are 32-bit words (`wrap32`); for a map they are T.800's whole numbers.
+-- The numbers are 32-bit words (`wrap32`); for a map they are the filter's whole numbers.
 use mathlib.Core.Path.{_≡_}
 use mathlib.Core.Bool.{true, false}
 use mathlib.Core.List.{List}
@@ -13,11 +13,12 @@ use Rattle.wavelet.specs.Bands.{Grid, Band, LL, code, subband}
 use Rattle.wavelet.specs.Levels.{next, levelBand}
 use Rattle.wavelet.specs.Order.{setHas}
 use Rattle.calls.specs.Lists.{Reply, gives, refused}
-use Rattle.writer.specs.Kind.{kind, Held, Ended}
+use Rattle.nine_seven.specs.Filters.{filterOf}
+use Rattle.filters.specs.Forward.{heldOf, endedOf}
 use Rattle.writer.specs.declared.Writer.{Writer}
 use Rattle.writer.specs.declared.BandRow.{BandRow}
 use Rattle.writer.specs.Counts.{made, lowRows, mostLeft, bandAt, startOf}
-use Rattle.writer.specs.Taking.{columnsOf}
+use Rattle.writer.specs.Taking.{kind, columnsOf}
 use Rattle.writer.specs.Answers.{Took, Handed, aRow, nothing}
 use Rattle.level.specs.Level.{Memory, LevelKind, prev, rest, Meaning, Ending, SetStands, ahead}
 
@@ -57,9 +58,10 @@ LevelsHold K Held Ended (suc l) W H g c v i m j x =
 
 -- ---- the writer's store
 pub record Holds (H : ℕ) (g : Grid) (s : Writer) (x : Memory) : Type 0 where
-  pub levels : LevelsHold kind Held Ended (s .levels) (columnsOf s) (side (s .y) H) g (s .closed) (s .level) (s .left) (s .rows) (s .column) x
+  pub levels : LevelsHold (kind s) (heldOf (s .filter)) (endedOf (s .filter)) (s .levels) (columnsOf s) (side (s .y) H) g (s .closed) (s .level) (s .left)
+      (s .rows) (s .column) x
   -- the offset is where the stretch of the level being handed out begins
-  pub placed : s .offset ≡ startOf (columnsOf s) (s .level)
+  pub placed : s .offset ≡ startOf (s .filter) (columnsOf s) (s .level)
   -- at most the bands of a set are left that are handed out at its level
   pub few : s .left ≤ mostLeft (s .levels) (s .level)
   -- while a band row waits, no row is begun
@@ -67,7 +69,7 @@ pub record Holds (H : ℕ) (g : Grid) (s : Writer) (x : Memory) : Type 0 where
   -- before the finish no level closes
   pub before : s .finished ≡ false → s .closed ≡ 0
   -- after it the map has the rows taken, at least one, and once no band row waits all levels are closed
-  pub ended : s .finished ≡ true → (s .rows ≡ H) × (0 < s .rows) × (s .level ≡ 0 → s .closed ≡ ahead kind * s .levels)
+  pub ended : s .finished ≡ true → (s .rows ≡ H) × (0 < s .rows) × (s .level ≡ 0 → s .closed ≡ filterOf (s .filter) .ahead * s .levels)
 
 -- ---- what a call keeps: for every map of which Map says what the call asks of it
 pub record Keeps (Map : ℕ → Grid → Type 0) (s : Writer) (x : Memory) (s′ : Writer) (x′ : Memory) : Type 0 where
@@ -84,9 +86,9 @@ pub record GoesOn (s : Writer) (run : List ℕ) (k : ℕ) (H : ℕ) (g : Grid) :
   pub within : s .rows * s .width + s .column + k ≤ s .width * H
   pub heights : (j : ℕ) → j < k → g ((s .rows * s .width + s .column + j) / s .width) ((s .rows * s .width + s .column + j) % s .width) ≡ pos (getD run j 0)
 
--- the numbers of a band row, at the front of y
-pub record MapRow (W H : Side) (g : Grid) (b : BandRow) (y : Memory) : Type 0 where
-  pub are : (c : Band) → b .band ≡ code c → (i : ℕ) → i < b .length → y i ≡ levelBand (kind .filter) wrap32 W H g (b .level) c (b .row) i
+-- the numbers of a band row by the filter of number f, at the front of y
+pub record MapRow (f : ℕ) (W H : Side) (g : Grid) (b : BandRow) (y : Memory) : Type 0 where
+  pub are : (c : Band) → b .band ≡ code c → (i : ℕ) → i < b .length → y i ≡ levelBand (filterOf f) wrap32 W H g (b .level) c (b .row) i
 
 -- the state that a call leaves: the one before where it was turned away or gave Nothing; and how many heights it took
 abbrev pub left : {A : Type 0} → (A → Writer) → Writer → Reply A → Writer
@@ -105,7 +107,7 @@ tookOf (refused q) = 0
 pub record DrawKeeps (s : Writer) (x : Memory) (r : Reply Handed) (x′ y : Memory) : Type 0 where
   pub store : Keeps AnyMap s x (left (after s) s r) x′
   -- the row that is answered stands at the front of the area, and its values are the map's
-  pub values : (H : ℕ) (g : Grid) → Holds H g s x → (b : BandRow) (t : Writer) → r ≡ gives (aRow b t) → MapRow (columnsOf s) (side (s .y) H) g b y
+  pub values : (H : ℕ) (g : Grid) → Holds H g s x → (b : BandRow) (t : Writer) → r ≡ gives (aRow b t) → MapRow (s .filter) (columnsOf s) (side (s .y) H) g b y
 
 abbrev pub FinishKeeps : Writer → Memory → Reply Writer → Memory → Type 0
 FinishKeeps s x r x′ = Keeps (AllRows s) s x (left (λ t. t) s r) x′

@@ -3,16 +3,15 @@ use mathlib.Core.Bool.{Bool, true, not}
 use Prim.Native.Nat.{ℕ, _*_}
 use lib.Dec.{leb, ltb, eqb}
 use Rattle.numbers.specs.Signal.{pick, both}
-use Rattle.wavelet.specs.Limits.{maxWidth, maxHeight, maxLevels, maxOrigin}
+use Rattle.wavelet.specs.Limits.{maxWidth, maxHeight, maxOrigin}
 use Rattle.wavelet.specs.Questions.{ask, within}
 use Rattle.lifting.specs.Grid.{Side}
-use Rattle.wavelet.specs.Store.{storeLength}
-use Rattle.level.specs.Level.{ahead}
-use Rattle.writer.specs.Kind.{kind}
+use Rattle.nine_seven.specs.Filters.{filterOf, isFilter}
+use Rattle.filters.specs.Figures.{storeBy, streamable}
 use Rattle.writer.specs.declared.Writer.{Writer}
 use Rattle.writer.specs.Counts.{mostLeft, startOf}
 use Rattle.writer.specs.Draws.{Waiting, waiting}
-use Rattle.writer.specs.Taking.{columnsOf}
+use Rattle.writer.specs.Taking.{kind, columnsOf}
 
 abbrev pub either : Bool → Bool → Bool
 either a b = pick a true b
@@ -25,29 +24,30 @@ onGrid x y = both (leb x maxOrigin) (leb y maxOrigin)
 unfoldable pub inRanges : Writer → Bool
 inRanges s =
     both (onGrid (s .x) (s .y))
-    (both (within 1 maxWidth (s .width))
-    (both (within 1 maxLevels (s .levels))
+    (both (streamable (s .filter) (columnsOf s) (s .levels))
     (both (leb (s .rows) maxHeight)
     (both (ltb (s .column) (s .width))
-    (both (leb (s .closed) (ahead kind * s .levels))
+    (both (leb (s .closed) (filterOf (s .filter) .ahead * s .levels))
     (both (leb (s .level) (s .levels))
     (both (leb (s .left) (mostLeft (s .levels) (s .level)))
-    (eqb (s .offset) (startOf (columnsOf s) (s .level))))))))))
+    (eqb (s .offset) (startOf (s .filter) (columnsOf s) (s .level)))))))))
 
 -- question 5
 unfoldable pub longEnough : ℕ → Writer → Bool
-longEnough n s = leb (storeLength (columnsOf s) (s .levels)) n
+longEnough n s = leb (storeBy (s .filter) (columnsOf s) (s .levels)) n
 
 -- the row that waits
 abbrev pub waitingRow : Writer → Waiting
-waitingRow s = waiting kind (s .levels) (columnsOf s) (s .y) (s .closed) (s .level) (s .left) (s .rows)
+waitingRow s = waiting (kind s) (s .levels) (columnsOf s) (s .y) (s .closed) (s .level) (s .left) (s .rows)
 
-unfoldable pub setUpQuestion : Side → ℕ → ℕ → ℕ
-setUpQuestion W L n =
+-- of the filter of number f, the columns W and L levels. Document 02, Q-8: "Refused: 18, before 4, if the filter is unknown."
+unfoldable pub setUpQuestion : ℕ → Side → ℕ → ℕ → ℕ
+setUpQuestion f W L n =
     ask (within 1 maxWidth (W .length)) 2
-    (ask (within 1 maxLevels L) 4
-    (ask (leb (storeLength W L) n) 5
-    0))
+    (ask (isFilter f) 18
+    (ask (within 1 (filterOf f .levels) L) 4
+    (ask (leb (storeBy f W L) n) 5
+    0)))
 
 -- an offer of k heights
 unfoldable pub offerQuestion : Writer → ℕ → ℕ → ℕ

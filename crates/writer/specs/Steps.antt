@@ -1,12 +1,13 @@
--- What the private functions require and leave: the machine's steps at the 5/3 level. Nothing here needs to be believed.
+-- What the private functions require and leave: the machine's steps at the level of the filter's number f. Nothing here needs to be believed.
 use mathlib.Core.Path.{_≡_}
 use Prim.Native.Nat.{ℕ, _+_, _*_, _^_, _<_, _≤_}
 use Rattle.lifting.specs.Grid.{Side, side, count}
 use Rattle.wavelet.specs.Bands.{across, code}
 use Rattle.wavelet.specs.Order.{setRow}
-use Rattle.wavelet.specs.Store.{storeLength}
-use Rattle.level.specs.Level.{Memory, prev, rest, joinAt, ahead}
-use Rattle.level.specs.FiveThreeLevel.{fiveThree, bandPlace}
+use Rattle.nine_seven.specs.Filters.{filterOf}
+use Rattle.level.specs.Level.{Memory, prev, rest, joinAt}
+use Rattle.filters.specs.Figures.{storeBy}
+use Rattle.filters.specs.Forward.{kindOf}
 use Rattle.writer.specs.declared.Writer.{Writer}
 use Rattle.writer.specs.declared.cascade.Wait.{Wait}
 use Rattle.writer.specs.declared.draws.Spot.{Spot}
@@ -20,17 +21,17 @@ use Rattle.writer.specs.Taking.{columnsOf}
 use Rattle.writer.specs.Calls.{waits, afterDraw}
 
 -- l levels, the first of the columns W, in a store of n numbers; m is a number of rows
-pub record Room (l : ℕ) (W : Side) (m n : ℕ) : Type 0 where
-  pub room : storeLength W l ≤ n
+pub record Room (f l : ℕ) (W : Side) (m n : ℕ) : Type 0 where
+  pub room : storeBy f W l ≤ n
   pub wide : W .length < 2 ^ 16
   pub rows : m < 2 ^ 32
   pub deep : l < 2 ^ 16
 
 -- what a step of l levels leaves, the first of the columns W: what waits, r, and the store x, as the machine's o; and where the stretch of its level begins
-pub record Left (l : ℕ) (W : Side) (o : Out) (r : Wait) (x : Memory) : Type 0 where
+pub record Left (f l : ℕ) (W : Side) (o : Out) (r : Wait) (x : Memory) : Type 0 where
   pub level : r .level ≡ o .level
   pub left : r .left ≡ o .left
-  pub offset : r .offset ≡ startOf W (o .level)
+  pub offset : r .offset ≡ startOf f W (o .level)
   pub store : x ≡ o .store
   pub within : r .level ≤ l
 
@@ -50,30 +51,30 @@ abbrev pub received : Level → Side
 received r = side (r .y) (r .rows)
 
 -- the row that waits at level v, r, whose stretch begins at a: i bands of its last set are left
-unfoldable pub waitingAt : ℕ → ℕ → Level → ℕ → Waiting
-waitingAt v a r i =
+unfoldable pub waitingAt : ℕ → ℕ → ℕ → Level → ℕ → Waiting
+waitingAt f v a r i =
     record {
       level = v;
       band = bandAt (prev i);
       row = setRow (received r) (bandAt (prev i)) (r .set);
       length = count (across (bandAt (prev i))) (columns r);
-      start = a + bandPlace (columns r) (r .set) (bandAt (prev i));
+      start = a + kindOf f .place (columns r) (r .y) (r .set) (bandAt (prev i));
     }
 
 -- what a draw of it leaves
 abbrev pub from : ℕ → ℕ → Memory → Out → Out
 from k a x o = record { store = joinAt a x (o .store); level = deeperBy k (o .level); left = o .left }
 
-unfoldable pub pullAt : ℕ → ℕ → Level → ℕ → Memory → Out
-pullAt v a r i x =
-    from (prev v) a x (settled (passOn fiveThree (r .below) (columns r) (r .y)) (r .set) (rest a x) (skip (columns r) (received r) (r .set) (prev i)))
+unfoldable pub pullAt : ℕ → ℕ → ℕ → Level → ℕ → Memory → Out
+pullAt f v a r i x =
+    from (prev v) a x (settled (passOn (kindOf f) (r .below) (columns r) (r .y)) (r .set) (rest a x) (skip (columns r) (received r) (r .set) (prev i)))
 
 -- level v of them, r: what waits there, what a draw of it leaves, and where deeper stretches begin, all from where its stretch begins
-pub record Reaches (l : ℕ) (W : Side) (s c v m : ℕ) (r : Level) : Type 0 where
-  pub waits : (i : ℕ) → waiting fiveThree l W s c v i m ≡ waitingAt v (startOf W v) r i
-  pub pulls : (i : ℕ) (x : Memory) → pull fiveThree l W s c v i m x ≡ pullAt v (startOf W v) r i x
-  pub starts : (u : ℕ) → startOf W (deeperBy (prev v) u) ≡ further u (startOf W v) (startOf (columns r) u)
-  pub room : startOf W v + storeLength (columns r) (r .below + 1) ≡ storeLength W l
+pub record Reaches (f l : ℕ) (W : Side) (s c v m : ℕ) (r : Level) : Type 0 where
+  pub waits : (i : ℕ) → waiting (kindOf f) l W s c v i m ≡ waitingAt f v (startOf f W v) r i
+  pub pulls : (i : ℕ) (x : Memory) → pull (kindOf f) l W s c v i m x ≡ pullAt f v (startOf f W v) r i x
+  pub starts : (u : ℕ) → startOf f W (deeperBy (prev v) u) ≡ further u (startOf f W v) (startOf f (columns r) u)
+  pub room : startOf f W v + storeBy f (columns r) (r .below + 1) ≡ storeBy f W l
   pub wide : r .width < 2 ^ 16
   pub rows : r .rows < 2 ^ 32
   pub sets : r .set < 2 ^ 32
@@ -81,19 +82,19 @@ pub record Reaches (l : ℕ) (W : Side) (s c v m : ℕ) (r : Level) : Type 0 whe
 
 -- the offset of a writer is where its level's stretch begins
 abbrev pub Placed : Writer → Type 0
-Placed s = s .offset ≡ startOf (columnsOf s) (s .level)
+Placed s = s .offset ≡ startOf (s .filter) (columnsOf s) (s .level)
 
 -- r is the level of a writer's row that waits
 abbrev pub Reached : Writer → Level → Type 0
-Reached s r = Reaches (s .levels) (columnsOf s) (s .y) (s .closed) (s .level) (s .rows) r
+Reached s r = Reaches (s .filter) (s .levels) (columnsOf s) (s .y) (s .closed) (s .level) (s .rows) r
 
 abbrev pub spotOf : Waiting → Spot
 spotOf o = record { level = o .level; band = code (o .band); row = o .row; length = o .length; start = o .start }
 
 -- the row that waits, of l levels, the first of the columns W; it lies within their store
-pub record Found (l : ℕ) (W : Side) (o : Waiting) (r : Spot) : Type 0 where
+pub record Found (f l : ℕ) (W : Side) (o : Waiting) (r : Spot) : Type 0 where
   pub spot : r ≡ spotOf o
-  pub room : r .start + r .length ≤ storeLength W l
+  pub room : r .start + r .length ≤ storeBy f W l
   pub within : r .level ≤ l
 
 -- nothing waits, and c steps of the closing are done
@@ -104,32 +105,32 @@ abbrev pub idle : ℕ → Closure
 idle c = record { closed = c; level = 0; left = 0; offset = 0 }
 
 -- what the steps of the first level's closing leave, of l levels, the first of the columns W
-pub record LevelClosed (l : ℕ) (W : Side) (o : Shut) (r : Closure) (x : Memory) : Type 0 where
+pub record LevelClosed (f l : ℕ) (W : Side) (o : Shut) (r : Closure) (x : Memory) : Type 0 where
   pub closed : r .closed ≡ o .closed
   pub level : r .level ≡ o .out .level
   pub left : r .left ≡ o .out .left
-  pub offset : r .offset ≡ startOf W (o .out .level)
+  pub offset : r .offset ≡ startOf f W (o .out .level)
   pub store : x ≡ o .out .store
   pub within : r .level ≤ l
   -- while a row waits, no more steps than the level has are done
-  pub some : 0 < r .level → r .closed ≤ ahead fiveThree
+  pub some : 0 < r .level → r .closed ≤ filterOf f .ahead
 
 -- what the finish of l levels leaves, the first of the columns W
-pub record Closed (l : ℕ) (W : Side) (o : Shut) (r : Closure) (x : Memory) : Type 0 where
+pub record Closed (f l : ℕ) (W : Side) (o : Shut) (r : Closure) (x : Memory) : Type 0 where
   pub closed : r .closed ≡ o .closed
   pub level : r .level ≡ o .out .level
   pub left : r .left ≡ o .out .left
-  pub offset : r .offset ≡ startOf W (o .out .level)
+  pub offset : r .offset ≡ startOf f W (o .out .level)
   pub store : x ≡ o .out .store
   pub within : r .level ≤ l
-  pub all : r .closed ≤ ahead fiveThree * l
+  pub all : r .closed ≤ filterOf f .ahead * l
 
 -- a row waits in a writer whose store has n numbers
 pub record Drawable (s : Writer) (n : ℕ) : Type 0 where
-  pub room : Room (s .levels) (columnsOf s) (s .rows) n
+  pub room : Room (s .filter) (s .levels) (columnsOf s) (s .rows) n
   pub walk : Walk (s .levels) (columnsOf s) (s .level) (s .rows)
   pub placed : Placed s
-  pub closed : s .closed ≤ ahead fiveThree * s .levels
+  pub closed : s .closed ≤ filterOf (s .filter) .ahead * s .levels
 
 -- what the draw leaves: the writer r and the store y
 pub record Drew (s : Writer) (x : Memory) (r : Writer) (y : Memory) : Type 0 where

@@ -8,9 +8,14 @@ use Rattle.numbers.specs.Signal.{pick, both, stored}
 use Rattle.lifting.specs.Grid.{Side, side}
 use Rattle.wavelet.specs.Limits.{maxHeight}
 use Rattle.level.specs.Level.{Memory, LevelKind}
+use Rattle.filters.specs.Forward.{kindOf}
 use Rattle.writer.specs.declared.Writer.{Writer}
 use Rattle.writer.specs.Counts.{startOf}
 use Rattle.writer.specs.Machine.{Out, arrive}
+
+-- the level that the writer runs, by its filter's number: what a level does, keeps and looks ahead comes from this number alone
+abbrev pub kind : Writer → LevelKind
+kind s = kindOf (s .filter)
 
 -- the writer's columns, where they start and how many they are
 abbrev pub columnsOf : Writer → Side
@@ -46,6 +51,7 @@ begun s = record {
   level = s .level;
   left = s .left;
   offset = s .offset;
+  filter = s .filter;
 }
 
 abbrev pub complete : Writer → Out → Writer
@@ -60,7 +66,8 @@ complete s o = record {
   closed = s .closed;
   level = o .level;
   left = o .left;
-  offset = startOf (columnsOf s) (o .level);
+  offset = startOf (s .filter) (columnsOf s) (o .level);
+  filter = s .filter;
 }
 
 module _ (K : LevelKind) where

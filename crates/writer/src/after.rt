@@ -15,7 +15,16 @@ pub fn draw_on(s: Writer, from: Level, store: &mut [i32]) -> Writer
     let r = draws::pull(s, from, store);
     if s.finished {
         if r.level == 0 {
-            let q = closing::shut(store, s.levels, s.width, s.x, s.y, s.closed, s.rows);
+            let q = closing::shut(
+                s.filter,
+                store,
+                s.levels,
+                s.width,
+                s.x,
+                s.y,
+                s.closed,
+                s.rows,
+            );
             return Writer {
                 width: s.width,
                 levels: s.levels,
@@ -28,6 +37,7 @@ pub fn draw_on(s: Writer, from: Level, store: &mut [i32]) -> Writer
                 level: q.level,
                 left: q.left,
                 offset: q.offset,
+                filter: s.filter,
             };
         }
     }
@@ -43,5 +53,6 @@ pub fn draw_on(s: Writer, from: Level, store: &mut [i32]) -> Writer
         level: r.level,
         left: r.left,
         offset: r.offset,
+        filter: s.filter,
     }
 }

@@ -1,15 +1,16 @@
 // What a row makes, down the levels. Each level works in its own stretch of the store; the rest of the store is lent on to the levels below.
-// A level has w columns, the first at coordinate x; its rows start at coordinate y.
+// A level has w columns, the first at coordinate x; its rows start at coordinate y; `filter` is the number of the filter.
 // The module is private: only this crate, which meets what is required, can call it.
 use crate::counts;
-use level::making;
+use filters::figures;
+use filters::forward;
 use wavelet::sizes;
 ghost use mathlib.Core.Path.{_≡_};
 ghost use Prim.Native.Nat.{_+_};
 ghost use lib.ListN.{length};
 ghost use Rattle.numbers.specs.Signal.{at};
 ghost use Rattle.lifting.specs.Grid.{side};
-ghost use Rattle.level.specs.FiveThreeLevel.{fiveThree};
+ghost use Rattle.filters.specs.Forward.{kindOf};
 ghost use Rattle.writer.specs.Machine.{arrive, passOn};
 ghost use Rattle.writer.specs.Steps.{Left, Room, noWait};
 
@@ -33,15 +34,23 @@ pub fn nothing() -> Wait
 }
 
 // Row m of a level stands in its slot; the level and those below it are l.
-pub fn arrive(store: &mut [i32], l: usize, w: usize, x: usize, y: usize, m: usize) -> Wait
-    requires { ⌜ Room l (side x w) m (length (now store)) ⌝ }
-    ensures { λ r. ⌜ Left l (side x w) (arrive fiveThree l (side x w) y m (at (now (store .entry)))) r (at (now (store .exit))) ⌝ }
+pub fn arrive(
+    filter: usize,
+    store: &mut [i32],
+    l: usize,
+    w: usize,
+    x: usize,
+    y: usize,
+    m: usize,
+) -> Wait
+    requires { ⌜ Room filter l (side x w) m (length (now store)) ⌝ }
+    ensures { λ r. ⌜ Left filter l (side x w) (arrive (kindOf filter) l (side x w) y m (at (now (store .entry)))) r (at (now (store .exit))) ⌝ }
 {
-    if !counts::sets_off(l, y, m) {
+    if !counts::sets_off(filter, l, y, m) {
         return nothing();
     }
-    let n = (y % 2 + m) / 2 - making::ahead();
-    making::make(store, w, x, y, n);
+    let n = (y % 2 + m) / 2 - figures::look_ahead(filter);
+    forward::make(filter, store, w, x, y, n);
     let i = counts::next_band(w, x, m + 1, y, n, counts::most(l - 1));
     if 0 < i {
         return Wait {
@@ -55,9 +64,10 @@ pub fn arrive(store: &mut [i32], l: usize, w: usize, x: usize, y: usize, m: usiz
     }
     let k = n - y % 2;
     let s = sizes::next_start(y);
-    making::deliver(store, w, x, n, s % 2 + k);
-    let a = counts::stretch(w, x);
+    forward::deliver(filter, store, w, x, n, s % 2 + k);
+    let a = counts::stretch(filter, w, x);
     let r = arrive(
+        filter,
         &mut store[a..],
         l - 1,
         sizes::low_count(x, w),
@@ -73,18 +83,27 @@ pub fn arrive(store: &mut [i32], l: usize, w: usize, x: usize, y: usize, m: usiz
 }
 
 // The LL row of set n, if it has one, goes to the l levels below.
-pub fn pass_on(store: &mut [i32], l: usize, w: usize, x: usize, y: usize, n: usize) -> Wait
-    requires { ⌜ Room (l + 1) (side x w) n (length (now store)) ⌝ }
-    ensures { λ r. ⌜ Left (l + 1) (side x w) (passOn fiveThree l (side x w) y n (at (now (store .entry)))) r (at (now (store .exit))) ⌝ }
+pub fn pass_on(
+    filter: usize,
+    store: &mut [i32],
+    l: usize,
+    w: usize,
+    x: usize,
+    y: usize,
+    n: usize,
+) -> Wait
+    requires { ⌜ Room filter (l + 1) (side x w) n (length (now store)) ⌝ }
+    ensures { λ r. ⌜ Left filter (l + 1) (side x w) (passOn (kindOf filter) l (side x w) y n (at (now (store .entry)))) r (at (now (store .exit))) ⌝ }
 {
     if !counts::goes_on(l, y, n) {
         return nothing();
     }
     let k = n - y % 2;
     let s = sizes::next_start(y);
-    making::deliver(store, w, x, n, s % 2 + k);
-    let a = counts::stretch(w, x);
+    forward::deliver(filter, store, w, x, n, s % 2 + k);
+    let a = counts::stretch(filter, w, x);
     let r = arrive(
+        filter,
         &mut store[a..],
         l,
         sizes::low_count(x, w),

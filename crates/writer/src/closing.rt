@@ -1,18 +1,19 @@
 // The finish: the levels close in turn, each step once nothing waits at any level.
-// A level has w columns, the first at coordinate x, and m rows, the first at coordinate y.
+// A level has w columns, the first at coordinate x, and m rows, the first at coordinate y; `filter` is the number of the filter.
 // The module is private: only this crate, which meets what is required, can call it.
 use crate::cascade;
 use crate::cascade::Wait;
 use crate::counts;
-use level::making;
+use filters::figures;
+use filters::forward;
 use wavelet::sizes;
 ghost use mathlib.Core.Path.{_≡_};
 ghost use Prim.Native.Nat.{_≤_, _+_, _-_, _*_};
 ghost use lib.ListN.{length};
 ghost use Rattle.numbers.specs.Signal.{at};
 ghost use Rattle.lifting.specs.Grid.{side};
-ghost use Rattle.level.specs.Level.{ahead};
-ghost use Rattle.level.specs.FiveThreeLevel.{fiveThree};
+ghost use Rattle.nine_seven.specs.Filters.{filterOf};
+ghost use Rattle.filters.specs.Forward.{kindOf};
 ghost use Rattle.writer.specs.Closing.{closeStep, closeLevel, shut};
 ghost use Rattle.writer.specs.Steps.{Room, Left, LevelClosed, Closed, idle};
 
@@ -37,15 +38,24 @@ fn idle(c: usize) -> Closure
 }
 
 // Step c of the level: its first set that is not made is made, if one is left; l levels are below.
-fn close_step(store: &mut [i32], l: usize, w: usize, x: usize, y: usize, c: usize, m: usize) -> Wait
-    requires { ⌜ Room (l + 1) (side x w) m (length (now store)) ⌝ }
-    ensures { λ r. ⌜ Left (l + 1) (side x w) (closeStep fiveThree l (side x w) y c m (at (now (store .entry)))) r (at (now (store .exit))) ⌝ }
+fn close_step(
+    filter: usize,
+    store: &mut [i32],
+    l: usize,
+    w: usize,
+    x: usize,
+    y: usize,
+    c: usize,
+    m: usize,
+) -> Wait
+    requires { ⌜ Room filter (l + 1) (side x w) m (length (now store)) ⌝ }
+    ensures { λ r. ⌜ Left filter (l + 1) (side x w) (closeStep (kindOf filter) l (side x w) y c m (at (now (store .entry)))) r (at (now (store .exit))) ⌝ }
 {
-    let n = counts::made(c, y, m);
+    let n = counts::made(filter, c, y, m);
     if !counts::is_left(y, m, n) {
         return cascade::nothing();
     }
-    making::close(store, w, x, y, m);
+    forward::close(filter, store, w, x, y, m, n);
     let i = counts::next_band(w, x, m, y, n, counts::most(l));
     if 0 < i {
         return Wait {
@@ -54,11 +64,12 @@ fn close_step(store: &mut [i32], l: usize, w: usize, x: usize, y: usize, c: usiz
             offset: 0,
         };
     }
-    cascade::pass_on(store, l, w, x, y, n)
+    cascade::pass_on(filter, store, l, w, x, y, n)
 }
 
 // The steps of the level from step c on, until a row waits.
 fn close_level(
+    filter: usize,
     store: &mut [i32],
     l: usize,
     w: usize,
@@ -67,14 +78,15 @@ fn close_level(
     c: usize,
     m: usize,
 ) -> Closure
-    requires { ⌜ Room (l + 1) (side x w) m (length (now store)) ⌝ }
-    ensures { λ r. ⌜ LevelClosed (l + 1) (side x w) (closeLevel fiveThree (ahead fiveThree - c) l (side x w) y c m (at (now (store .entry)))) r
+    requires { ⌜ Room filter (l + 1) (side x w) m (length (now store)) ⌝ }
+    ensures { λ r. ⌜ LevelClosed filter (l + 1) (side x w)
+        (closeLevel (kindOf filter) (filterOf filter .ahead - c) l (side x w) y c m (at (now (store .entry)))) r
         (at (now (store .exit))) ⌝ }
 {
-    let a = making::ahead();
+    let a = figures::look_ahead(filter);
     let mut k = c;
     while k < a {
-        let o = close_step(store, l, w, x, y, k, m);
+        let o = close_step(filter, store, l, w, x, y, k, m);
         k += 1;
         if 0 < o.level {
             return Closure {
@@ -90,6 +102,7 @@ fn close_level(
 
 // The l levels close, c steps being done, until a row waits.
 pub fn shut(
+    filter: usize,
     store: &mut [i32],
     l: usize,
     w: usize,
@@ -98,28 +111,29 @@ pub fn shut(
     c: usize,
     m: usize,
 ) -> Closure
-    requires { ⌜ Room l (side x w) m (length (now store)) × (c ≤ ahead fiveThree * l) ⌝ }
-    ensures { λ r. ⌜ Closed l (side x w) (shut fiveThree l (side x w) y c m (at (now (store .entry)))) r (at (now (store .exit))) ⌝ }
+    requires { ⌜ Room filter l (side x w) m (length (now store)) × (c ≤ filterOf filter .ahead * l) ⌝ }
+    ensures { λ r. ⌜ Closed filter l (side x w) (shut (kindOf filter) l (side x w) y c m (at (now (store .entry)))) r (at (now (store .exit))) ⌝ }
 {
     if l == 0 {
         return idle(c);
     }
-    let o = close_level(store, l - 1, w, x, y, c, m);
+    let o = close_level(filter, store, l - 1, w, x, y, c, m);
     if 0 < o.level {
         return o;
     }
-    let a = counts::stretch(w, x);
+    let a = counts::stretch(filter, w, x);
     let r = shut(
+        filter,
         &mut store[a..],
         l - 1,
         sizes::low_count(x, w),
         sizes::next_start(x),
         sizes::next_start(y),
-        counts::closed_below(c),
+        counts::closed_below(filter, c),
         sizes::low_count(y, m),
     );
     Closure {
-        closed: making::ahead() + r.closed,
+        closed: figures::look_ahead(filter) + r.closed,
         level: counts::deeper(r.level),
         left: r.left,
         offset: counts::further(r.level, a, r.offset),

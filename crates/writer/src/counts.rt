@@ -1,7 +1,7 @@
 // The numbers that the writer derives on its way down the levels. A level has w columns, the first at coordinate x, and has received m rows, the first at
-// coordinate y. The module is private: only this crate, which meets what is required, can call it.
-use level::making;
-use level::rows;
+// coordinate y; `filter` is the number of the filter. The module is private: only this crate, which meets what is required, can call it.
+use filters::figures;
+use filters::forward;
 use wavelet::sizes;
 ghost use mathlib.Core.Path.{_≡_};
 ghost use Prim.Native.Nat.{_<_, _-_, _%_, _^_};
@@ -11,8 +11,9 @@ ghost use Rattle.lifting.specs.Line.{hi};
 ghost use Rattle.lifting.specs.Grid.{side, count};
 ghost use Rattle.wavelet.specs.Bands.{across, down, code};
 ghost use Rattle.wavelet.specs.Order.{firstSet, lastSet, setRow, setHas};
-ghost use Rattle.level.specs.Level.{prev, completes, ahead};
-ghost use Rattle.level.specs.FiveThreeLevel.{fiveThree};
+ghost use Rattle.level.specs.Level.{prev, completes};
+ghost use Rattle.nine_seven.specs.Filters.{filterOf};
+ghost use Rattle.filters.specs.Forward.{kindOf};
 ghost use Rattle.writer.specs.Counts.{deeper, deeperBy, further, made, lowRows, most, bandAt, skip};
 
 // One less, and 0 of 0.
@@ -47,11 +48,11 @@ pub fn further(v: usize, a: usize, o: usize) -> usize
 }
 
 // How many sets a level has made, c steps of its closing being done: all of them, or all but those that are left for the steps to come.
-pub fn made(c: usize, y: usize, m: usize) -> usize
+pub fn made(filter: usize, c: usize, y: usize, m: usize) -> usize
     requires { ⌜ m < 2 ^ 32 ⌝ }
-    ensures { λ r. ⌜ r ≡ made (ahead fiveThree) c y m ⌝ }
+    ensures { λ r. ⌜ r ≡ made (filterOf filter .ahead) c y m ⌝ }
 {
-    let a = making::ahead();
+    let a = figures::look_ahead(filter);
     let all = (y % 2 + m + 1) / 2;
     if a <= c {
         return all;
@@ -77,10 +78,10 @@ pub fn is_left(y: usize, m: usize, n: usize) -> bool
 }
 
 // How many steps of the closing are done below a level, of c: the level itself has as many as its look-ahead.
-pub fn closed_below(c: usize) -> usize
-    ensures { λ r. ⌜ r ≡ c - ahead fiveThree ⌝ }
+pub fn closed_below(filter: usize, c: usize) -> usize
+    ensures { λ r. ⌜ r ≡ c - filterOf filter .ahead ⌝ }
 {
-    let a = making::ahead();
+    let a = figures::look_ahead(filter);
     if c < a {
         return 0;
     }
@@ -98,26 +99,26 @@ pub fn low_rows(y: usize, n: usize) -> usize
 }
 
 // Whether row m completes a set.
-pub fn completes(y: usize, m: usize) -> bool
+pub fn completes(filter: usize, y: usize, m: usize) -> bool
     requires { ⌜ m < 2 ^ 32 ⌝ }
-    ensures { λ r. ⌜ r ≡ completes (ahead fiveThree) y m ⌝ }
+    ensures { λ r. ⌜ r ≡ completes (filterOf filter .ahead) y m ⌝ }
 {
     let q = y % 2 + m;
-    if q < 2 * making::ahead() {
+    if q < 2 * figures::look_ahead(filter) {
         return false;
     }
     q % 2 == 0
 }
 
 // Whether row m sets off a set of the first of l levels.
-pub fn sets_off(l: usize, y: usize, m: usize) -> bool
+pub fn sets_off(filter: usize, l: usize, y: usize, m: usize) -> bool
     requires { ⌜ m < 2 ^ 32 ⌝ }
-    ensures { λ r. ⌜ r ≡ both (ltb 0 l) (completes (ahead fiveThree) y m) ⌝ }
+    ensures { λ r. ⌜ r ≡ both (ltb 0 l) (completes (filterOf filter .ahead) y m) ⌝ }
 {
     if l == 0 {
         return false;
     }
-    completes(y, m)
+    completes(filter, y, m)
 }
 
 // Whether set n gives a row to the l levels below.
@@ -236,9 +237,9 @@ pub fn next_band(w: usize, x: usize, m: usize, y: usize, n: usize, i: usize) -> 
 }
 
 // How many numbers the stretch of a level has.
-pub fn stretch(w: usize, x: usize) -> usize
+pub fn stretch(filter: usize, w: usize, x: usize) -> usize
     requires { ⌜ w < 4294967296 ⌝ }
-    ensures { λ r. ⌜ r ≡ fiveThree .stretch (side x w) ⌝ }
+    ensures { λ r. ⌜ r ≡ kindOf filter .stretch (side x w) ⌝ }
 {
-    rows::stretch(w, x)
+    forward::stretch(filter, w, x)
 }

@@ -3,7 +3,7 @@ use crate::Writer;
 use crate::cascade;
 use crate::cascade::Wait;
 use crate::counts;
-use level::rows;
+use filters::forward;
 use wavelet::sizes;
 ghost use lib.ListN.{length};
 ghost use Rattle.numbers.specs.Signal.{at};
@@ -35,9 +35,18 @@ pub struct Level {
 
 // Level v of l levels, the first of w columns from x on and m rows from y on, c steps of the closing being done. Numbers alone: where it stands in the store,
 // the writer carries.
-pub fn level_of(l: usize, w: usize, x: usize, y: usize, c: usize, v: usize, m: usize) -> Level
+pub fn level_of(
+    filter: usize,
+    l: usize,
+    w: usize,
+    x: usize,
+    y: usize,
+    c: usize,
+    v: usize,
+    m: usize,
+) -> Level
     requires { ⌜ Walk l (side x w) v m ⌝ }
-    ensures { λ r. ⌜ Reaches l (side x w) y c v m r ⌝ }
+    ensures { λ r. ⌜ Reaches filter l (side x w) y c v m r ⌝ }
 {
     let mut width = w;
     let mut column = x;
@@ -46,14 +55,14 @@ pub fn level_of(l: usize, w: usize, x: usize, y: usize, c: usize, v: usize, m: u
     let mut closed = c;
     let mut k = v;
     while 1 < k {
-        rows = counts::low_rows(row, counts::made(closed, row, rows));
+        rows = counts::low_rows(row, counts::made(filter, closed, row, rows));
         row = sizes::next_start(row);
-        closed = counts::closed_below(closed);
+        closed = counts::closed_below(filter, closed);
         width = sizes::low_count(column, width);
         column = sizes::next_start(column);
         k -= 1;
     }
-    let set = counts::prev(counts::made(closed, row, rows));
+    let set = counts::prev(counts::made(filter, closed, row, rows));
     Level {
         below: l - v,
         width,
@@ -67,7 +76,7 @@ pub fn level_of(l: usize, w: usize, x: usize, y: usize, c: usize, v: usize, m: u
 // The row that waits, at level q.
 pub fn waiting(s: Writer, q: Level) -> Spot
     requires { ⌜ Walk (s .levels) (columnsOf s) (s .level) (s .rows) × Placed s × Reached s q ⌝ }
-    ensures { λ r. ⌜ Found (s .levels) (columnsOf s) (waitingRow s) r ⌝ }
+    ensures { λ r. ⌜ Found (s .filter) (s .levels) (columnsOf s) (waitingRow s) r ⌝ }
 {
     let i = counts::prev(s.left);
     let band = counts::code(i);
@@ -76,14 +85,14 @@ pub fn waiting(s: Writer, q: Level) -> Spot
         band,
         row: counts::set_row(q.rows, q.y, q.set, i),
         length: counts::columns(q.width, q.x, i),
-        start: s.offset + rows::band_place(q.width, q.x, q.set, band),
+        start: s.offset + forward::band_place(s.filter, q.width, q.x, q.set, band),
     }
 }
 
 // It is drawn: the next band of the set that has a row in it waits, or the set's LL row goes on.
 pub fn pull(s: Writer, q: Level, store: &mut [i32]) -> Wait
     requires { ⌜ Drawable s (length (now store)) × Reached s q ⌝ }
-    ensures { λ r. ⌜ Left (s .levels) (columnsOf s) (pulled s (at (now (store .entry)))) r (at (now (store .exit))) ⌝ }
+    ensures { λ r. ⌜ Left (s .filter) (s .levels) (columnsOf s) (pulled s (at (now (store .entry)))) r (at (now (store .exit))) ⌝ }
 {
     let i = counts::next_band(q.width, q.x, q.rows, q.y, q.set, counts::prev(s.left));
     let a = s.offset;
@@ -94,7 +103,7 @@ pub fn pull(s: Writer, q: Level, store: &mut [i32]) -> Wait
             offset: a,
         };
     }
-    let r = cascade::pass_on(&mut store[a..], q.below, q.width, q.x, q.y, q.set);
+    let r = cascade::pass_on(s.filter, &mut store[a..], q.below, q.width, q.x, q.y, q.set);
     Wait {
         level: counts::deeper_by(s.level - 1, r.level),
         left: r.left,

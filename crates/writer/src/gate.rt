@@ -1,31 +1,31 @@
 // The gate questions of the writer's calls, in order: 0, or the number of the first that says no.
 use crate::Writer;
 use crate::counts;
-use level::making;
+use filters::figures;
 use wavelet::limits;
 use wavelet::sizes;
-use wavelet::store;
 ghost use mathlib.Core.Path.{_≡_};
-ghost use Prim.Native.Nat.{_+_, _*_, _/_, _^_, _<_, _≤_};
+ghost use Prim.Native.Nat.{_^_, _<_, _≤_};
 ghost use lib.Dec.{leb, eqb};
 ghost use Rattle.numbers.specs.Signal.{both};
 ghost use Rattle.lifting.specs.Grid.{side};
+ghost use Rattle.filters.specs.Figures.{streamable};
 ghost use Rattle.writer.specs.Counts.{mostLeft, startOf};
 ghost use Rattle.writer.specs.Taking.{columnsOf};
 ghost use Rattle.writer.specs.Questions.{onGrid, inRanges, setUpQuestion, offerQuestion, finishQuestion};
 ghost use Rattle.writer.specs.Gate.{stateQuestion, openQuestion};
 
 // Does the stretch of level v begin at place o? The stretches before it are taken off: added up first, they would cost the short calls more.
-fn begins(w: usize, x: usize, v: usize, o: usize) -> bool
+fn begins(filter: usize, w: usize, x: usize, v: usize, o: usize) -> bool
     requires { ⌜ (w < 2 ^ 16) × (0 < v) ⌝ }
-    ensures { λ r. ⌜ r ≡ eqb o (startOf (side x w) v) ⌝ }
+    ensures { λ r. ⌜ r ≡ eqb o (startOf filter (side x w) v) ⌝ }
 {
     let mut width = w;
     let mut column = x;
     let mut rest = o;
     let mut k = v;
     while 1 < k {
-        let a = counts::stretch(width, column);
+        let a = counts::stretch(filter, width, column);
         if rest < a {
             return false;
         }
@@ -40,7 +40,7 @@ fn begins(w: usize, x: usize, v: usize, o: usize) -> bool
 // What waits: the bands that are left, and where its level's stretch begins; where nothing waits, as most often, neither is looked for.
 fn waits_in_range(s: Writer) -> bool
     requires { ⌜ (s .width < 2 ^ 16) × (s .level ≤ s .levels) ⌝ }
-    ensures { λ r. ⌜ r ≡ both (leb (s .left) (mostLeft (s .levels) (s .level))) (eqb (s .offset) (startOf (columnsOf s) (s .level))) ⌝ }
+    ensures { λ r. ⌜ r ≡ both (leb (s .left) (mostLeft (s .levels) (s .level))) (eqb (s .offset) (startOf (s .filter) (columnsOf s) (s .level))) ⌝ }
 {
     if s.level == 0 {
         if 0 < s.left {
@@ -51,7 +51,7 @@ fn waits_in_range(s: Writer) -> bool
     if counts::most(s.levels - s.level) < s.left {
         return false;
     }
-    begins(s.width, s.x, s.level, s.offset)
+    begins(s.filter, s.width, s.x, s.level, s.offset)
 }
 
 // Whether a map starts on the grid.
@@ -64,6 +64,19 @@ fn on_grid(x: usize, y: usize) -> bool
     y <= Writer::MAX_ORIGIN
 }
 
+// Whether questions 2, 18 and 4 pass.
+fn is_sized(filter: usize, width: usize, x: usize, levels: usize) -> bool
+    ensures { λ r. ⌜ r ≡ streamable filter (side x width) levels ⌝ }
+{
+    if !figures::is_filter(filter) {
+        return false;
+    }
+    if !limits::is_within(width, Writer::MAX_WIDTH) {
+        return false;
+    }
+    limits::is_within(levels, figures::most_levels(filter))
+}
+
 // Question 1: the counts' ranges.
 pub fn in_ranges(s: Writer) -> bool
     ensures { λ r. ⌜ r ≡ inRanges s ⌝ }
@@ -71,10 +84,7 @@ pub fn in_ranges(s: Writer) -> bool
     if !on_grid(s.x, s.y) {
         return false;
     }
-    if !limits::is_within(s.width, Writer::MAX_WIDTH) {
-        return false;
-    }
-    if !limits::is_within(s.levels, Writer::MAX_LEVELS) {
+    if !is_sized(s.filter, s.width, s.x, s.levels) {
         return false;
     }
     if Writer::MAX_HEIGHT < s.rows {
@@ -83,7 +93,7 @@ pub fn in_ranges(s: Writer) -> bool
     if s.width <= s.column {
         return false;
     }
-    if making::ahead() * s.levels < s.closed {
+    if figures::look_ahead(s.filter) * s.levels < s.closed {
         return false;
     }
     if s.levels < s.level {
@@ -100,10 +110,10 @@ pub fn state_question(s: Writer, fits: bool, n: usize) -> u8
     if !fits {
         return 1;
     }
-    if store::holds_any(s.width, n) {
+    if figures::holds_any(s.filter, s.width, n) {
         return 0;
     }
-    if n < store::store_length(s.width, s.x, s.levels) {
+    if n < figures::store_length(s.filter, s.width, s.x, s.levels) {
         return 5;
     }
     0
@@ -123,16 +133,19 @@ fn open_question(s: Writer) -> u8
 }
 
 // Of columns from x on.
-pub fn set_up_question(width: usize, x: usize, levels: usize, n: usize) -> u8
-    ensures { λ r. ⌜ r ≡ setUpQuestion (side x width) levels n ⌝ }
+pub fn set_up_question(filter: usize, width: usize, x: usize, levels: usize, n: usize) -> u8
+    ensures { λ r. ⌜ r ≡ setUpQuestion filter (side x width) levels n ⌝ }
 {
     if !limits::is_within(width, Writer::MAX_WIDTH) {
         return 2;
     }
-    if !limits::is_within(levels, Writer::MAX_LEVELS) {
+    if !figures::is_filter(filter) {
+        return 18;
+    }
+    if !limits::is_within(levels, figures::most_levels(filter)) {
         return 4;
     }
-    if n < store::store_length(width, x, levels) {
+    if n < figures::store_length(filter, width, x, levels) {
         return 5;
     }
     0

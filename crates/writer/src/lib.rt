@@ -8,8 +8,8 @@ mod draws;
 mod gate;
 mod offers;
 
+use filters::figures;
 use wavelet::shape::Shape;
-use wavelet::store;
 ghost use mathlib.Core.Path.{_≡_};
 ghost use lib.ListN.{length};
 ghost use Rattle.numbers.specs.Signal.{at};
@@ -40,6 +40,8 @@ pub struct Writer {
     pub left: usize,
     // where that level's stretch of the line store begins; 0: nothing waits
     pub offset: usize,
+    // the filter's number: 0 the 5/3, 1 the integer 9/7
+    pub filter: usize,
 }
 
 // A band row that was drawn: its values stand at the front of the output area.
@@ -112,16 +114,18 @@ impl Writer {
 
     // A fresh writer, and zeros in the part of the store that it needs. A writer need not know how many rows will come: it does not read the shape's height.
     pub fn set_up(shape: Shape, store: &mut [i32]) -> SetUp
-        ensures { λ r. ⌜ ofSetUp r ≡ setUpReply (columns shape) (shape .y) (shape .levels) (length (now (store .entry))) ⌝ }
-        ensures { λ r. ⌜ at (now (store .exit)) ≡ setUpStore (columns shape) (shape .levels) (length (now (store .entry))) (at (now (store .entry))) ⌝ }
+        ensures { λ r. ⌜ ofSetUp r ≡ setUpReply (shape .filter) (columns shape) (shape .y) (shape .levels) (length (now (store .entry))) ⌝ }
+        ensures { λ r. ⌜ at (now (store .exit)) ≡ setUpStore (shape .filter) (columns shape) (shape .levels) (length (now (store .entry)))
+            (at (now (store .entry))) ⌝ }
         ensures { λ r. ⌜ SetUpHolds (ofSetUp r) (at (now (store .exit))) ⌝ }
     {
+        let filter = shape.filter as usize;
         let x = shape.x as usize;
-        let no = gate::set_up_question(shape.width, x, shape.levels, store.len());
+        let no = gate::set_up_question(filter, shape.width, x, shape.levels, store.len());
         if 0 < no {
             return SetUp::Refused(no);
         }
-        let n = store::store_length(shape.width, x, shape.levels);
+        let n = figures::store_length(filter, shape.width, x, shape.levels);
         copies::clear(store, n);
         SetUp::Ready(Writer {
             width: shape.width,
@@ -135,6 +139,7 @@ impl Writer {
             level: 0,
             left: 0,
             offset: 0,
+            filter,
         })
     }
 
@@ -176,6 +181,7 @@ impl Writer {
             return Drawn::Nothing;
         }
         let q = draws::level_of(
+            self.filter,
             self.levels,
             self.width,
             self.x,
@@ -210,6 +216,7 @@ impl Writer {
         }
         if 0 < self.level {
             let q = draws::level_of(
+                self.filter,
                 self.levels,
                 self.width,
                 self.x,
@@ -244,7 +251,16 @@ impl Writer {
         if 0 < no {
             return Finished::Refused(no);
         }
-        let r = closing::shut(store, self.levels, self.width, self.x, self.y, 0, self.rows);
+        let r = closing::shut(
+            self.filter,
+            store,
+            self.levels,
+            self.width,
+            self.x,
+            self.y,
+            0,
+            self.rows,
+        );
         Finished::Closed(Writer {
             width: self.width,
             levels: self.levels,
@@ -257,6 +273,7 @@ impl Writer {
             level: r.level,
             left: r.left,
             offset: r.offset,
+            filter: self.filter,
         })
     }
 }

@@ -1,7 +1,7 @@
 // Heights into level 1, a stretch of a row at a time. The module is private: only this crate, which meets what is required, can call it.
 use crate::Writer;
 use crate::cascade;
-use level::heights;
+use filters::forward;
 ghost use mathlib.Core.Path.{_≡_};
 ghost use Prim.Native.Nat.{_+_, _<_, _≤_, _-_, min};
 ghost use lib.ListN.{length};
@@ -48,7 +48,7 @@ pub fn stretch(s: Writer, store: &mut [i32], run: &[u16], from: usize, n: usize)
     ensures { λ r. ⌜ Stretched s (now (run .entry)) from n (at (now (store .entry))) r (at (now (store .exit))) (length (now (store .entry))) ⌝ }
 {
     let q = s.y % 2 + s.rows;
-    heights::put(store, s.width, s.x, q, s.column, run, from, n);
+    forward::put(s.filter, store, s.width, s.x, q, s.column, run, from, n);
     let column = s.column + n;
     if column < s.width {
         return Writer {
@@ -63,9 +63,10 @@ pub fn stretch(s: Writer, store: &mut [i32], run: &[u16], from: usize, n: usize)
             level: s.level,
             left: s.left,
             offset: s.offset,
+            filter: s.filter,
         };
     }
-    let r = cascade::arrive(store, s.levels, s.width, s.x, s.y, s.rows);
+    let r = cascade::arrive(s.filter, store, s.levels, s.width, s.x, s.y, s.rows);
     Writer {
         width: s.width,
         levels: s.levels,
@@ -78,5 +79,6 @@ pub fn stretch(s: Writer, store: &mut [i32], run: &[u16], from: usize, n: usize)
         level: r.level,
         left: r.left,
         offset: r.offset,
+        filter: s.filter,
     }
 }

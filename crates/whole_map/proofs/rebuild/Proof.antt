@@ -1,8 +1,8 @@
 -- `rebuild` meets its contract: the levels, and then the rows tested and stored. Assumes nothing.
 use native.Mathlib.Omega.{arith}
 use borrow.Author.Tests.{not-true, not-false}
-use Rattle.whole_map.proofs.ByFilterLaws.{filter-laws}
-use Rattle.whole_map.specs.ByFilter.{filterOf}
+use Rattle.nine_seven.proofs.Filters.{filter-laws}
+use Rattle.nine_seven.specs.Filters.{filterOf}
 use Rattle.whole_map.proofs.GridSweep.{rows-kept}
 use Rattle.whole_map.proofs.CallLaws.{map-rows, map-doubling, map-no, map-yes}
 use borrow.Author.Needs.{needs}

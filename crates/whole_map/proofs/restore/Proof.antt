@@ -6,8 +6,8 @@ use lib.Dec.{leb}
 use native.Mathlib.Omega.{arith}
 use borrow.Author.Tests.{not-true, not-false, le-leb}
 use Rattle.areas.proofs.AreaLaws.{did}
-use Rattle.whole_map.proofs.ByFilterLaws.{filter-laws}
-use Rattle.whole_map.specs.ByFilter.{filterOf}
+use Rattle.nine_seven.proofs.Filters.{filter-laws}
+use Rattle.nine_seven.specs.Filters.{filterOf}
 use Rattle.whole_map.proofs.CallLaws.{cleared, rebuilt-no, rebuilt-yes, rebuilt-zero, out-of-range, not-rebuilt, all-rebuilt}
 use borrow.Author.Needs.{needs}
 use Rattle.whole_map.proofs.restore.Statement.{statement}

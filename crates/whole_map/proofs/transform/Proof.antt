@@ -4,8 +4,8 @@ use native.Mathlib.Omega.{arith}
 use lib.ListN.{length, getD}
 use borrow.Author.Tests.{le-leb}
 use Rattle.areas.proofs.AreaLaws.{did}
-use Rattle.whole_map.specs.ByFilter.{filterOf}
-use Rattle.whole_map.proofs.ByFilterLaws.{filter-laws}
+use Rattle.nine_seven.specs.Filters.{filterOf}
+use Rattle.nine_seven.proofs.Filters.{filter-laws}
 use Rattle.whole_map.proofs.CallLaws.{map-rows, plane-made, cleared}
 use borrow.Author.Needs.{needs}
 use Rattle.whole_map.proofs.transform.Statement.{statement}

@@ -6,6 +6,7 @@ use Rattle.lifting.specs.Grid.{side}
 use Rattle.wavelet.specs.Levels.{next}
 use Rattle.level.specs.Making as five
 use Rattle.nine_seven_making.specs.Making as nine
+use Rattle.nine_seven.specs.Filters.{filterOf}
 use Rattle.filters.specs.Forward.{nextFits, delivered}
 use Rattle.filters.proofs.ForwardLaws.{zero-both, other-both}
 use borrow.Author.Needs.{needs}
@@ -19,7 +20,7 @@ same-length : tie.Need-same-length
 same-length c = search needs
 
 returns : tie.Need-returns
-unfolding nextFits delivered five.nextFits next
+unfolding filterOf nextFits delivered five.nextFits next
 returns c =
     let a = c .before .before .before .before .args in
     let k = length (a .store .now) in
@@ -34,7 +35,7 @@ same-length-2 : tie.Need-same-length-2
 same-length-2 c = search needs
 
 returns-2 : tie.Need-returns-2
-unfolding nextFits delivered nine.nextFits next
+unfolding filterOf nextFits delivered nine.nextFits next
 returns-2 c =
     let a = c .before .before .before .before .args in
     let k = length (a .store .now) in

@@ -5,6 +5,7 @@ use Rattle.numbers.specs.Signal.{at}
 use Rattle.lifting.specs.Grid.{side}
 use Rattle.level.specs.Making as five
 use Rattle.nine_seven_making.specs.Making as nine
+use Rattle.nine_seven.specs.Filters.{filterOf}
 use Rattle.filters.specs.Forward.{kindOf, levelFits}
 use Rattle.filters.proofs.ForwardLaws.{zero-both, other-both}
 use borrow.Author.Needs.{needs}
@@ -18,7 +19,7 @@ same-length : tie.Need-same-length
 same-length c = search needs
 
 returns : tie.Need-returns
-unfolding levelFits five.levelFits
+unfolding filterOf levelFits five.levelFits
 returns c =
     let a = c .before .before .before .before .args in
     let k = length (a .store .now) in
@@ -33,7 +34,7 @@ same-length-2 : tie.Need-same-length-2
 same-length-2 c = search needs
 
 returns-2 : tie.Need-returns-2
-unfolding levelFits nine.levelFits
+unfolding filterOf levelFits nine.levelFits
 returns-2 c =
     let a = c .before .before .before .before .args in
     let k = length (a .store .now) in

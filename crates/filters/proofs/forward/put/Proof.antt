@@ -7,6 +7,7 @@ use Rattle.lifting.specs.Grid.{side}
 use Rattle.level.specs.Heights.{heightAt}
 use Rattle.level.specs.Heights as five
 use Rattle.nine_seven_making.specs.Heights as nine
+use Rattle.nine_seven.specs.Filters.{filterOf}
 use Rattle.filters.specs.Forward.{levelFits, heightsPut, heightsFit}
 use Rattle.filters.proofs.ForwardLaws.{zero-both, other-both}
 use borrow.Author.Needs.{needs}
@@ -20,7 +21,7 @@ same-length : tie.Need-same-length
 same-length c = search needs
 
 returns : tie.Need-returns
-unfolding heightsFit heightsPut levelFits five.heightsFit
+unfolding filterOf heightsFit heightsPut levelFits five.heightsFit
 returns c =
     let a = c .before .before .before .before .before .args in
     let k = length (a .store .now) in
@@ -36,7 +37,7 @@ same-length-2 : tie.Need-same-length-2
 same-length-2 c = search needs
 
 returns-2 : tie.Need-returns-2
-unfolding heightsFit heightsPut levelFits nine.heightsFit
+unfolding filterOf heightsFit heightsPut levelFits nine.heightsFit
 returns-2 c =
     let a = c .before .before .before .before .before .args in
     let k = length (a .store .now) in

@@ -3,6 +3,7 @@ use native.Mathlib.Omega.{arith}
 use lib.Dec.{ltb}
 use Rattle.numbers.specs.Signal.{pick}
 use Rattle.lifting.specs.Grid.{side}
+use Rattle.nine_seven.specs.Filters.{filterOf}
 use Rattle.filters.specs.Forward.{kindOf, countable}
 use Rattle.filters.proofs.ForwardLaws.{zero-is, other-is}
 use Rattle.filters.proofs.forward.stretch.Statement.{statement}
@@ -12,7 +13,7 @@ stretch-requires : tie.Need-stretch-requires
 stretch-requires c κs = tt
 
 returns : tie.Need-returns
-unfolding countable
+unfolding filterOf countable
 returns c =
     let a = c .before .before .args in
     zero-is (a .filter) (λ f. pick (ltb (a .w) (countable f)) (kindOf f .stretch (side (a .x) (a .w))) 0) _ (omega arith) (c .stretch .ensures)
@@ -21,7 +22,7 @@ stretch-requires-2 : tie.Need-stretch-requires-2
 stretch-requires-2 c κs = tt
 
 returns-2 : tie.Need-returns-2
-unfolding countable
+unfolding filterOf countable
 returns-2 c =
     let a = c .before .before .args in
     other-is (a .filter) (λ f. pick (ltb (a .w) (countable f)) (kindOf f .stretch (side (a .x) (a .w))) 0) _ (omega arith) (λ _. c .stretch2 .ensures)

@@ -47,7 +47,7 @@ returns c =
     c .all-between .ensures
     ∙ admit-is 4 fiveThreeFilter (a .k) (a .w) (a .r) at (at + a .w - at) (a .stretch .now) _ _ (place .row-place .ensures .0) (omega arith) (omega arith)
     (read-back (low .lowest-of .result) (low .lowest-of .ok) ∙ low .lowest-of .ensures)
-    (read-back (high .range-of .result) (high .range-of .ok) ∙ high .range-of .ensures ∙ same-range (a .k) (start .pre .2))
+    (read-back (high .range-of .result) (high .range-of .ok) ∙ high .range-of .ensures ∙ same-range _ _ (a .k) (start .pre .2))
 
 pub admit-row-spec : {M : Type 1} → statement M
 admit-row-spec =

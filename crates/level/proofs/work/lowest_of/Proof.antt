@@ -22,8 +22,9 @@ returns c = low-zero fiveThreeFilter _ (c .if1 .taken)
 returns-2 : tie.Need-returns-2
 returns-2 c =
     let start = c .before .before in
-    let is = c .range-of .ensures ∙ same-range (start .args .k) (start .pre) in
-    toZ-ofZ w32 _ (sub-result c) ∙ ap (λ (z : ℤ). pos 0 -ℤ z) (read-back (c .range-of .result) (c .range-of .ok) ∙ is) ∙ low-more fiveThreeFilter _ (c .before .if1 .left)
+    let is = c .range-of .ensures ∙ same-range _ _ (start .args .k) (start .pre) in
+    toZ-ofZ w32 _ (sub-result c) ∙ ap (λ (z : ℤ). pos 0 -ℤ z) (read-back (c .range-of .result) (c .range-of .ok) ∙ is)
+    ∙ low-more fiveThreeFilter _ (c .before .if1 .left)
 
 pub lowest-of-spec : {M : Type 1} → statement M
 lowest-of-spec = tie.close (tie.spec range-of-requires sub-result returns returns-2)

@@ -59,7 +59,7 @@ returns c =
     pair-call (a .k) (a .w) (side (a .y) (a .h)) (a .n) (start .pre .5) (start .pre .6) _ (high .high-near .result) (low .low-near .result) _ _ _ _ _
     (start .pre .1) (high .high-near .ensures .0) (low .low-near .ensures .0)
     (read-back (least .lowest-of .result) (least .lowest-of .ok) ∙ least .lowest-of .ensures)
-    (read-back (most .range-of .result) (most .range-of .ok) ∙ most .range-of .ensures ∙ same-range (a .k) (start .pre .4))
+    (read-back (most .range-of .result) (most .range-of .ok) ∙ most .range-of .ensures ∙ same-range _ _ (a .k) (start .pre .4))
     (call .unlift-pair .ensures .0) (call .unlift-pair .ensures .1)
 
 pub make-pair-spec : {M : Type 1} → statement M

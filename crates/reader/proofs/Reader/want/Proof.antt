@@ -48,7 +48,8 @@ told-requires c κs =
     let level = band .before in
     let live = level .before .before .before .before .before in
     let s = live .before .before .before .args .self in (
-      up-next _ (columns s) (rows s) (s .levels) (s .drawn) (next s) (s .level) (band .own-band .result) (level .own-level .result) (level .own-level .ensures .0)
+      up-next _ (columns s) (rows s) (s .levels) (s .drawn) (next s) (s .level) (band .own-band .result) (level .own-level .result)
+          (level .own-level .ensures .0)
           (band .own-band .ensures (c .if5 .taken)),
       live .if2 .left,
       omega arith,

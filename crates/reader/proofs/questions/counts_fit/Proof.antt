@@ -5,8 +5,8 @@ use lib.Dec.{leb}
 use native.Mathlib.Omega.{arith}
 use borrow.Author.Tests.{not-true, not-false}
 use Rattle.wavelet.specs.Limits.{maxWidth, maxHeight, maxOrigin}
-use Rattle.wavelet.specs.Questions.{within}
-use Rattle.reader.proofs.QuestionLaws.{counts-1, counts-2, counts-f, counts-3, counts-x, counts-y, counts-4, counts-5, counts-6, counts-7}
+use Rattle.reader.proofs.QuestionLaws.{levels-asked, counts-1, counts-2, counts-f, counts-3, counts-x, counts-y, counts-4, counts-5}
+use Rattle.reader.proofs.QuestionLaws.{counts-6, counts-7}
 use Rattle.reader.proofs.SetLaws.{ahead-fits}
 use Rattle.reader.proofs.questions.counts_fit.Statement.{statement}
 use Rattle.reader.proofs.questions.counts_fit.Tie as tie
@@ -52,7 +52,7 @@ returns-4 c =
     let a = b .before .before in
     counts-3 _ (sym (a .before .is-within .ensures) ∙ not-false _ (a .if1 .left)) (sym (b .before .is-within2 .ensures) ∙ not-false _ (b .if2 .left))
     (sym (k .before .is-filter .ensures) ∙ not-false _ (k .if3 .left))
-    (ap (λ m. within 1 m (a .before .before .args .s .levels)) (sym (c .before .before .most-levels .ensures)) ∙ sym (c .before .is-within3 .ensures) ∙ not-true _ (c .if4 .taken))
+    (levels-asked _ _ _ _ _ (c .before .before .most-levels .ensures) (c .before .is-within3 .ensures) (not-true _ (c .if4 .taken)))
 
 returns-5 : tie.Need-returns-5
 unfolding maxWidth maxHeight maxOrigin
@@ -63,7 +63,7 @@ returns-5 c =
     let a = b .before .before in
     counts-x _ (sym (a .before .is-within .ensures) ∙ not-false _ (a .if1 .left)) (sym (b .before .is-within2 .ensures) ∙ not-false _ (b .if2 .left))
     (sym (k .before .is-filter .ensures) ∙ not-false _ (k .if3 .left))
-    (ap (λ m. within 1 m (a .before .before .args .s .levels)) (sym (d .before .before .most-levels .ensures)) ∙ sym (d .before .is-within3 .ensures) ∙ not-false _ (d .if4 .left))
+    (levels-asked _ _ _ _ _ (d .before .before .most-levels .ensures) (d .before .is-within3 .ensures) (not-false _ (d .if4 .left)))
     (c .if5 .taken)
 
 returns-6 : tie.Need-returns-6
@@ -76,7 +76,7 @@ returns-6 c =
     let a = b .before .before in
     counts-y _ (sym (a .before .is-within .ensures) ∙ not-false _ (a .if1 .left)) (sym (b .before .is-within2 .ensures) ∙ not-false _ (b .if2 .left))
     (sym (k .before .is-filter .ensures) ∙ not-false _ (k .if3 .left))
-    (ap (λ m. within 1 m (a .before .before .args .s .levels)) (sym (d .before .before .most-levels .ensures)) ∙ sym (d .before .is-within3 .ensures) ∙ not-false _ (d .if4 .left))
+    (levels-asked _ _ _ _ _ (d .before .before .most-levels .ensures) (d .before .is-within3 .ensures) (not-false _ (d .if4 .left)))
     (omega arith) (c .if6 .taken)
 
 returns-7 : tie.Need-returns-7
@@ -90,7 +90,7 @@ returns-7 c =
     let a = b .before .before in
     counts-4 _ (sym (a .before .is-within .ensures) ∙ not-false _ (a .if1 .left)) (sym (b .before .is-within2 .ensures) ∙ not-false _ (b .if2 .left))
     (sym (k .before .is-filter .ensures) ∙ not-false _ (k .if3 .left))
-    (ap (λ m. within 1 m (a .before .before .args .s .levels)) (sym (d .before .before .most-levels .ensures)) ∙ sym (d .before .is-within3 .ensures) ∙ not-false _ (d .if4 .left))
+    (levels-asked _ _ _ _ _ (d .before .before .most-levels .ensures) (d .before .is-within3 .ensures) (not-false _ (d .if4 .left)))
     (omega arith) (omega arith) (c .if7 .taken)
 
 returns-8 : tie.Need-returns-8
@@ -105,7 +105,7 @@ returns-8 c =
     let a = b .before .before in
     counts-5 _ (sym (a .before .is-within .ensures) ∙ not-false _ (a .if1 .left)) (sym (b .before .is-within2 .ensures) ∙ not-false _ (b .if2 .left))
     (sym (k .before .is-filter .ensures) ∙ not-false _ (k .if3 .left))
-    (ap (λ m. within 1 m (a .before .before .args .s .levels)) (sym (d .before .before .most-levels .ensures)) ∙ sym (d .before .is-within3 .ensures) ∙ not-false _ (d .if4 .left))
+    (levels-asked _ _ _ _ _ (d .before .before .most-levels .ensures) (d .before .is-within3 .ensures) (not-false _ (d .if4 .left)))
     (omega arith) (omega arith) (omega arith) (c .if8 .taken)
 
 returns-9 : tie.Need-returns-9
@@ -121,7 +121,7 @@ returns-9 c =
     let a = b .before .before in
     counts-6 _ (sym (a .before .is-within .ensures) ∙ not-false _ (a .if1 .left)) (sym (b .before .is-within2 .ensures) ∙ not-false _ (b .if2 .left))
     (sym (k .before .is-filter .ensures) ∙ not-false _ (k .if3 .left))
-    (ap (λ m. within 1 m (a .before .before .args .s .levels)) (sym (d .before .before .most-levels .ensures)) ∙ sym (d .before .is-within3 .ensures) ∙ not-false _ (d .if4 .left))
+    (levels-asked _ _ _ _ _ (d .before .before .most-levels .ensures) (d .before .is-within3 .ensures) (not-false _ (d .if4 .left)))
     (omega arith) (omega arith) (omega arith) (omega arith) (c .if9 .taken)
 
 look-ahead-requires : tie.Need-look-ahead-requires
@@ -148,7 +148,7 @@ returns-10 c =
     ap (λ n. leb (a .before .before .args .s .back) (2 * n - 1)) (c .before .look-ahead .ensures)
     ∙ counts-7 _ (sym (a .before .is-within .ensures) ∙ not-false _ (a .if1 .left)) (sym (b .before .is-within2 .ensures) ∙ not-false _ (b .if2 .left))
     (sym (k .before .is-filter .ensures) ∙ not-false _ (k .if3 .left))
-    (ap (λ m. within 1 m (a .before .before .args .s .levels)) (sym (d .before .before .most-levels .ensures)) ∙ sym (d .before .is-within3 .ensures) ∙ not-false _ (d .if4 .left))
+    (levels-asked _ _ _ _ _ (d .before .before .most-levels .ensures) (d .before .is-within3 .ensures) (not-false _ (d .if4 .left)))
     (omega arith) (omega arith) (omega arith) (omega arith) (omega arith)
 
 pub counts-fit-spec : {M : Type 1} → statement M

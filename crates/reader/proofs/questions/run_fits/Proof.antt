@@ -5,8 +5,9 @@ use mir.Syntax.{w32}
 use mir.ValLaws.{toZ-ofZ}
 use borrow.Author.Needs.{sfits-of}
 use Rattle.numbers.proofs.Words.{read-back}
-use Rattle.level.proofs.AdmitLaws.{neg-fits}
-use Rattle.reader.proofs.RangeLaws.{run-is, same-range}
+use Rattle.nine_seven.specs.Filters.{filterOf}
+use Rattle.level.proofs.AdmitLaws.{neg-fits, same-range}
+use Rattle.reader.proofs.RangeLaws.{run-is}
 use Rattle.reader.proofs.questions.run_fits.Statement.{statement}
 use Rattle.reader.proofs.questions.run_fits.Tie as tie
 
@@ -23,8 +24,9 @@ returns : tie.Need-returns
 returns c =
     let most = c .before in
     let start = most .before in
-    let is = read-back (most .range-of .result) (most .range-of .ok) ∙ most .range-of .ensures ∙ same-range (start .args .filter) (start .args .level) (start .pre) in
-    c .all-between .ensures ∙ run-is (start .args .filter) (start .args .level) _ _ _ _ (toZ-ofZ w32 _ (sub-all-between most) ∙ ap (λ (z : ℤ). pos 0 -ℤ z) is) is
+    let a = start .args in
+    let is = read-back (most .range-of .result) (most .range-of .ok) ∙ most .range-of .ensures ∙ same-range (filterOf (a .filter)) _ (a .level) (start .pre) in
+    c .all-between .ensures ∙ run-is (a .filter) (a .level) _ _ _ _ (toZ-ofZ w32 _ (sub-all-between most) ∙ ap (λ (z : ℤ). pos 0 -ℤ z) is) is
 
 pub run-fits-spec : {M : Type 1} → statement M
 run-fits-spec = tie.close (tie.spec range-of-requires sub-all-between all-between-requires returns)

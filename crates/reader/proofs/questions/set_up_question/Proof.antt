@@ -1,10 +1,9 @@
 -- `reader::questions::set_up_question` meets its contract: the definition's tests, in its order. Assumes nothing.
-use mathlib.Core.Path.{_∙_, sym, ap}
+use mathlib.Core.Path.{_∙_, sym}
 use native.Mathlib.Omega.{arith}
 use borrow.Author.Tests.{not-true, not-false}
 use Rattle.wavelet.specs.Limits.{maxWidth, maxHeight}
-use Rattle.wavelet.specs.Questions.{within}
-use Rattle.reader.proofs.QuestionLaws.{up-2, up-3, up-18, up-4, up-5, up-0}
+use Rattle.reader.proofs.QuestionLaws.{up-2, up-3, up-18, up-4, up-5, up-0, levels-asked}
 use Rattle.reader.proofs.questions.set_up_question.Statement.{statement}
 use Rattle.reader.proofs.questions.set_up_question.Tie as tie
 
@@ -49,7 +48,7 @@ returns-4 c =
     let a = b .before .before in
     up-4 _ _ _ _ _ (sym (a .before .is-within .ensures) ∙ not-false _ (a .if1 .left)) (sym (b .before .is-within2 .ensures) ∙ not-false _ (b .if2 .left))
     (sym (k .before .is-filter .ensures) ∙ not-false _ (k .if3 .left))
-    (ap (λ m. within 1 m (a .before .before .args .levels)) (sym (c .before .before .most-levels .ensures)) ∙ sym (c .before .is-within3 .ensures) ∙ not-true _ (c .if4 .taken))
+    (levels-asked _ _ _ _ _ (c .before .before .most-levels .ensures) (c .before .is-within3 .ensures) (not-true _ (c .if4 .taken)))
 
 store-length-requires : tie.Need-store-length-requires
 store-length-requires c κs = tt
@@ -63,7 +62,7 @@ returns-5 c =
     let a = b .before .before in
     up-5 _ _ _ _ _ (sym (a .before .is-within .ensures) ∙ not-false _ (a .if1 .left)) (sym (b .before .is-within2 .ensures) ∙ not-false _ (b .if2 .left))
     (sym (k .before .is-filter .ensures) ∙ not-false _ (k .if3 .left))
-    (ap (λ m. within 1 m (a .before .before .args .levels)) (sym (d .before .before .most-levels .ensures)) ∙ sym (d .before .is-within3 .ensures) ∙ not-false _ (d .if4 .left))
+    (levels-asked _ _ _ _ _ (d .before .before .most-levels .ensures) (d .before .is-within3 .ensures) (not-false _ (d .if4 .left)))
     (c .before .store-length .result) (c .before .store-length .ensures) (omega arith)
 
 returns-6 : tie.Need-returns-6
@@ -75,7 +74,7 @@ returns-6 c =
     let a = b .before .before in
     up-0 _ _ _ _ _ (sym (a .before .is-within .ensures) ∙ not-false _ (a .if1 .left)) (sym (b .before .is-within2 .ensures) ∙ not-false _ (b .if2 .left))
     (sym (k .before .is-filter .ensures) ∙ not-false _ (k .if3 .left))
-    (ap (λ m. within 1 m (a .before .before .args .levels)) (sym (d .before .before .most-levels .ensures)) ∙ sym (d .before .is-within3 .ensures) ∙ not-false _ (d .if4 .left))
+    (levels-asked _ _ _ _ _ (d .before .before .most-levels .ensures) (d .before .is-within3 .ensures) (not-false _ (d .if4 .left)))
     (c .before .store-length .result) (c .before .store-length .ensures) (omega arith)
 
 pub set-up-question-spec : {M : Type 1} → statement M

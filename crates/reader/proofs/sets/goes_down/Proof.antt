@@ -9,7 +9,9 @@ use Rattle.reader.proofs.sets.goes_down.Statement.{statement}
 use Rattle.reader.proofs.sets.goes_down.Tie as tie
 
 returns : tie.Need-returns
-returns c = let a = c .before .args in λ x. down-none _ (side x (a .w)) (side (a .y) (a .h)) (a .r) (none-of (side x (a .w)) (side (a .y) (a .h)) (c .if1 .taken))
+returns c =
+    let a = c .before .args in
+    λ x. down-none _ (side x (a .w)) (side (a .y) (a .h)) (a .r) (none-of (side x (a .w)) (side (a .y) (a .h)) (c .if1 .taken))
 
 set-of-requires : tie.Need-set-of-requires
 set-of-requires c κs = omega arith

@@ -1,5 +1,4 @@
 -- `reader::sets::row_below` meets its contract: the set's number, less where the low rows begin. Assumes nothing.
-use mathlib.Core.Path.{_∙_}
 use Rattle.wavelet.specs.Order.{firstSet}
 use Rattle.reader.proofs.sets.row_below.Statement.{statement}
 use Rattle.reader.proofs.sets.row_below.Tie as tie

@@ -39,12 +39,14 @@ put-row-requires c κs =
     let s = start .args .s in
     let near = spot-in _ _ (start .pre .1 .spot) (omega arith) in
     let counts = start .pre .0 in
-    let call = c .before .before .before .before in (
+    let call = c .before .before .before .before in
+    let k = start .args .n .spot .level - 1 + 1 in
+    let room = store-in (filterOf (s .filter) .rows) (columns s) k (s .levels) (omega (arith, near .0, counts .at)) in (
       counts-small s counts,
       omega (arith, near .0, counts .at, counts .few),
       start .pre .1 .at (start .pre .2),
       near .1,
-      omega (arith, store-in (filterOf (s .filter) .rows) (columns s) (start .args .n .spot .level - 1 + 1) (s .levels) (omega (arith, near .0, counts .at)), call .settle .kept .1 .0),
+      omega (arith, room, call .settle .kept .1 .0),
       start .pre .5 ∙ length-back s (start .args .n .spot) (start .pre .1 .spot),
     )
 

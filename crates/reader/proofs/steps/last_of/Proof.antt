@@ -1,6 +1,6 @@
 -- `reader::steps::last_of` meets its contract: row d, or the walk to the level. Assumes nothing.
 use mathlib.Core.Path.{_≡_, _∙_, ap, sym}
-use Prim.Native.Nat.{ℕ, suc, _-_}
+use Prim.Native.Nat.{suc, _-_}
 use native.Mathlib.Omega.{arith}
 use Rattle.reader.specs.Sets.{needed}
 use Rattle.reader.specs.State.{rows}

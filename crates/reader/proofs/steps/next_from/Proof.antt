@@ -1,7 +1,5 @@
 -- `reader::steps::next_from` meets its contract: the walk from the reader's level on. Assumes nothing.
-use mathlib.Core.Path.{_∙_}
 use native.Mathlib.Omega.{arith}
-use Rattle.reader.specs.State.{columns, rows}
 use Rattle.reader.proofs.QuestionLaws.{counts-small}
 use Rattle.reader.proofs.StepLaws.{next-at}
 use Rattle.reader.proofs.steps.next_from.Statement.{statement}

@@ -1,10 +1,9 @@
 -- `reader::steps::spot_past` meets its contract: where the next set begins, or the finer level that waits. Assumes nothing.
-use mathlib.Core.Path.{_≡_, _∙_, ap, sym}
-use Prim.Native.Nat.{ℕ, suc, _+_, _-_}
+use mathlib.Core.Path.{_∙_, ap, sym}
+use Prim.Native.Nat.{_+_, _-_}
 use native.Mathlib.Omega.{arith}
 use borrow.Author.Tests.{not-true, not-false}
 use Rattle.lifting.specs.Grid.{Side}
-use Rattle.wavelet.specs.Levels.{sideAt}
 use Rattle.reader.specs.Sets.{makes}
 use Rattle.reader.specs.State.{columns, rows}
 use Rattle.reader.proofs.PartLaws.{level-high}
@@ -49,7 +48,8 @@ returns c =
     is-spot _ _
     (spot-of _ _ (c .begin .ensures)
     ∙ begins-at (s .filter) (columns s) (rows s) (s .levels) (s .drawn) (n .spot .level) (n .at .set + 1) (n .at) (start .pre .2) at
-    ∙ past-begin (s .filter) (columns s) (rows s) (s .levels) (n .spot .level) (n .at .set) (n .spot .set) (start .pre .2) (start .pre .1 .set (start .pre .2)) none)
+    ∙ past-begin (s .filter) (columns s) (rows s) (s .levels) (n .spot .level) (n .at .set) (n .spot .set) (start .pre .2)
+    (start .pre .1 .set (start .pre .2)) none)
 
 first-row-requires : tie.Need-first-row-requires
 first-row-requires c κs = let start = c .before .before .before in start .pre .1 .at (start .pre .2) .set

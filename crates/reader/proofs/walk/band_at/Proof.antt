@@ -21,7 +21,8 @@ returns : tie.Need-returns
 returns c =
     let start = c .before in
     let a = start .args in
-    c .next-band .ensures ∙ band-is (a .filter) (side (a .x) (a .width)) (side (a .y) (a .height)) (a .levels) (a .drawn) (a .k) (a .band) (a .l) (start .pre .1)
+    c .next-band .ensures
+    ∙ band-is (a .filter) (side (a .x) (a .width)) (side (a .y) (a .height)) (a .levels) (a .drawn) (a .k) (a .band) (a .l) (start .pre .1)
 
 pub band-at-spec : {M : Type 1} → statement M
 band-at-spec = tie.close (tie.spec add-next-band next-band-requires returns)

@@ -1,6 +1,6 @@
 -- `reader::walk::finer` meets its contract: the level before, at the set that takes the first row that waits. Assumes nothing.
 use mathlib.Core.Path.{_∙_, ap}
-use Prim.Native.Nat.{ℕ, _+_, _-_, _%_, _≤_, _^_}
+use Prim.Native.Nat.{_+_, _-_, _%_, _≤_, _^_}
 use native.Mathlib.Omega.{arith}
 use Rattle.lifting.specs.Grid.{Side, side}
 use Rattle.reader.specs.Sets.{firstRow}
@@ -24,7 +24,8 @@ add-at-set c =
     let row = c .before in
     let start = row .before .before in
     let l = start .args .l in
-    omega (arith, row .first-row .ensures, row-in (start .args .filter) (side (l .y) (l .height)) (l .set), level-in _ _ _ _ _ l (start .pre .1) (omega arith) (omega arith) .2)
+    let there = row-in (start .args .filter) (side (l .y) (l .height)) (l .set) in
+    omega (arith, row .first-row .ensures, there, level-in _ _ _ _ _ l (start .pre .1) (omega arith) (omega arith) .2)
 
 at-set-requires : tie.Need-at-set-requires
 at-set-requires c κs = tt

@@ -23,7 +23,8 @@ Inv-loop filter x width y height levels drawn store₀ from to k₀ m₀ store k
     Small (side x width) (side y height) drawn × (levels ≤ filterOf filter .levels) × (k ≤ levels) × (storeBy filter (side x width) levels ≤ length store₀)
     × (length store ≡ length store₀)
     × (0 < k → IsLevel filter (side x width) (side y height) drawn (k - 1) m)
-    × (settled filter (side x width) (side y height) levels to k (m .set) (at store) ≡ settled filter (side x width) (side y height) levels to from (m₀ .set) (at store₀))
+    × (settled filter (side x width) (side y height) levels to k (m .set) (at store)
+    ≡ settled filter (side x width) (side y height) levels to from (m₀ .set) (at store₀))
     × Kept (storeBy filter (side x width) levels) (at store₀) (at store)
 
 abbrev μ-loop : tie.MeasureT-loop
@@ -50,7 +51,8 @@ returns c =
     let call = c .before .before in
     let test = call .before .before in
     let l = test .before .loop in
-    let failed = told-no (call .work-at .result) (at (call .work-at .last .1 .1 .1 .1 .1 .1 .1 .0)) _ (call .work-at .ensures .0) (not-true _ (c .if1 .taken)) in (
+    let failed = told-no (call .work-at .result)
+    (at (call .work-at .last .1 .1 .1 .1 .1 .1 .1 .0)) _ (call .work-at .ensures .0) (not-true _ (c .if1 .taken)) in (
       settle-failed _ _ _ _ _ (l .k) (l .m .set) (at (l .store)) (test .loop-test .taken) failed ∙ l .inv .6,
       kept-both _ _ _ _ (l .inv .7) (call .work-at .ensures .1),
     )

@@ -90,10 +90,11 @@ returns-3 c =
     let can = workable-of (a .filter) (eqb (a .k + 1) (a .levels)) (a .k) (side (l .x) (l .width)) (side (l .y) (l .height)) (l .set)
     (length (midOf (l .start) n (a .store .now)))
     (omega arith) (here .1) (omega (arith, here .2)) (some .1) in-sets (omega (arith, room, long)) in (
-      work-is (a .filter) (side (a .x) (a .width)) (side (a .y) (a .height)) (a .levels) (a .drawn) (a .k) l (l .start) n (a .store .now) (call .work-set .last .0)
-          (eqb (call .work-set .result) 0) is (some .0) (some .1) in-sets refl (omega arith) back (did _ _ _ _ can (call .work-set .ensures .1 .0)),
-      part-kept (a .filter) (side (a .x) (a .width)) (side (a .y) (a .height)) (a .drawn) (a .k) (a .levels) l is n (a .store .now) (call .work-set .last .0) (omega arith)
-          (omega arith) back (call .work-set .ensures .1 .1 .0),
+      work-is (a .filter) (side (a .x) (a .width)) (side (a .y) (a .height)) (a .levels) (a .drawn) (a .k) l (l .start) n (a .store .now)
+          (call .work-set .last .0) (eqb (call .work-set .result) 0) is (some .0) (some .1) in-sets refl (omega arith) back
+          (did _ _ _ _ can (call .work-set .ensures .1 .0)),
+      part-kept (a .filter) (side (a .x) (a .width)) (side (a .y) (a .height)) (a .drawn) (a .k) (a .levels) l is n (a .store .now)
+          (call .work-set .last .0) (omega arith) (omega arith) back (call .work-set .ensures .1 .1 .0),
     )
 
 pub work-at-spec : {M : Type 1} → statement M

@@ -11,8 +11,9 @@ use Rattle.lifting.specs.Line.{lo}
 use Rattle.lifting.specs.Grid.{side, count}
 use Rattle.lifting.proofs.GridLaws.{counts}
 use Rattle.wavelet.proofs.LimitLaws.{levels-small}
-use Rattle.whole_map.proofs.ByFilterLaws.{filter-laws, levels-few}
-use Rattle.whole_map.specs.ByFilter.{filterOf}
+use Rattle.nine_seven.proofs.Filters.{filter-laws}
+use Rattle.filters.proofs.FigureLaws.{levels-most}
+use Rattle.nine_seven.specs.Filters.{filterOf}
 use Rattle.whole_map.proofs.GridSweep.{rows-kept}
 use Rattle.whole_map.proofs.LevelCalls.{put-area, put-same, put-again}
 use Rattle.whole_map.proofs.TestLaws.{goes-as, goes-yes}
@@ -394,7 +395,7 @@ back-levels-add-back-levels : (t : ℕ) → back-levels-lts.Need-add-back-levels
   weave-low-reads.Learnt,
 ) (back-levels-at t) back-levels.Post
 back-levels-add-back-levels t c =
-    omega (arith, levels-small, levels-few (c .before .before .before .before .before .before .before .args .filter))
+    omega (arith, levels-small, levels-most (c .before .before .before .before .before .before .before .args .filter))
 
 back-levels-back-levels-requires : (t : ℕ) → back-levels-lts.Need-back-levels-requires (
   low-count-reads.Asked,
@@ -712,7 +713,7 @@ back-levels-add-weave-low : (t : ℕ) → back-levels-lts.Need-add-weave-low (
 ) (back-levels-at t) back-levels.Post
 back-levels-add-weave-low t c =
     let start = c .before .before .before .before .before .before .before .before .before .before .before in
-    omega (arith, levels-small, levels-few (start .args .filter))
+    omega (arith, levels-small, levels-most (start .args .filter))
 
 back-levels-weave-low-requires : (t : ℕ) → back-levels-lts.Need-weave-low-requires (
   low-count-reads.Asked,

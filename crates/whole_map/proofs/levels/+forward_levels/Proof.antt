@@ -4,8 +4,8 @@ use native.Mathlib.Omega.{arith}
 use borrow.Author.Needs.{needs}
 use borrow.Author.Tests.{not-true, not-false}
 use Rattle.lifting.specs.Grid.{side}
-use Rattle.whole_map.specs.ByFilter.{filterOf}
-use Rattle.whole_map.proofs.ByFilterLaws.{filter-laws}
+use Rattle.nine_seven.specs.Filters.{filterOf}
+use Rattle.nine_seven.proofs.Filters.{filter-laws}
 use Rattle.whole_map.proofs.LevelSteps.{next-side, rows-corner}
 use Rattle.whole_map.proofs.ForwardSteps.{goes-on, own-rows, forward-end, forward-step}
 use Prim.Native.Nat.{ℕ, _<_}

@@ -5,8 +5,9 @@ use borrow.Author.Tests.{not-true, not-false}
 use Rattle.lifting.specs.Grid.{side}
 use Rattle.lifting.proofs.GridLaws.{counts}
 use Rattle.wavelet.proofs.LimitLaws.{levels-small}
-use Rattle.whole_map.proofs.ByFilterLaws.{filter-laws, levels-few}
-use Rattle.whole_map.specs.ByFilter.{filterOf}
+use Rattle.nine_seven.proofs.Filters.{filter-laws}
+use Rattle.filters.proofs.FigureLaws.{levels-most}
+use Rattle.nine_seven.specs.Filters.{filterOf}
 use Rattle.whole_map.proofs.CellLaws.{fewer-rows}
 use Rattle.whole_map.proofs.TestLaws.{goes-as, goes-yes}
 use Rattle.whole_map.proofs.LevelSteps.{next-side, rows-corner, range-end, range-first, range-second, range-third}
@@ -169,7 +170,7 @@ in-range-add-in-range : (t : ℕ) → in-range-lts.Need-add-in-range (
   in-range-below t,
   in-range.Post,
 ) (in-range-at t) in-range.Post
-in-range-add-in-range t c = omega (arith, levels-small, levels-few (c .before .before .before .before .before .before .args .filter))
+in-range-add-in-range t c = omega (arith, levels-small, levels-most (c .before .before .before .before .before .before .args .filter))
 
 in-range-in-range-requires : (t : ℕ) → in-range-lts.Need-in-range-requires (
   low-count-reads.Asked,

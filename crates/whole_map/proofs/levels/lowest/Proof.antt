@@ -8,8 +8,8 @@ use mir.ValLaws.{toZ-ofZ}
 use Rattle.numbers.proofs.Words.{read-back}
 use Rattle.wavelet.specs.Limits.{range}
 use Rattle.wavelet.proofs.Bridge.{range-small}
-use Rattle.whole_map.specs.ByFilter.{filterOf}
-use Rattle.whole_map.proofs.ByFilterLaws.{filter-laws}
+use Rattle.nine_seven.specs.Filters.{filterOf}
+use Rattle.nine_seven.proofs.Filters.{filter-laws}
 use Rattle.whole_map.proofs.LevelSteps.{neg-fits, neg-is}
 use Rattle.whole_map.proofs.levels.lowest.Statement.{statement}
 use Rattle.whole_map.proofs.levels.lowest.Tie as tie

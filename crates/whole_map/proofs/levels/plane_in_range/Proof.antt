@@ -3,8 +3,8 @@ use mathlib.Core.Path.{sym, _∙_}
 use native.Mathlib.Omega.{arith}
 use borrow.Author.Needs.{needs}
 use Rattle.lifting.specs.Grid.{side}
-use Rattle.whole_map.proofs.ByFilterLaws.{filter-laws}
-use Rattle.whole_map.specs.ByFilter.{filterOf}
+use Rattle.nine_seven.proofs.Filters.{filter-laws}
+use Rattle.nine_seven.specs.Filters.{filterOf}
 use Rattle.whole_map.proofs.TestLaws.{region-least}
 use Rattle.whole_map.proofs.CallLaws.{map-rows, one-row}
 use Rattle.whole_map.proofs.levels.plane_in_range.Statement.{statement}

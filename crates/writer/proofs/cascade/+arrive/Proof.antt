@@ -10,13 +10,13 @@ use borrow.Fn.PlainCycle.{Measures, is, falls, and}
 use Rattle.numbers.specs.Signal.{at}
 use Rattle.lifting.specs.Grid.{Side, side}
 use Rattle.wavelet.specs.Levels.{next}
-use Rattle.wavelet.specs.Store.{storeLength}
 use Rattle.wavelet.proofs.SideLaws.{count-lo, next-length}
 use Rattle.wavelet.proofs.StoreLaws.{store-back}
-use Rattle.level.proofs.SetLaws.{made-done, delivered-done}
+use Rattle.nine_seven.specs.Filters.{filterOf}
 use Rattle.level.proofs.RestLaws.{at-rest, at-join}
-use Rattle.level.specs.Level.{ahead}
-use Rattle.level.specs.FiveThreeLevel.{fiveThree}
+use Rattle.filters.proofs.FigureLaws.{row-few}
+use Rattle.filters.proofs.ForwardLaws.{level-done, next-done}
+use Rattle.filters.specs.Figures.{storeBy}
 use Rattle.writer.specs.Counts.{skip}
 use Rattle.writer.proofs.CountLaws.{completes-set, next-is, start-is}
 use Rattle.writer.proofs.CascadeLaws.{left-still, left-small, goes, arrive-still, sets-off, came-waits, came-last, came-goes}
@@ -25,9 +25,9 @@ use Rattle.writer.proofs.cascade.arrive.Kinds as arrive-kinds
 use Rattle.writer.proofs.cascade.+arrive.Lts-arrive as arrive-lts
 use Rattle.wavelet.proofs.sizes.low_count.Reads as low-count-reads
 use Rattle.wavelet.proofs.sizes.next_start.Reads as next-start-reads
-use Rattle.level.proofs.making.ahead.Reads as ahead-reads
-use Rattle.level.proofs.making.deliver.Reads as deliver-reads
-use Rattle.level.proofs.making.make.Reads as make-reads
+use Rattle.filters.proofs.figures.look_ahead.Reads as look-ahead-reads
+use Rattle.filters.proofs.forward.deliver.Reads as deliver-reads
+use Rattle.filters.proofs.forward.make.Reads as make-reads
 use Rattle.writer.proofs.cascade.nothing.Reads as nothing-reads
 use Rattle.writer.proofs.counts.deeper.Reads as deeper-reads
 use Rattle.writer.proofs.counts.further.Reads as further-reads
@@ -40,7 +40,7 @@ use Rattle.writer.proofs.cascade.+arrive.{statement}
 use Rattle.writer.proofs.cascade.+arrive.Tie.{close}
 
 abbrev μ-arrive : Measures 1 arrive-kinds.ps ℕ
-μ-arrive κs a = a .1 .0
+μ-arrive κs a = a .1 .1 .0
 
 abbrev arrive-at : ℕ → In 1 arrive-kinds.ps
 arrive-at t = and 1 arrive-kinds.ps (is 1 arrive-kinds.ps μ-arrive t) arrive.Pre
@@ -55,8 +55,8 @@ claims t = (
   sets-off-reads.Learnt,
   nothing-reads.Asked,
   nothing-reads.Learnt,
-  ahead-reads.Asked,
-  ahead-reads.Learnt,
+  look-ahead-reads.Asked,
+  look-ahead-reads.Learnt,
   make-reads.Asked,
   make-reads.Learnt,
   most-reads.Asked,
@@ -91,21 +91,21 @@ arrive-returns : (t : ℕ) → arrive-lts.Need-returns (claims t) (arrive-at t) 
 arrive-returns t c =
     let off = c .before .before in
     let a = off .before .args in
-    left-still (a .l) (side (a .x) (a .w)) _ _ _ (c .nothing .ensures)
-    (arrive-still (a .l) (side (a .x) (a .w)) (a .y) (a .m) _ (sym (off .sets-off .ensures) ∙ not-true _ (c .before .if1 .taken)))
+    left-still (a .filter) (a .l) (side (a .x) (a .w)) _ _ _ (c .nothing .ensures)
+    (arrive-still (a .filter) (a .l) (side (a .x) (a .w)) (a .y) (a .m) _ (sym (off .sets-off .ensures) ∙ not-true _ (c .before .if1 .taken)))
 
 arrive-add-n : (t : ℕ) → arrive-lts.Need-add-n (claims t) (arrive-at t) arrive.Post
 arrive-add-n t c = omega arith
 
-arrive-ahead-requires : (t : ℕ) → arrive-lts.Need-ahead-requires (claims t) (arrive-at t) arrive.Post
-arrive-ahead-requires t c κs = tt
+arrive-look-ahead-requires : (t : ℕ) → arrive-lts.Need-look-ahead-requires (claims t) (arrive-at t) arrive.Post
+arrive-look-ahead-requires t c κs = tt
 
 arrive-sub-n : (t : ℕ) → arrive-lts.Need-sub-n (claims t) (arrive-at t) arrive.Post
 arrive-sub-n t c =
     let sure = c .before in
     let a = sure .before .before .args in
-    let off = sets-off (a .l) (a .y) (a .m) _ (sure .before .sets-off .ensures) (sure .if1 .left) in
-    omega (arith, c .ahead .ensures, completes-set (ahead fiveThree) (a .y) (a .m) (off .1))
+    let off = sets-off (a .filter) (a .l) (a .y) (a .m) _ (sure .before .sets-off .ensures) (sure .if1 .left) in
+    omega (arith, c .look-ahead .ensures, completes-set (filterOf (a .filter) .ahead) (a .y) (a .m) (off .1))
 
 arrive-make-requires : (t : ℕ) → arrive-lts.Need-make-requires (claims t) (arrive-at t) arrive.Post
 arrive-make-requires t c κs = tt
@@ -117,7 +117,7 @@ arrive-sub-most : (t : ℕ) → arrive-lts.Need-sub-most (claims t) (arrive-at t
 arrive-sub-most t c =
     let sure = c .before .before .before .before in
     let a = sure .before .before .args in
-    omega (arith, sets-off (a .l) (a .y) (a .m) _ (sure .before .sets-off .ensures) (sure .if1 .left) .0)
+    omega (arith, sets-off (a .filter) (a .l) (a .y) (a .m) _ (sure .before .sets-off .ensures) (sure .if1 .left) .0)
 
 arrive-most-requires : (t : ℕ) → arrive-lts.Need-most-requires (claims t) (arrive-at t) arrive.Post
 arrive-most-requires t c κs = tt
@@ -136,19 +136,19 @@ arrive-returns-2 t c =
     let sure = ah .before in
     let start = sure .before .before in
     let a = start .args in
-    let n = (a .y % 2 + a .m) / 2 - ah .ahead .result in
-    let off = sets-off (a .l) (a .y) (a .m) _ (sure .before .sets-off .ensures) (sure .if1 .left) in
-    let room = store-back (side (a .x) (a .w)) (a .l) (off .0) in
-    came-waits (a .l) (side (a .x) (a .w)) (a .y) (a .m) n _ _ _ _ (sure .before .sets-off .ensures) (sure .if1 .left)
-    (ap (λ (i : ℕ). (a .y % 2 + a .m) / 2 - i) (ah .ahead .ensures))
-    (made-done (length (a .store .now)) (a .w) (a .x) (a .y) n _ _ (omega (arith, start .pre)) (made .make .ensures .1))
+    let n = (a .y % 2 + a .m) / 2 - ah .look-ahead .result in
+    let off = sets-off (a .filter) (a .l) (a .y) (a .m) _ (sure .before .sets-off .ensures) (sure .if1 .left) in
+    let room = store-back (filterOf (a .filter) .rows) (side (a .x) (a .w)) (a .l) (off .0) in
+    came-waits (a .filter) (a .l) (side (a .x) (a .w)) (a .y) (a .m) n _ _ _ _ (sure .before .sets-off .ensures) (sure .if1 .left)
+    (ap (λ (i : ℕ). (a .y % 2 + a .m) / 2 - i) (ah .look-ahead .ensures))
+    (level-done (a .filter) (length (a .store .now)) (side (a .x) (a .w)) _ _ _ (omega (arith, start .pre)) (made .make .ensures .1))
     (band .next-band .ensures ∙ ap (skip (side (a .x) (a .w)) (side (a .y) (a .m + 1)) n) (band .before .most .ensures)) (omega arith)
 
 arrive-sub-goes-on : (t : ℕ) → arrive-lts.Need-sub-goes-on (claims t) (arrive-at t) arrive.Post
 arrive-sub-goes-on t c =
     let sure = c .before .before .before .before .before .before .before in
     let a = sure .before .before .args in
-    omega (arith, sets-off (a .l) (a .y) (a .m) _ (sure .before .sets-off .ensures) (sure .if1 .left) .0)
+    omega (arith, sets-off (a .filter) (a .l) (a .y) (a .m) _ (sure .before .sets-off .ensures) (sure .if1 .left) .0)
 
 arrive-goes-on-requires : (t : ℕ) → arrive-lts.Need-goes-on-requires (claims t) (arrive-at t) arrive.Post
 arrive-goes-on-requires t c κs = tt
@@ -168,12 +168,12 @@ arrive-returns-3 t c =
     let sure = ah .before in
     let start = sure .before .before in
     let a = start .args in
-    let n = (a .y % 2 + a .m) / 2 - ah .ahead .result in
-    let off = sets-off (a .l) (a .y) (a .m) _ (sure .before .sets-off .ensures) (sure .if1 .left) in
-    let room = store-back (side (a .x) (a .w)) (a .l) (off .0) in
-    came-last (a .l) (side (a .x) (a .w)) (a .y) (a .m) n _ _ _ _ (sure .before .sets-off .ensures) (sure .if1 .left)
-    (ap (λ (i : ℕ). (a .y % 2 + a .m) / 2 - i) (ah .ahead .ensures))
-    (made-done (length (a .store .now)) (a .w) (a .x) (a .y) n _ _ (omega (arith, start .pre)) (made .make .ensures .1))
+    let n = (a .y % 2 + a .m) / 2 - ah .look-ahead .result in
+    let off = sets-off (a .filter) (a .l) (a .y) (a .m) _ (sure .before .sets-off .ensures) (sure .if1 .left) in
+    let room = store-back (filterOf (a .filter) .rows) (side (a .x) (a .w)) (a .l) (off .0) in
+    came-last (a .filter) (a .l) (side (a .x) (a .w)) (a .y) (a .m) n _ _ _ _ (sure .before .sets-off .ensures) (sure .if1 .left)
+    (ap (λ (i : ℕ). (a .y % 2 + a .m) / 2 - i) (ah .look-ahead .ensures))
+    (level-done (a .filter) (length (a .store .now)) (side (a .x) (a .w)) _ _ _ (omega (arith, start .pre)) (made .make .ensures .1))
     (band .next-band .ensures ∙ ap (skip (side (a .x) (a .w)) (side (a .y) (a .m + 1)) n) (band .before .most .ensures))
     (omega arith) _ (on .goes-on .ensures) (c .before .if3 .taken) _ (c .nothing2 .ensures)
 
@@ -181,7 +181,7 @@ arrive-sub-k : (t : ℕ) → arrive-lts.Need-sub-k (claims t) (arrive-at t) arri
 arrive-sub-k t c =
     let ah = c .before .before .before .before .before .before .before .before in
     let a = ah .before .before .before .args in
-    omega (arith, goes (a .l - 1) (a .y) ((a .y % 2 + a .m) / 2 - ah .ahead .result) _ (c .before .goes-on .ensures) (c .if3 .left))
+    omega (arith, goes (a .l - 1) (a .y) ((a .y % 2 + a .m) / 2 - ah .look-ahead .result) _ (c .before .goes-on .ensures) (c .if3 .left))
 
 arrive-next-start-requires : (t : ℕ) → arrive-lts.Need-next-start-requires (claims t) (arrive-at t) arrive.Post
 arrive-next-start-requires t c κs = tt
@@ -196,23 +196,27 @@ arrive-stretch-requires : (t : ℕ) → arrive-lts.Need-stretch-requires (claims
 arrive-stretch-requires t c κs = omega arith
 
 arrive-mul-arrive : (t : ℕ) → arrive-lts.Need-mul-arrive (claims t) (arrive-at t) arrive.Post
-arrive-mul-arrive t c = omega arith
+arrive-mul-arrive t c =
+    let start = c .before .before .before .before .before .before .before .before .before .before .before .before .before .before .before .before in
+    let a = start .args in
+    let e : c .stretch .result ≡ filterOf (a .filter) .rows * a .w = c .stretch .ensures in
+    omega (arith, e, start .pre, row-few (a .filter) (a .w))
 
 arrive-sub-arrive : (t : ℕ) → arrive-lts.Need-sub-arrive (claims t) (arrive-at t) arrive.Post
 arrive-sub-arrive t c =
     let a = c .before .before .before .before .before .before .before .before .before .before .before .before .before .before .before .before .args in
     let sure = c .before .before .before .before .before .before .before .before .before .before .before .before .before .before in
-    let off = sets-off (a .l) (a .y) (a .m) _ (sure .before .sets-off .ensures) (sure .if1 .left) in
-    let e : c .stretch .result ≡ 4 * a .w = c .stretch .ensures in
-    omega (arith, e, store-back (side (a .x) (a .w)) (a .l) (off .0))
+    let off = sets-off (a .filter) (a .l) (a .y) (a .m) _ (sure .before .sets-off .ensures) (sure .if1 .left) in
+    let e : c .stretch .result ≡ filterOf (a .filter) .rows * a .w = c .stretch .ensures in
+    omega (arith, e, store-back (filterOf (a .filter) .rows) (side (a .x) (a .w)) (a .l) (off .0))
 
 arrive-part-arrive-start : (t : ℕ) → arrive-lts.Need-part-arrive-start (claims t) (arrive-at t) arrive.Post
 arrive-part-arrive-start t c =
     let a = c .before .before .before .before .before .before .before .before .before .before .before .before .before .before .before .before .args in
     let sure = c .before .before .before .before .before .before .before .before .before .before .before .before .before .before in
-    let off = sets-off (a .l) (a .y) (a .m) _ (sure .before .sets-off .ensures) (sure .if1 .left) in
-    let e : c .stretch .result ≡ 4 * a .w = c .stretch .ensures in
-    omega (arith, e, store-back (side (a .x) (a .w)) (a .l) (off .0))
+    let off = sets-off (a .filter) (a .l) (a .y) (a .m) _ (sure .before .sets-off .ensures) (sure .if1 .left) in
+    let e : c .stretch .result ≡ filterOf (a .filter) .rows * a .w = c .stretch .ensures in
+    omega (arith, e, store-back (filterOf (a .filter) .rows) (side (a .x) (a .w)) (a .l) (off .0))
 
 arrive-part-arrive-end : (t : ℕ) → arrive-lts.Need-part-arrive-end (claims t) (arrive-at t) arrive.Post
 arrive-part-arrive-end t c = search needs
@@ -221,7 +225,7 @@ arrive-sub-arrive-2 : (t : ℕ) → arrive-lts.Need-sub-arrive-2 (claims t) (arr
 arrive-sub-arrive-2 t c =
     let sure = c .before .before .before .before .before .before .before .before .before .before .before .before .before .before .before in
     let a = sure .before .before .args in
-    omega (arith, sets-off (a .l) (a .y) (a .m) _ (sure .before .sets-off .ensures) (sure .if1 .left) .0)
+    omega (arith, sets-off (a .filter) (a .l) (a .y) (a .m) _ (sure .before .sets-off .ensures) (sure .if1 .left) .0)
 
 arrive-low-count-requires : (t : ℕ) → arrive-lts.Need-low-count-requires (claims t) (arrive-at t) arrive.Post
 arrive-low-count-requires t c κs = tt
@@ -235,8 +239,8 @@ arrive-arrive-requires t c κs =
     let start = st .before .before .before .before .before .before .before .before .before .before .before .before .before .before .before .before in
     let sure = st .before .before .before .before .before .before .before .before .before .before .before .before .before .before in
     let a = start .args in
-    let off = sets-off (a .l) (a .y) (a .m) _ (sure .before .sets-off .ensures) (sure .if1 .left) in
-    let e : st .stretch .result ≡ 4 * a .w = st .stretch .ensures in
+    let off = sets-off (a .filter) (a .l) (a .y) (a .m) _ (sure .before .sets-off .ensures) (sure .if1 .left) in
+    let e : st .stretch .result ≡ filterOf (a .filter) .rows * a .w = st .stretch .ensures in
     let v = next-is (a .x) (a .w) _ _ (c .next-start2 .ensures) (c .before .low-count .ensures) in
     omega (
       arith,
@@ -245,10 +249,10 @@ arrive-arrive-requires t c κs =
       st .before .before .deliver,
       st .before .before .before .before .before .before .before .before .before .before .before .make,
       e,
-      store-back (side (a .x) (a .w)) (a .l) (off .0),
+      store-back (filterOf (a .filter) .rows) (side (a .x) (a .w)) (a .l) (off .0),
       count-lo (side (a .x) (a .w)),
       c .before .low-count .ensures,
-      ap (λ (S : Side). storeLength S (a .l - 1)) v,
+      ap (λ (S : Side). storeBy (a .filter) S (a .l - 1)) v,
     )
 
 arrive-deeper-requires : (t : ℕ) → arrive-lts.Need-deeper-requires (claims t) (arrive-at t) arrive.Post
@@ -263,11 +267,12 @@ arrive-further-requires t c κs =
     let start = st .before .before .before .before .before .before .before .before .before .before .before .before .before .before .before .before in
     let a = start .args in
     let v = c .before .before .before .before .low-count in
-    let e : st .stretch .result ≡ 4 * a .w = st .stretch .ensures in
+    let e : st .stretch .result ≡ filterOf (a .filter) .rows * a .w = st .stretch .ensures in
     let b =
-    left-small (a .l - 1) (side _ (v .result)) _ _ _ (omega (arith, start .pre, v .ensures, count-lo (side (a .x) (a .w)))) (omega (arith, start .pre))
+    left-small (a .filter) (a .l - 1) (side _ (v .result)) _ _ _ (omega (arith, start .pre, v .ensures, count-lo (side (a .x) (a .w))))
+    (omega (arith, start .pre))
     (c .before .before .arrive .ensures) in
-    omega (arith, start .pre, e)
+    omega (arith, e, start .pre, row-few (a .filter) (a .w))
 
 arrive-same-length-3 : (t : ℕ) → arrive-lts.Need-same-length-3 (claims t) (arrive-at t) arrive.Post
 arrive-same-length-3 t c = search needs
@@ -286,27 +291,27 @@ arrive-returns-4 t c =
     let sure = ah .before in
     let start = sure .before .before in
     let a = start .args in
-    let l = sent .deliver .last .0 in
-    let n = (a .y % 2 + a .m) / 2 - ah .ahead .result in
-    let off = sets-off (a .l) (a .y) (a .m) _ (sure .before .sets-off .ensures) (sure .if1 .left) in
-    let room = store-back (side (a .x) (a .w)) (a .l) (off .0) in
+    let l = sent .deliver .last .1 .0 in
+    let n = (a .y % 2 + a .m) / 2 - ah .look-ahead .result in
+    let off = sets-off (a .filter) (a .l) (a .y) (a .m) _ (sure .before .sets-off .ensures) (sure .if1 .left) in
+    let room = store-back (filterOf (a .filter) .rows) (side (a .x) (a .w)) (a .l) (off .0) in
     let g = goes (a .l - 1) (a .y) n _ (on .before .goes-on .ensures) (on .if3 .left) in
-    let q = store-back (next (side (a .x) (a .w))) (a .l - 1) (g .0) in
+    let q = store-back (filterOf (a .filter) .rows) (next (side (a .x) (a .w))) (a .l - 1) (g .0) in
     let h = next-length (side (a .x) (a .w)) in
-    let j : st .stretch .result ≡ 4 * a .w = st .stretch .ensures in
-    came-goes (a .l) (side (a .x) (a .w)) (a .y) (a .m) n _ _ _ _ (sure .before .sets-off .ensures) (sure .if1 .left)
-    (ap (λ (i : ℕ). (a .y % 2 + a .m) / 2 - i) (ah .ahead .ensures))
-    (made-done (length (a .store .now)) (a .w) (a .x) (a .y) n _ _ (omega (arith, start .pre)) (made .make .ensures .1))
+    let j : st .stretch .result ≡ filterOf (a .filter) .rows * a .w = st .stretch .ensures in
+    came-goes (a .filter) (a .l) (side (a .x) (a .w)) (a .y) (a .m) n _ _ _ _ (sure .before .sets-off .ensures) (sure .if1 .left)
+    (ap (λ (i : ℕ). (a .y % 2 + a .m) / 2 - i) (ah .look-ahead .ensures))
+    (level-done (a .filter) (length (a .store .now)) (side (a .x) (a .w)) _ _ _ (omega (arith, start .pre)) (made .make .ensures .1))
     (band .next-band .ensures ∙ ap (skip (side (a .x) (a .w)) (side (a .y) (a .m + 1)) n) (band .before .most .ensures))
     (omega (arith, e .before)) _ (on .before .goes-on .ensures) (on .if3 .left)
-    _ _ _ _ _ _ _ _ (at l) (at (below .arrive .last .0)) _ _
+    _ _ _ _ _ _ _ _ (at l) (at (below .arrive .last .1 .0)) _ _
     (record {
       columns = next-is (a .x) (a .w) _ _ (below .before .next-start2 .ensures) (below .before .before .low-count .ensures);
       start = start-is (a .y) _ (first .next-start .ensures);
       row = refl;
     }) refl (st .stretch .ensures)
-    (delivered-done (length (made .make .last .0)) (side (a .x) (a .w)) n _ _ _ (omega (arith, start .pre, made .make)) (sent .deliver .ensures .1))
-    (rw (at-rest (st .stretch .result) l) at (below .arrive .ensures)) (at-join (st .stretch .result) l (below .arrive .last .0)
+    (next-done (a .filter) (length (made .make .last .1 .0)) (side (a .x) (a .w)) _ _ _ (omega (arith, start .pre, made .make)) (sent .deliver .ensures .1))
+    (rw (at-rest (st .stretch .result) l) at (below .arrive .ensures)) (at-join (st .stretch .result) l (below .arrive .last .1 .0)
     (omega (arith, e .before, j))) (e .deeper .ensures) (c .further .ensures)
 
 pub +arrive-spec : {M : Type 1} → statement M
@@ -321,7 +326,7 @@ pub +arrive-spec : {M : Type 1} → statement M
     (arrive-nothing-requires t)
     (arrive-returns t)
     (arrive-add-n t)
-    (arrive-ahead-requires t)
+    (arrive-look-ahead-requires t)
     (arrive-sub-n t)
     (arrive-make-requires t)
     (arrive-add-next-band t)

@@ -7,10 +7,12 @@ use borrow.Author.Tests.{not-true}
 use Rattle.numbers.specs.Signal.{at}
 use Rattle.lifting.specs.Grid.{Side, side}
 use Rattle.wavelet.specs.Levels.{next}
-use Rattle.wavelet.specs.Store.{storeLength}
 use Rattle.wavelet.proofs.SideLaws.{count-lo, next-length}
 use Rattle.wavelet.proofs.StoreLaws.{store-next, store-back}
-use Rattle.level.proofs.SetLaws.{delivered-done}
+use Rattle.nine_seven.specs.Filters.{filterOf}
+use Rattle.filters.specs.Figures.{storeBy}
+use Rattle.filters.proofs.FigureLaws.{row-few}
+use Rattle.filters.proofs.ForwardLaws.{next-done}
 use Rattle.level.proofs.RestLaws.{at-rest, at-join}
 use Rattle.writer.proofs.CountLaws.{next-is, start-is}
 use Rattle.writer.proofs.CascadeLaws.{left-still, left-small, goes, pass-none, passed-goes}
@@ -28,8 +30,8 @@ returns : tie.Need-returns
 returns c =
     let on = c .before .before in
     let a = on .before .args in
-    left-still (a .l + 1) (side (a .x) (a .w)) _ _ _ (c .nothing .ensures)
-    (pass-none (side (a .x) (a .w)) (a .y) (a .n) _ (a .l) (sym (on .goes-on .ensures) ∙ not-true _ (c .before .if1 .taken)))
+    left-still (a .filter) (a .l + 1) (side (a .x) (a .w)) _ _ _ (c .nothing .ensures)
+    (pass-none (a .filter) (side (a .x) (a .w)) (a .y) (a .n) _ (a .l) (sym (on .goes-on .ensures) ∙ not-true _ (c .before .if1 .taken)))
 
 sub-k : tie.Need-sub-k
 sub-k c = let a = c .before .before .args in omega (arith, goes (a .l) (a .y) (a .n) _ (c .before .goes-on .ensures) (c .if1 .left))
@@ -47,19 +49,23 @@ stretch-requires : tie.Need-stretch-requires
 stretch-requires c κs = omega arith
 
 mul-arrive : tie.Need-mul-arrive
-mul-arrive c = omega arith
+mul-arrive c =
+    let start = c .before .before .before .before .before .before .before in
+    let a = start .args in
+    let e : c .stretch .result ≡ filterOf (a .filter) .rows * a .w = c .stretch .ensures in
+    omega (arith, e, start .pre, row-few (a .filter) (a .w))
 
 sub-arrive : tie.Need-sub-arrive
 sub-arrive c =
     let a = c .before .before .before .before .before .before .before .args in
-    let e : c .stretch .result ≡ 4 * a .w = c .stretch .ensures in
-    omega (arith, e, store-next (side (a .x) (a .w)) (a .l))
+    let e : c .stretch .result ≡ filterOf (a .filter) .rows * a .w = c .stretch .ensures in
+    omega (arith, e, store-next (filterOf (a .filter) .rows) (side (a .x) (a .w)) (a .l))
 
 part-arrive-start : tie.Need-part-arrive-start
 part-arrive-start c =
     let a = c .before .before .before .before .before .before .before .args in
-    let e : c .stretch .result ≡ 4 * a .w = c .stretch .ensures in
-    omega (arith, e, store-next (side (a .x) (a .w)) (a .l))
+    let e : c .stretch .result ≡ filterOf (a .filter) .rows * a .w = c .stretch .ensures in
+    omega (arith, e, store-next (filterOf (a .filter) .rows) (side (a .x) (a .w)) (a .l))
 
 part-arrive-end : tie.Need-part-arrive-end
 part-arrive-end c = search needs
@@ -74,16 +80,16 @@ arrive-requires : tie.Need-arrive-requires
 arrive-requires c κs =
     let st = c .before .before .before in
     let a = st .before .before .before .before .before .before .before .args in
-    let e : st .stretch .result ≡ 4 * a .w = st .stretch .ensures in
+    let e : st .stretch .result ≡ filterOf (a .filter) .rows * a .w = st .stretch .ensures in
     let v = next-is (a .x) (a .w) _ _ (c .next-start2 .ensures) (c .before .low-count .ensures) in
     omega (
       arith,
       e,
-      store-next (side (a .x) (a .w)) (a .l),
+      store-next (filterOf (a .filter) .rows) (side (a .x) (a .w)) (a .l),
       count-lo (side (a .x) (a .w)),
       c .before .low-count .ensures,
       ap
-          (λ (S : Side). storeLength S (a .l)) v,
+          (λ (S : Side). storeBy (a .filter) S (a .l)) v,
     )
 
 deeper-requires : tie.Need-deeper-requires
@@ -95,12 +101,12 @@ further-requires c κs =
     let st = c .before .before .before .before .before .before in
     let start = st .before .before .before .before .before .before .before in
     let a = start .args in
-    let e : st .stretch .result ≡ 4 * a .w = st .stretch .ensures in
+    let e : st .stretch .result ≡ filterOf (a .filter) .rows * a .w = st .stretch .ensures in
     let v = c .before .before .before .before .low-count in
     let o =
-    left-small (a .l) (side _ (v .result)) _ _ _ (omega (arith, start .pre, v .ensures, count-lo (side (a .x) (a .w)))) (omega (arith, start .pre))
+    left-small (a .filter) (a .l) (side _ (v .result)) _ _ _ (omega (arith, start .pre, v .ensures, count-lo (side (a .x) (a .w)))) (omega (arith, start .pre))
     (c .before .before .arrive .ensures) in
-    omega (arith, start .pre, e)
+    omega (arith, e, start .pre, row-few (a .filter) (a .w))
 
 same-length : tie.Need-same-length
 same-length c = search needs
@@ -115,21 +121,21 @@ returns-2 c =
     let on = first .before in
     let start = on .before .before in
     let a = start .args in
-    let l = sent .deliver .last .0 in
+    let l = sent .deliver .last .1 .0 in
     let g = goes (a .l) (a .y) (a .n) _ (on .before .goes-on .ensures) (on .if1 .left) in
-    let s = store-next (side (a .x) (a .w)) (a .l) in
-    let q = store-back (next (side (a .x) (a .w))) (a .l) (g .0) in
+    let s = store-next (filterOf (a .filter) .rows) (side (a .x) (a .w)) (a .l) in
+    let q = store-back (filterOf (a .filter) .rows) (next (side (a .x) (a .w))) (a .l) (g .0) in
     let h = next-length (side (a .x) (a .w)) in
-    let j : st .stretch .result ≡ 4 * a .w = st .stretch .ensures in
-    passed-goes (a .l) (side (a .x) (a .w)) (a .y) (a .n) _ _ _ _ _ _ _ _ _ (at l) (at (below .arrive .last .0)) _ _ (g .0) (g .1)
+    let j : st .stretch .result ≡ filterOf (a .filter) .rows * a .w = st .stretch .ensures in
+    passed-goes (a .filter) (a .l) (side (a .x) (a .w)) (a .y) (a .n) _ _ _ _ _ _ _ _ _ (at l) (at (below .arrive .last .1 .0)) _ _ (g .0) (g .1)
     (record {
       columns = next-is (a .x) (a .w) _ _ (below .before .next-start2 .ensures) (below .before .before .low-count .ensures);
       start = start-is (a .y) _ (first .next-start .ensures);
       row = refl;
     }) refl (st .stretch .ensures)
-    (delivered-done (length (a .store .now)) (side (a .x) (a .w)) (a .n) _ _ _ (omega (arith, start .pre)) (sent .deliver .ensures .1))
+    (next-done (a .filter) (length (a .store .now)) (side (a .x) (a .w)) _ _ _ (omega (arith, start .pre)) (sent .deliver .ensures .1))
     (rw (at-rest (st .stretch .result) l) at (below .arrive .ensures))
-    (at-join (st .stretch .result) l (below .arrive .last .0) (omega (arith, start .pre, sent .deliver, j)))
+    (at-join (st .stretch .result) l (below .arrive .last .1 .0) (omega (arith, start .pre, sent .deliver, j)))
     (e .deeper .ensures) (c .further .ensures)
 
 pub pass-on-spec : {M : Type 1} → statement M

@@ -7,17 +7,18 @@ use borrow.Fn.Kinds.{In}
 use borrow.Fn.PlainCycle.{Measures, is, falls, and}
 use Rattle.numbers.specs.Signal.{at}
 use Rattle.lifting.specs.Grid.{Side, side}
-use Rattle.wavelet.specs.Store.{storeLength}
 use Rattle.wavelet.proofs.SideLaws.{count-lo}
 use Rattle.wavelet.proofs.StoreLaws.{store-back}
-use Rattle.level.specs.FiveThreeLevel.{fiveThree}
+use Rattle.nine_seven.specs.Filters.{filterOf}
+use Rattle.filters.specs.Figures.{storeBy}
+use Rattle.filters.proofs.FigureLaws.{steps-few, row-few}
 use Rattle.level.proofs.RestLaws.{at-rest, at-join}
-use Rattle.writer.proofs.CountLaws.{next-is, start-is}
+use Rattle.writer.proofs.CountLaws.{steps-more, next-is, start-is}
 use Rattle.writer.proofs.ClosingLaws.{closed-small, shut-none, shut-waits, shut-goes}
 use Rattle.writer.proofs.closing.shut.Reads as shut
 use Rattle.writer.proofs.closing.shut.Kinds as shut-kinds
 use Rattle.writer.proofs.closing.+shut.Lts-shut as shut-lts
-use Rattle.level.proofs.making.ahead.Reads as ahead-reads
+use Rattle.filters.proofs.figures.look_ahead.Reads as look-ahead-reads
 use Rattle.wavelet.proofs.sizes.low_count.Reads as low-count-reads
 use Rattle.wavelet.proofs.sizes.next_start.Reads as next-start-reads
 use Rattle.writer.proofs.closing.close_level.Reads as close-level-reads
@@ -30,7 +31,7 @@ use Rattle.writer.proofs.closing.+shut.{statement}
 use Rattle.writer.proofs.closing.+shut.Tie.{close}
 
 abbrev μ-shut : Measures 1 shut-kinds.ps ℕ
-μ-shut κs a = a .1 .0
+μ-shut κs a = a .1 .1 .0
 
 abbrev shut-at : ℕ → In 1 shut-kinds.ps
 shut-at t = and 1 shut-kinds.ps (is 1 shut-kinds.ps μ-shut t) shut.Pre
@@ -55,8 +56,8 @@ claims t = (
   closed-below-reads.Learnt,
   shut-below t,
   shut.Post,
-  ahead-reads.Asked,
-  ahead-reads.Learnt,
+  look-ahead-reads.Asked,
+  look-ahead-reads.Learnt,
   deeper-reads.Asked,
   deeper-reads.Learnt,
   further-reads.Asked,
@@ -69,7 +70,7 @@ shut-idle-requires t c κs = tt
 shut-returns : (t : ℕ) → shut-lts.Need-returns (claims t) (shut-at t) shut.Post
 shut-returns t c =
     let a = c .before .before .args in
-    shut-none (a .l) (side (a .x) (a .w)) (a .y) (a .c) (a .m) _ _ (c .idle .ensures) (omega arith) (omega arith)
+    shut-none (a .filter) (a .l) (side (a .x) (a .w)) (a .y) (a .c) (a .m) _ _ (c .idle .ensures) (omega arith) (omega arith)
 
 shut-sub-close-level : (t : ℕ) → shut-lts.Need-sub-close-level (claims t) (shut-at t) shut.Post
 shut-sub-close-level t c = omega arith
@@ -78,7 +79,7 @@ shut-close-level-requires : (t : ℕ) → shut-lts.Need-close-level-requires (cl
 shut-close-level-requires t c κs =
     let a = c .before .before .args in
     let k : a .l - 1 + 1 ≡ a .l = omega arith in
-    omega (arith, ap (storeLength (side (a .x) (a .w))) k)
+    omega (arith, ap (storeBy (a .filter) (side (a .x) (a .w))) k)
 
 shut-same-length : (t : ℕ) → shut-lts.Need-same-length (claims t) (shut-at t) shut.Post
 shut-same-length t c = search needs
@@ -86,25 +87,29 @@ shut-same-length t c = search needs
 shut-returns-2 : (t : ℕ) → shut-lts.Need-returns-2 (claims t) (shut-at t) shut.Post
 shut-returns-2 t c =
     let a = c .before .before .before .before .before .before .args in
-    shut-waits (a .l) (side (a .x) (a .w)) (a .y) (a .c) (a .m) _ _ _ (omega arith) (c .before .before .before .close-level .ensures) (omega arith)
+    shut-waits (a .filter) (a .l) (side (a .x) (a .w)) (a .y) (a .c) (a .m) _ _ _ (omega arith) (c .before .before .before .close-level .ensures) (omega arith)
 
 shut-stretch-requires : (t : ℕ) → shut-lts.Need-stretch-requires (claims t) (shut-at t) shut.Post
 shut-stretch-requires t c κs = omega arith
 
 shut-mul-shut : (t : ℕ) → shut-lts.Need-mul-shut (claims t) (shut-at t) shut.Post
-shut-mul-shut t c = omega arith
+shut-mul-shut t c =
+    let start = c .before .before .before .before .before .before .before in
+    let a = start .args in
+    let e : c .stretch .result ≡ filterOf (a .filter) .rows * a .w = c .stretch .ensures in
+    omega (arith, e, start .pre, row-few (a .filter) (a .w))
 
 shut-sub-shut : (t : ℕ) → shut-lts.Need-sub-shut (claims t) (shut-at t) shut.Post
 shut-sub-shut t c =
     let a = c .before .before .before .before .before .before .before .args in
-    let e : c .stretch .result ≡ 4 * a .w = c .stretch .ensures in
-    omega (arith, e, store-back (side (a .x) (a .w)) (a .l) (omega arith))
+    let e : c .stretch .result ≡ filterOf (a .filter) .rows * a .w = c .stretch .ensures in
+    omega (arith, e, store-back (filterOf (a .filter) .rows) (side (a .x) (a .w)) (a .l) (omega arith))
 
 shut-part-shut-start : (t : ℕ) → shut-lts.Need-part-shut-start (claims t) (shut-at t) shut.Post
 shut-part-shut-start t c =
     let a = c .before .before .before .before .before .before .before .args in
-    let e : c .stretch .result ≡ 4 * a .w = c .stretch .ensures in
-    omega (arith, e, store-back (side (a .x) (a .w)) (a .l) (omega arith))
+    let e : c .stretch .result ≡ filterOf (a .filter) .rows * a .w = c .stretch .ensures in
+    omega (arith, e, store-back (filterOf (a .filter) .rows) (side (a .x) (a .w)) (a .l) (omega arith))
 
 shut-part-shut-end : (t : ℕ) → shut-lts.Need-part-shut-end (claims t) (shut-at t) shut.Post
 shut-part-shut-end t c = search needs
@@ -134,28 +139,38 @@ shut-shut-requires t c κs =
     let a = start .args in
     let width = c .before .before .before .before .low-count in
     let v = next-is (a .x) (a .w) _ _ (c .before .before .before .next-start .ensures) (width .ensures) in
-    let e : st .stretch .result ≡ 4 * a .w = st .stretch .ensures in
+    let e : st .stretch .result ≡ filterOf (a .filter) .rows * a .w = st .stretch .ensures in
     omega (
       arith,
       start .pre,
       e,
-      store-back (side (a .x) (a .w)) (a .l) (omega arith),
+      store-back (filterOf (a .filter) .rows) (side (a .x) (a .w)) (a .l) (omega arith),
       count-lo (side (a .x) (a .w)),
       width .ensures,
       count-lo (side (a .y) (a .m)),
       c .low-count2 .ensures,
       c .before .closed-below .ensures,
-      ap (λ (S : Side). storeLength S (a .l - 1)) v,
+      steps-more (filterOf (a .filter) .ahead) (a .l) (omega arith),
+      ap (λ (S : Side). storeBy (a .filter) S (a .l - 1)) v,
     )
 
-shut-ahead-requires : (t : ℕ) → shut-lts.Need-ahead-requires (claims t) (shut-at t) shut.Post
-shut-ahead-requires t c κs = tt
+shut-look-ahead-requires : (t : ℕ) → shut-lts.Need-look-ahead-requires (claims t) (shut-at t) shut.Post
+shut-look-ahead-requires t c κs = tt
 
-shut-add-t24 : (t : ℕ) → shut-lts.Need-add-t24 (claims t) (shut-at t) shut.Post
-shut-add-t24 t c =
+shut-add-t25 : (t : ℕ) → shut-lts.Need-add-t25 (claims t) (shut-at t) shut.Post
+shut-add-t25 t c =
     let below = c .before .before .before in
-    let start = below .before .before .before .before .before .before .before .before .before .before .before .before .before .before in
-    omega (arith, c .before .ahead .ensures, below .shut .ensures .all, start .pre)
+    let some = below .before .before .before .before .before .before .before .before .before .before .before .before .before in
+    let start = some .before in
+    let a = start .args in
+    omega (
+      arith,
+      c .before .look-ahead .ensures,
+      below .shut .ensures .all,
+      steps-more (filterOf (a .filter) .ahead) (a .l) (omega (arith, some .if1 .left)),
+      start .pre,
+      steps-few (a .filter) (a .l),
+    )
 
 shut-deeper-requires : (t : ℕ) → shut-lts.Need-deeper-requires (claims t) (shut-at t) shut.Post
 shut-deeper-requires t c κs =
@@ -170,11 +185,12 @@ shut-further-requires t c κs =
     let start = st .before .before .before .before .before .before .before in
     let a = start .args in
     let v = below .before .before .before .before .before .low-count in
-    let e : st .stretch .result ≡ 4 * a .w = st .stretch .ensures in
+    let e : st .stretch .result ≡ filterOf (a .filter) .rows * a .w = st .stretch .ensures in
     let o =
-    closed-small (a .l - 1) (side _ (v .result)) _ _ _ (omega (arith, start .pre, v .ensures, count-lo (side (a .x) (a .w)))) (omega (arith, start .pre))
+    closed-small (a .filter) (a .l - 1) (side _ (v .result)) _ _ _ (omega (arith, start .pre, v .ensures, count-lo (side (a .x) (a .w))))
+    (omega (arith, start .pre))
     (below .shut .ensures) in
-    omega (arith, start .pre, e)
+    omega (arith, e, start .pre, row-few (a .filter) (a .w))
 
 shut-same-length-2 : (t : ℕ) → shut-lts.Need-same-length-2 (claims t) (shut-at t) shut.Post
 shut-same-length-2 t c = search needs
@@ -190,15 +206,15 @@ shut-returns-3 t c =
     let level = st .before .before .before .before in
     let start = level .before .before .before in
     let a = start .args in
-    let l = level .close-level .last .0 in
-    let s = store-back (side (a .x) (a .w)) (a .l) (omega (arith, e .before)) in
-    let j : st .stretch .result ≡ 4 * a .w = st .stretch .ensures in
-    shut-goes (a .l) (side (a .x) (a .w)) (a .y) (a .c) (a .m) _ (at l) _ (omega (arith, e .before)) (level .close-level .ensures) _ _ _ _ _ _ _ _
-    (at (below .shut .last .0)) _ _ (omega (arith, e .before)) (st .stretch .ensures)
+    let l = level .close-level .last .1 .0 in
+    let s = store-back (filterOf (a .filter) .rows) (side (a .x) (a .w)) (a .l) (omega (arith, e .before)) in
+    let j : st .stretch .result ≡ filterOf (a .filter) .rows * a .w = st .stretch .ensures in
+    shut-goes (a .filter) (a .l) (side (a .x) (a .w)) (a .y) (a .c) (a .m) _ (at l) _ (omega (arith, e .before)) (level .close-level .ensures) _ _ _ _ _ _ _ _
+    (at (below .shut .last .1 .0)) _ _ (omega (arith, e .before)) (st .stretch .ensures)
     (next-is (a .x) (a .w) _ _ (from .next-start .ensures) (from .before .low-count .ensures)) (start-is (a .y) _ (prev .before .next-start2 .ensures))
     (prev .closed-below .ensures) (below .before .low-count2 .ensures)
-    (rw (at-rest (st .stretch .result) l) at (below .shut .ensures)) (at-join (st .stretch .result) l (below .shut .last .0) (omega (arith, e .before, j)))
-    (ah .ahead .ensures) (e .deeper .ensures) (c .further .ensures)
+    (rw (at-rest (st .stretch .result) l) at (below .shut .ensures)) (at-join (st .stretch .result) l (below .shut .last .1 .0) (omega (arith, e .before, j)))
+    (ah .look-ahead .ensures) (e .deeper .ensures) (c .further .ensures)
 
 pub +shut-spec : {M : Type 1} → statement M
 +shut-spec =
@@ -226,8 +242,8 @@ pub +shut-spec : {M : Type 1} → statement M
     (shut-closed-below-requires t)
     (shut-low-count-requires-2 t)
     (shut-shut-requires t)
-    (shut-ahead-requires t)
-    (shut-add-t24 t)
+    (shut-look-ahead-requires t)
+    (shut-add-t25 t)
     (shut-deeper-requires t)
     (shut-further-requires t)
     (shut-same-length-2 t)

@@ -1,29 +1,28 @@
 -- `closing::close_level` meets its contract. The loop's invariant: what the steps from step k on come to is what all of them do. Assumes nothing.
-use mathlib.Core.Path.{_≡_, refl, sym, _∙_}
-use Prim.Native.Nat.{_-_, _≤_}
+use mathlib.Core.Path.{_≡_, refl}
+use Prim.Native.Nat.{_-_}
 use native.Mathlib.Omega.{arith}
 use lib.ListN.{length}
 use borrow.Author.Needs.{needs}
 use Rattle.numbers.specs.Signal.{at}
 use Rattle.lifting.specs.Grid.{side}
-use Rattle.level.specs.Level.{ahead}
-use Rattle.level.specs.FiveThreeLevel.{fiveThree}
+use Rattle.nine_seven.specs.Filters.{filterOf}
 use Rattle.writer.proofs.ClosingLaws.{from, level-done, level-waits, level-on}
 use Rattle.writer.proofs.closing.close_level.Statement.{statement}
 use Rattle.writer.proofs.closing.close_level.Tie as tie
 
 abbrev Inv-loop : tie.InvT-loop
-Inv-loop store₀ l w x y c m a k₀ store k =
-    (length store ≡ length store₀) × (a ≡ ahead fiveThree) × (from l (side x w) y m k (at store) ≡ from l (side x w) y m c (at store₀))
+Inv-loop filter store₀ l w x y c m a k₀ store k =
+    (length store ≡ length store₀) × (a ≡ filterOf filter .ahead) × (from filter l (side x w) y m k (at store) ≡ from filter l (side x w) y m c (at store₀))
 
 abbrev μ-loop : tie.MeasureT-loop
-μ-loop store₀ l w x y c m a k₀ store k = a - k
+μ-loop filter store₀ l w x y c m a k₀ store k = a - k
 
-ahead-requires : tie.Need-ahead-requires Inv-loop μ-loop
-ahead-requires c κs = tt
+look-ahead-requires : tie.Need-look-ahead-requires Inv-loop μ-loop
+look-ahead-requires c κs = tt
 
 loop-holds : tie.Need-loop-holds Inv-loop μ-loop
-loop-holds c = (refl, c .ahead .ensures, refl)
+loop-holds c = (refl, c .look-ahead .ensures, refl)
 
 close-step-requires : tie.Need-close-step-requires Inv-loop μ-loop
 close-step-requires c κs = omega (arith, c .before .before .loop .inv .0, c .before .before .before .before .pre)
@@ -39,7 +38,7 @@ returns c =
     let step = c .before .before .before in
     let loop = step .before .before .before .loop in
     let a = step .before .before .before .before .before .args in
-    level-waits (a .l) (side (a .x) (a .w)) (a .y) (a .m) (a .c) (loop .k) _ (at (loop .store)) (loop .inv .2) (omega (arith, loop .inv .1)) _ _
+    level-waits (a .filter) (a .l) (side (a .x) (a .w)) (a .y) (a .m) (a .c) (loop .k) _ (at (loop .store)) (loop .inv .2) (omega (arith, loop .inv .1)) _ _
     (step .close-step .ensures) _ refl (omega arith)
 
 loop-less : tie.Need-loop-less Inv-loop μ-loop
@@ -52,7 +51,7 @@ loop-again c =
     let a = step .before .before .before .before .before .args in (
       omega (arith, loop .inv .0, step .close-step),
       loop .inv .1,
-      level-on (a .l) (side (a .x) (a .w)) (a .y) (a .m) (a .c) (loop .k) _ (at (loop .store)) (loop .inv .2) (omega (arith, loop .inv .1)) _ _
+      level-on (a .filter) (a .l) (side (a .x) (a .w)) (a .y) (a .m) (a .c) (loop .k) _ (at (loop .store)) (loop .inv .2) (omega (arith, loop .inv .1)) _ _
           (step .close-step .ensures) _ refl (omega arith),
     )
 
@@ -66,7 +65,7 @@ returns-2 : tie.Need-returns-2 Inv-loop μ-loop
 returns-2 c =
     let loop = c .before .before .loop in
     let a = c .before .before .before .before .args in
-    level-done (a .l) (side (a .x) (a .w)) (a .y) (a .m) (a .c) (loop .k) _ (at (loop .store)) (loop .inv .2) _ (c .idle .ensures)
+    level-done (a .filter) (a .l) (side (a .x) (a .w)) (a .y) (a .m) (a .c) (loop .k) _ (at (loop .store)) (loop .inv .2) _ (c .idle .ensures)
     (omega (arith, loop .inv .1))
 
 pub close-level-spec : {M : Type 1} → statement M
@@ -75,7 +74,7 @@ close-level-spec =
     (tie.spec
     Inv-loop
     μ-loop
-    ahead-requires
+    look-ahead-requires
     loop-holds
     close-step-requires
     add-k

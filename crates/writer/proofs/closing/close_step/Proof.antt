@@ -4,9 +4,8 @@ use native.Mathlib.Omega.{arith}
 use lib.ListN.{length}
 use Rattle.lifting.specs.Grid.{side}
 use Rattle.wavelet.proofs.StoreLaws.{store-next}
-use Rattle.level.specs.Level.{ahead}
-use Rattle.level.specs.FiveThreeLevel.{fiveThree}
-use Rattle.level.proofs.SetLaws.{closed-done}
+use Rattle.nine_seven.specs.Filters.{filterOf}
+use Rattle.filters.proofs.ForwardLaws.{level-done}
 use Rattle.writer.proofs.CountLaws.{made-most}
 use Rattle.writer.proofs.CascadeLaws.{left-still}
 use Rattle.writer.proofs.ClosingLaws.{step-none, step-waits, step-goes}
@@ -27,8 +26,9 @@ returns : tie.Need-returns
 returns c =
     let left = c .before .before in
     let a = left .before .before .args in
-    left-still (a .l + 1) (side (a .x) (a .w)) _ _ _ (c .nothing .ensures)
-    (step-none (a .l) (side (a .x) (a .w)) (a .y) (a .c) (a .m) _ _ (left .before .made .ensures) _ (left .is-left .ensures) (c .before .if1 .taken))
+    left-still (a .filter) (a .l + 1) (side (a .x) (a .w)) _ _ _ (c .nothing .ensures)
+    (step-none (a .filter) (a .l) (side (a .x) (a .w)) (a .y) (a .c) (a .m) _ _ (left .before .made .ensures) _ (left .is-left .ensures)
+    (c .before .if1 .taken))
 
 close-requires : tie.Need-close-requires
 close-requires c κs = tt
@@ -48,16 +48,17 @@ returns-2 c =
     let close = band .before .before .before in
     let left = close .before .before .before in
     let a = left .before .before .args in
-    step-waits (a .l) (side (a .x) (a .w)) (a .y) (a .c) (a .m) _ _ (left .before .made .ensures) _ (left .is-left .ensures)
+    step-waits (a .filter) (a .l) (side (a .x) (a .w)) (a .y) (a .c) (a .m) _ _ (left .before .made .ensures) _ (left .is-left .ensures)
     (close .before .before .if1 .left) _ _ _
-    (closed-done (length (a .store .now)) (a .w) (a .x) (a .y) (a .m) _ _ (omega (arith, store-next (side (a .x) (a .w)) (a .l))) (close .close .ensures .1))
+    (level-done (a .filter) (length (a .store .now)) (side (a .x) (a .w)) _ _ _
+    (omega (arith, store-next (filterOf (a .filter) .rows) (side (a .x) (a .w)) (a .l))) (close .close .ensures .1))
     (band .before .most .ensures) (band .next-band .ensures) (omega arith)
 
 pass-on-requires : tie.Need-pass-on-requires
 pass-on-requires c κs =
     let made = c .before .before .before .before .before .before .before .before .before in
     let a = made .before .args in
-    omega (arith, made .made .ensures, made-most (ahead fiveThree) (a .c) (a .y) (a .m))
+    omega (arith, made .made .ensures, made-most (filterOf (a .filter) .ahead) (a .c) (a .y) (a .m))
 
 same-length-2 : tie.Need-same-length-2
 same-length-2 c = search needs
@@ -68,9 +69,10 @@ returns-3 c =
     let close = band .before .before .before in
     let left = close .before .before .before in
     let a = left .before .before .args in
-    step-goes (a .l) (side (a .x) (a .w)) (a .y) (a .c) (a .m) _ _ (left .before .made .ensures) _ (left .is-left .ensures)
+    step-goes (a .filter) (a .l) (side (a .x) (a .w)) (a .y) (a .c) (a .m) _ _ (left .before .made .ensures) _ (left .is-left .ensures)
     (close .before .before .if1 .left) _ _ _
-    (closed-done (length (a .store .now)) (a .w) (a .x) (a .y) (a .m) _ _ (omega (arith, store-next (side (a .x) (a .w)) (a .l))) (close .close .ensures .1))
+    (level-done (a .filter) (length (a .store .now)) (side (a .x) (a .w)) _ _ _
+    (omega (arith, store-next (filterOf (a .filter) .rows) (side (a .x) (a .w)) (a .l))) (close .close .ensures .1))
     (band .before .most .ensures) (band .next-band .ensures) _ _ (omega arith) (c .before .pass-on .ensures)
 
 pub close-step-spec : {M : Type 1} → statement M

@@ -1,5 +1,4 @@
 -- `counts::sets_off` meets its contract. Assumes nothing.
-use mathlib.Core.Path.{_∙_, ap, sym}
 use native.Mathlib.Omega.{arith}
 use borrow.Author.Tests.{lt-ltb, le-ltb}
 use Rattle.writer.proofs.counts.sets_off.Statement.{statement}

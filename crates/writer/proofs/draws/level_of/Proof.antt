@@ -10,14 +10,14 @@ use Rattle.writer.proofs.draws.level_of.Statement.{statement}
 use Rattle.writer.proofs.draws.level_of.Tie as tie
 
 abbrev Inv-loop : tie.InvT-loop
-Inv-loop l w x y c v m width₀ column₀ rows₀ row₀ closed₀ k₀ width column rows row closed k =
-    (v ≤ l) × Walked l (side x w) y c v m (side column width) row closed rows k
+Inv-loop filter l w x y c v m width₀ column₀ rows₀ row₀ closed₀ k₀ width column rows row closed k =
+    (v ≤ l) × Walked filter l (side x w) y c v m (side column width) row closed rows k
 
 abbrev μ-loop : tie.MeasureT-loop
-μ-loop l w x y c v m width₀ column₀ rows₀ row₀ closed₀ k₀ width column rows row closed k = k
+μ-loop filter l w x y c v m width₀ column₀ rows₀ row₀ closed₀ k₀ width column rows row closed k = k
 
 loop-holds : tie.Need-loop-holds Inv-loop μ-loop
-loop-holds c = (omega arith, walk-start _ _ _ _ _ _ (c .pre))
+loop-holds c = (omega arith, walk-start _ _ _ _ _ _ _ (c .pre))
 
 made-requires : tie.Need-made-requires Inv-loop μ-loop
 made-requires c κs = omega (arith, c .before .loop .inv .1 .rows)
@@ -48,7 +48,7 @@ loop-again c =
     let e = c .before .before .before .before .before in
     let l = e .before .before .loop in (
       l .inv .0,
-      walk-on _ _ _ _ _ _ _ _ _ _ _ (l .inv .0) (l .inv .1) _ _ _ _ (omega arith)
+      walk-on _ _ _ _ _ _ _ _ _ _ _ _ (l .inv .0) (l .inv .1) _ _ _ _ (omega arith)
           (next-is (l .column) (l .width) _ _ (c .next-start2 .ensures) (c .before .low-count .ensures))
           (start-is (l .row) _ (c .before .before .before .next-start .ensures))
           (c .before .before .closed-below .ensures) (c .before .before .before .before .low-rows .ensures ∙ ap (lowRows (l .row)) (e .made .ensures)),
@@ -60,13 +60,13 @@ made-requires-2 c κs = omega (arith, c .before .loop .inv .1 .rows)
 prev-requires : tie.Need-prev-requires Inv-loop μ-loop
 prev-requires c κs = tt
 
-sub-t17 : tie.Need-sub-t17 Inv-loop μ-loop
-sub-t17 c = omega arith
+sub-t18 : tie.Need-sub-t18 Inv-loop μ-loop
+sub-t18 c = omega arith
 
 returns : tie.Need-returns Inv-loop μ-loop
 returns c =
     let l = c .before .before .before .loop in
-    walk-end _ _ _ _ _ _ _ _ _ _ _ (l .inv .0) (l .inv .1) _ _ (omega arith) (c .before .made2 .ensures) (c .prev .ensures)
+    walk-end _ _ _ _ _ _ _ _ _ _ _ _ (l .inv .0) (l .inv .1) _ _ (omega arith) (c .before .made2 .ensures) (c .prev .ensures)
 
 pub level-of-spec : {M : Type 1} → statement M
 level-of-spec =
@@ -86,5 +86,5 @@ level-of-spec =
     loop-again
     made-requires-2
     prev-requires
-    sub-t17
+    sub-t18
     returns)

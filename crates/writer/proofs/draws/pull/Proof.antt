@@ -2,7 +2,7 @@
 use Prim.Native.Nat.{_+_, _-_}
 use native.Mathlib.Omega.{arith}
 use Rattle.numbers.specs.Signal.{at}
-use Rattle.wavelet.proofs.StoreLaws.{store-le}
+use Rattle.filters.proofs.FigureLaws.{store-few}
 use Rattle.level.proofs.RestLaws.{at-rest, at-join}
 use Rattle.writer.specs.Taking.{columnsOf}
 use Rattle.writer.specs.Steps.{columns}
@@ -58,8 +58,8 @@ further-requires c κs =
     let s = e .args .s in
     let d = e .pre .0 in
     let f = e .pre .1 in
-    let o = left-small (q .below + 1) (columns q) _ _ _ (f .wide) (omega (arith, f .deep, d .walk)) (p .pass-on .ensures) in
-    omega (arith, store-le (columnsOf s) (s .levels), f .room, d .placed, d .walk .wide, d .walk .deep)
+    let o = left-small (s .filter) (q .below + 1) (columns q) _ _ _ (f .wide) (omega (arith, f .deep, d .walk)) (p .pass-on .ensures) in
+    omega (arith, store-few (s .filter) (columnsOf s) (s .levels), f .room, d .placed, d .walk .wide, d .walk .deep)
 
 same-length : tie.Need-same-length
 same-length c = search needs
@@ -73,8 +73,8 @@ returns-2 c =
     let l = a .store .now in
     let e = d .pre in
     pull-goes (a .s) (a .q) (e .1) (e .0 .placed) (at l) _ _ (b .before .prev .ensures) (b .next-band .ensures)
-    _ (at (p .pass-on .last .0)) _ _ _ (omega arith) (omega arith) (rw (at-rest (a .s .offset) l) at (p .pass-on .ensures))
-    (at-join (a .s .offset) l (p .pass-on .last .0) (omega (arith, e .1 .room, e .0 .placed))) (c .before .deeper-by .ensures) (c .further .ensures)
+    _ (at (p .pass-on .last .1 .0)) _ _ _ (omega arith) (omega arith) (rw (at-rest (a .s .offset) l) at (p .pass-on .ensures))
+    (at-join (a .s .offset) l (p .pass-on .last .1 .0) (omega (arith, e .1 .room, e .0 .placed))) (c .before .deeper-by .ensures) (c .further .ensures)
 
 pub pull-spec : {M : Type 1} → statement M
 pull-spec =

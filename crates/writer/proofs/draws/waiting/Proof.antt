@@ -1,7 +1,9 @@
 -- `draws::waiting` meets its contract: the row stands at its place from the offset on. Assumes nothing.
 use native.Mathlib.Omega.{arith}
-use Rattle.wavelet.proofs.StoreLaws.{store-le}
-use Rattle.level.proofs.Places.{place-room, place-code}
+use Rattle.wavelet.proofs.StoreLaws.{store-next}
+use Rattle.nine_seven.specs.Filters.{filterOf}
+use Rattle.filters.proofs.FigureLaws.{store-few}
+use Rattle.filters.proofs.ForwardLaws.{place-room, place-code}
 use Rattle.writer.specs.Counts.{bandAt}
 use Rattle.writer.specs.Taking.{columnsOf}
 use Rattle.writer.specs.Steps.{columns}
@@ -30,9 +32,19 @@ add-t8 c =
     let b = e .before .before .before in
     let d = b .before .before in
     let a = d .args in
-    let p = place-code (columns (a .q)) (a .q .set) (bandAt (b .before .prev .result)) _ _ (omega (arith, d .pre .2 .wide)) (b .code .ensures)
+    let p = place-code (a .s .filter) (columns (a .q)) (a .q .y) (a .q .set) (bandAt (b .before .prev .result)) _ _ (omega (arith, d .pre .2 .wide))
+    (b .code .ensures)
     (e .band-place .ensures) in
-    omega (arith, p, place-room (columns (a .q)) (a .q .set) (bandAt (b .before .prev .result)), store-le (columnsOf (a .s)) (a .s .levels))
+    omega (
+      arith,
+      p,
+      d .pre .1,
+      d .pre .2 .room,
+      store-next (filterOf (a .s .filter) .rows) (columns (a .q)) (a .q .below),
+      place-room (a .s .filter) (columns (a .q)) (a .q .y) (a .q .set) (bandAt (b .before .prev .result)),
+      store-few (a .s .filter) (columnsOf (a .s)) (a .s .levels),
+      d .pre .0,
+    )
 
 returns : tie.Need-returns
 returns c =
@@ -42,7 +54,7 @@ returns c =
     let a = d .args in
     found (a .s) (a .q) (d .pre .2) (d .pre .1) _ _ _ _ _ (omega arith)
     (b .before .prev .ensures) (b .code .ensures) (e .before .before .set-row .ensures) (e .before .columns .ensures)
-    (place-code (columns (a .q)) (a .q .set) (bandAt (b .before .prev .result)) _ _ (omega (arith, d .pre .2 .wide)) (b .code .ensures)
+    (place-code (a .s .filter) (columns (a .q)) (a .q .y) (a .q .set) (bandAt (b .before .prev .result)) _ _ (omega (arith, d .pre .2 .wide)) (b .code .ensures)
     (e .band-place .ensures))
 
 pub waiting-spec : {M : Type 1} → statement M

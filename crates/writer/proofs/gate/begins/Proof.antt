@@ -12,11 +12,11 @@ use Rattle.writer.proofs.gate.begins.Statement.{statement}
 use Rattle.writer.proofs.gate.begins.Tie as tie
 
 abbrev Inv-loop : tie.InvT-loop
-Inv-loop w x v o width₀ column₀ rest₀ k₀ width column rest k =
-    (width < 2 ^ 16) × (0 < k) × (eqb rest (startOf (side column width) k) ≡ eqb o (startOf (side x w) v))
+Inv-loop filter w x v o width₀ column₀ rest₀ k₀ width column rest k =
+    (width < 2 ^ 16) × (0 < k) × (eqb rest (startOf filter (side column width) k) ≡ eqb o (startOf filter (side x w) v))
 
 abbrev μ-loop : tie.MeasureT-loop
-μ-loop w x v o width₀ column₀ rest₀ k₀ width column rest k = k
+μ-loop filter w x v o width₀ column₀ rest₀ k₀ width column rest k = k
 
 loop-holds : tie.Need-loop-holds Inv-loop μ-loop
 loop-holds c = (c .pre .0, c .pre .1, refl)
@@ -28,7 +28,7 @@ returns : tie.Need-returns Inv-loop μ-loop
 returns c =
     let e = c .before in
     let l = e .before .before .loop in
-    begins-short (side (l .column) (l .width)) (l .k) (l .rest) (e .before .loop-test .taken) (omega (arith, e .stretch .ensures)) ∙ l .inv .2
+    begins-short _ (side (l .column) (l .width)) (l .k) (l .rest) (e .before .loop-test .taken) (omega (arith, e .stretch .ensures)) ∙ l .inv .2
 
 low-count-requires : tie.Need-low-count-requires Inv-loop μ-loop
 low-count-requires c κs = tt
@@ -48,12 +48,12 @@ loop-again c =
     let l = e .before .before .loop in (
       omega (arith, c .before .low-count .ensures, count-lo (side (l .column) (l .width))),
       omega arith,
-      begins-on (side (l .column) (l .width)) (l .k) (l .rest) _ _ (e .stretch .ensures) (omega arith) (omega (arith, e .stretch .ensures))
+      begins-on _ (side (l .column) (l .width)) (l .k) (l .rest) _ _ (e .stretch .ensures) (omega arith) (omega (arith, e .stretch .ensures))
           (next-is (l .column) (l .width) _ _ (c .next-start .ensures) (c .before .low-count .ensures)) ∙ l .inv .2,
     )
 
 returns-2 : tie.Need-returns-2 Inv-loop μ-loop
-returns-2 c = let l = c .before .loop in begins-first (side (l .column) (l .width)) (l .k) (l .rest) (omega arith) ∙ l .inv .2
+returns-2 c = let l = c .before .loop in begins-first _ (side (l .column) (l .width)) (l .k) (l .rest) (omega arith) ∙ l .inv .2
 
 pub begins-spec : {M : Type 1} → statement M
 begins-spec =

@@ -7,11 +7,11 @@ use lib.Dec.{leb}
 use borrow.Author.Tests.{not-true, not-false, le-leb, lt-leb, leb-true}
 use Rattle.numbers.specs.Signal.{pick, both}
 use Rattle.numbers.proofs.Sweep as sweep
-use Rattle.wavelet.specs.Limits.{maxWidth, maxLevels}
-use Rattle.wavelet.specs.Questions.{within}
-use Rattle.wavelet.proofs.QuestionLaws.{within-true}
-use Rattle.wavelet.specs.Store.{storeLength, anyLength}
+use Rattle.wavelet.specs.Limits.{maxWidth}
 use Rattle.wavelet.proofs.StoreLaws.{store-most}
+use Rattle.nine_seven.specs.Filters.{filterOf}
+use Rattle.filters.specs.Figures.{storeBy, anyBy, streamable}
+use Rattle.filters.proofs.FigureLaws.{streams, levels-most}
 use Rattle.writer.specs.declared.Writer.{Writer}
 use Rattle.writer.specs.Taking.{columnsOf}
 use Rattle.writer.specs.Questions.{onGrid, inRanges, longEnough}
@@ -19,37 +19,33 @@ use Rattle.writer.specs.Gate.{stateQuestion}
 use Rattle.writer.proofs.gate.state_question.Statement.{statement}
 use Rattle.writer.proofs.gate.state_question.Tie as tie
 
--- the width and the number of levels are within the limits
-within-limits : (s : Writer) → inRanges s ≡ true → (within 1 maxWidth (s .width) ≡ true) × (within 1 maxLevels (s .levels) ≡ true)
+-- questions 2, 18 and 4 would pass
+sized : (s : Writer) → inRanges s ≡ true → streamable (s .filter) (columnsOf s) (s .levels) ≡ true
 unfolding inRanges
-within-limits s h =
-    let o = sweep.both (onGrid (s .x) (s .y)) _ h in
-    let a = sweep.both (within 1 maxWidth (s .width)) _ (o .1) in
-    (a .0, sweep.both (within 1 maxLevels (s .levels)) _ (a .1) .0)
+sized s h = sweep.both (streamable (s .filter) (columnsOf s) (s .levels)) _ (sweep.both (onGrid (s .x) (s .y)) _ h .1) .0
 
 module _ (s : Writer) (n : ℕ) (h : inRanges s ≡ true) where
-  any : both (leb (s .width) maxWidth) (leb (anyLength (s .width)) n) ≡ true → 0 ≡ stateQuestion s n
+  abbrev need : ℕ
+  need = storeBy (s .filter) (columnsOf s) (s .levels)
+
+  any : both (leb (s .width) maxWidth) (leb (anyBy (s .filter) (s .width)) n) ≡ true → 0 ≡ stateQuestion s n
   unfolding stateQuestion longEnough
   any g =
-      let l = within-true 1 maxLevels _ (within-limits s h .1) in
-      simp (
-        h,
-        le-leb (storeLength (columnsOf s) (s .levels)) n
-            (omega (arith, store-most (columnsOf s) (s .levels) (l .1), leb-true (anyLength (s .width)) n (sweep.both (leb (s .width) maxWidth) _ g .1))),
-      )
+      let l = streams (s .filter) (columnsOf s) (s .levels) (sized s h) .levels .1 in
+      let m = store-most (filterOf (s .filter) .rows) (columnsOf s) (s .levels) (omega (arith, l, levels-most (s .filter))) in
+      simp (h, le-leb need n (omega (arith, m, leb-true (anyBy (s .filter) (s .width)) n (sweep.both (leb (s .width) maxWidth) _ g .1))))
 
-module _ (s : Writer) (n k : ℕ) (h : inRanges s ≡ true)
-    (e : k ≡ pick (both (within 1 maxWidth (s .width)) (within 1 maxLevels (s .levels))) (storeLength (columnsOf s) (s .levels)) 0) where
-  needed : k ≡ storeLength (columnsOf s) (s .levels)
-  needed = let a = within-limits s h in e ∙ simp (a .0, a .1)
+  module _ (k : ℕ) (e : k ≡ pick (streamable (s .filter) (columnsOf s) (s .levels)) need 0) where
+    needed : k ≡ need
+    needed = e ∙ simp (sized s h)
 
-  short : n < k → 5 ≡ stateQuestion s n
-  unfolding stateQuestion longEnough
-  short g = simp (h, lt-leb (storeLength (columnsOf s) (s .levels)) n (omega (arith, needed)))
+    short : n < k → 5 ≡ stateQuestion s n
+    unfolding stateQuestion longEnough
+    short g = simp (h, lt-leb need n (omega (arith, needed)))
 
-  long : k ≤ n → 0 ≡ stateQuestion s n
-  unfolding stateQuestion longEnough
-  long g = simp (h, le-leb (storeLength (columnsOf s) (s .levels)) n (omega (arith, needed)))
+    long : k ≤ n → 0 ≡ stateQuestion s n
+    unfolding stateQuestion longEnough
+    long g = simp (h, le-leb need n (omega (arith, needed)))
 
 returns : tie.Need-returns
 unfolding stateQuestion
@@ -69,12 +65,12 @@ store-length-requires c κs = tt
 returns-3 : tie.Need-returns-3
 returns-3 c =
     let r = c .before .before .before .before in
-    short _ _ _ (sym (r .before .pre) ∙ not-false _ (r .if1 .left)) (c .before .store-length .ensures) (omega arith)
+    short _ _ (sym (r .before .pre) ∙ not-false _ (r .if1 .left)) _ (c .before .store-length .ensures) (omega arith)
 
 returns-4 : tie.Need-returns-4
 returns-4 c =
     let r = c .before .before .before .before in
-    long _ _ _ (sym (r .before .pre) ∙ not-false _ (r .if1 .left)) (c .before .store-length .ensures) (omega arith)
+    long _ _ (sym (r .before .pre) ∙ not-false _ (r .if1 .left)) _ (c .before .store-length .ensures) (omega arith)
 
 pub state-question-spec : {M : Type 1} → statement M
 state-question-spec =

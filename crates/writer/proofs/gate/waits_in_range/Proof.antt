@@ -15,7 +15,7 @@ returns-2 : tie.Need-returns-2
 returns-2 c =
     let s = c .before .before .before .before .before .args .s in
     left-yes (s .left) 0 _ _ _ (left-none (s .levels) (s .level) (omega arith)) (omega arith)
-    (ap (eqb (s .offset)) (sym (start-first (columnsOf s) (s .level) (omega arith))))
+    (ap (eqb (s .offset)) (sym (start-first (s .filter) (columnsOf s) (s .level) (omega arith))))
 
 sub-most : tie.Need-sub-most
 sub-most c = omega arith

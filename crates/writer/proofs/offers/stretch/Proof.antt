@@ -7,10 +7,11 @@ use lib.IntN.{ℤ}
 use lib.ListN.{length}
 use Rattle.numbers.specs.Signal.{pick}
 use Rattle.wavelet.proofs.LimitLaws.{height-small}
-use Rattle.wavelet.specs.Levels.{next}
-use Rattle.wavelet.proofs.StoreLaws.{store-none, store-below, store-back}
-use Rattle.level.specs.Heights.{heightAt, heightsPut, heightsFit}
-use Rattle.level.proofs.FillLaws.{put-done}
+use Rattle.wavelet.proofs.StoreLaws.{store-back}
+use Rattle.nine_seven.specs.Filters.{filterOf}
+use Rattle.level.specs.Heights.{heightAt}
+use Rattle.filters.specs.Forward.{heightsPut, heightsFit}
+use Rattle.filters.proofs.ForwardLaws.{heights-done}
 use Rattle.writer.specs.declared.Writer.{Writer}
 use Rattle.writer.specs.Taking.{columnsOf}
 use Rattle.writer.specs.Stretch.{Taker}
@@ -21,12 +22,12 @@ use Rattle.writer.proofs.offers.stretch.Tie as tie
 
 -- the heights are put: the store has room for every level, and so for level 1 alone
 put-there : (s : Writer) (run : List ℕ) (from n k : ℕ) (x y : ℕ → ℤ) → Taker s k → s .column + n ≤ s .width → from + n ≤ length run →
-    y ≡ pick (heightsFit k (s .width) (s .column) n (length run) from)
-    (heightsPut (columnsOf s) (s .y % 2 + s .rows) (s .column) n (λ j. heightAt run (from + j)) x) x →
-    y ≡ heightsPut (columnsOf s) (s .y % 2 + s .rows) (s .column) n (λ j. heightAt run (from + j)) x
+    y ≡ pick (heightsFit (s .filter) k (columnsOf s) (s .column) n (length run) from)
+    (heightsPut (s .filter) (columnsOf s) (s .y % 2 + s .rows) (s .column) n (λ j. heightAt run (from + j)) x) x →
+    y ≡ heightsPut (s .filter) (columnsOf s) (s .y % 2 + s .rows) (s .column) n (λ j. heightAt run (from + j)) x
 put-there s run from n k x y t p q e =
-    put-done (columnsOf s) k (s .y % 2 + s .rows) (s .column) n (length run) from _ x y
-    (omega (arith, t .room .room, t .deep, store-back (columnsOf s) (s .levels) (t .deep))) p q e
+    heights-done (s .filter) k (columnsOf s) x _ y (s .column) n (length run) from
+    (omega (arith, t .room .room, store-back (filterOf (s .filter) .rows) (columnsOf s) (s .levels) (t .deep))) p q e
 
 add-q : tie.Need-add-q
 add-q c = omega (arith, height-small)
@@ -50,9 +51,7 @@ returns c =
     (put-there (a .s) (a .run .now) (a .from) (a .n) (length (a .store .now)) _ _ t (omega arith) (omega arith) (put .put .ensures .1)) (omega arith)
 
 arrive-requires : tie.Need-arrive-requires
-arrive-requires c κs =
-    let s = c .before .before .before .before .before .before .before .before .before .before .args .s in
-    omega (arith, store-back (columnsOf s) (s .levels) (omega arith), store-below (columnsOf s) 0, store-none (next (columnsOf s)))
+arrive-requires c κs = omega arith
 
 add-t9 : tie.Need-add-t9
 add-t9 c = omega (arith, height-small)

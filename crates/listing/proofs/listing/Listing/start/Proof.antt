@@ -15,8 +15,8 @@ none-requires c κs = tt
 
 returns : tie.Need-returns
 returns c =
-    ap (λ i. listed i (fresh (side 0 1) 0 1) (c .none .result)) (c .before .start .ensures)
-    ∙ ap (listed (startAt 0) (fresh (side 0 1) 0 1)) (c .none .ensures)
+    ap (λ i. listed i (fresh 0 (side 0 1) 0 1) (c .none .result)) (c .before .start .ensures)
+    ∙ ap (listed (startAt 0) (fresh 0 (side 0 1) 0 1)) (c .none .ensures)
 
 pub start-spec : {M : Type 1} → statement M
 start-spec = tie.close (tie.spec start-requires none-requires returns)

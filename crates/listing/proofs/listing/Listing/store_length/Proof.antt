@@ -4,12 +4,13 @@ use Rattle.lifting.specs.Grid.{count}
 use Rattle.wavelet.specs.Limits.{maxLevels}
 use Rattle.wavelet.specs.Levels.{next, sideAt}
 use Rattle.wavelet.specs.Store.{widths, storeLength}
+use Rattle.nine_seven.specs.Filters.{filterOf}
 use Rattle.pgm.specs.Limits.{maxPictureWidth}
 use Rattle.listing.proofs.listing.Listing.store_length.Statement.{statement}
 use Rattle.listing.proofs.listing.Listing.store_length.Tie as tie
 
 returns : tie.Need-returns
-unfolding maxLevels maxPictureWidth storeLength widths sideAt next count
+unfolding maxLevels maxPictureWidth filterOf storeLength widths sideAt next count
 returns c = refl
 
 pub store-length-spec : {M : Type 1} → statement M
