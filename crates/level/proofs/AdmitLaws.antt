@@ -16,8 +16,7 @@ use Rattle.numbers.specs.Signal.{at, both}
 use Rattle.numbers.proofs.Integers.{each, lin, dif, dif-pos, dif-natAbs, dif-leZ}
 use Rattle.numbers.proofs.Parts.{length-mid, at-mid, window-in}
 use Rattle.lifting.specs.Filter.{Filter}
-use Rattle.lifting.specs.FiveThree.{fiveThreeFilter}
-use Rattle.wavelet.specs.Limits.{maxSample, maxLevels, range}
+use Rattle.wavelet.specs.Limits.{maxSample, range}
 use Rattle.numbers.specs.Tests.{every}
 use Rattle.wavelet.specs.Maps.{valueFits}
 use Rattle.level.specs.Rebuilding.{lowestBy}

@@ -186,7 +186,8 @@ module _ (W H : Side) (p : Band → Grid) (n : ℕ) where
             x (4 * W .length + (rowPlace (count lo W) (local (next H .start) (n - firstSet H lo)) + (halfPlace a (next W) + i))) ≡
             parted (next W) (p LL (n - firstSet H lo)) a i
         unfolding next
-        low-halves a i b = half-reads four (next W) (λ j. x (4 * W .length + j)) (local (next H .start) (n - firstSet H lo)) (p LL (n - firstSet H lo)) low a i b
+        low-halves a i b =
+            half-reads four (next W) (λ j. x (4 * W .length + j)) (local (next H .start) (n - firstSet H lo)) (p LL (n - firstSet H lo)) low a i b
 
         got-taken : (c : Band) → Got taken c
         unfolding across down rowOfSet setRow
@@ -249,7 +250,8 @@ five-three-back-laws = record {
   before-next = leaves-before;
   work-last = λ k W H p n x some there before got. last-done W H p n k x some there before got;
   work-on = λ k W H p n x some there before got low. on-done W H p n k x some there before got low;
-  made-is = λ k W H p n x s r b q c t. joined-reads W _ (levelBack fiveThreeFilter wrap32 W H p r) (row-halves four W x (local (H .start) r) _ (s .made r b q)) c t;
+  made-is = λ k W H p n x s r b q c t.
+      joined-reads W _ (levelBack fiveThreeFilter wrap32 W H p r) (row-halves four W x (local (H .start) r) _ (s .made r b q)) c t;
   made-fits = λ k W H p n x s r b q c t. s .fit r b q c t;
   made-has = λ k W H p n x s. s .has;
 }

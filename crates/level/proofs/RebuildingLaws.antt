@@ -86,7 +86,8 @@ module _ (rows : ℕ) (W : Side) (room : Bool) (t : Tried) (x : ℕ → ℤ) whe
   unfolding workLeftBy memory
   left-made y e is = rw (e, ← is) refl
 
-  pub left-zeros : (y z : ℕ → ℤ) → room ≡ true → failed ≡ t → Kept (rows * W .length) x y → z ≡ fronted (rows * W .length) (λ _. pos 0) y → z ≡ workLeftBy rows W room t x
+  pub left-zeros : (y z : ℕ → ℤ) → room ≡ true → failed ≡ t → Kept (rows * W .length) x y →
+      z ≡ fronted (rows * W .length) (λ _. pos 0) y → z ≡ workLeftBy rows W room t x
   unfolding workLeftBy memory
   left-zeros y z e is kept made = rw (e, ← is) (made ∙ same)
     where
@@ -96,7 +97,8 @@ module _ (rows : ℕ) (W : Side) (room : Bool) (t : Tried) (x : ℕ → ℤ) whe
         | no b ↦ front-rest _ _ y j (omega arith) ∙ kept .same j (omega arith) ∙ sym (front-rest _ _ x j (omega arith))
       ]
 
-pub zeros-kept : (rows : ℕ) (W : Side) (x y z : ℕ → ℤ) → Kept (rows * W .length) x y → z ≡ fronted (rows * W .length) (λ _. pos 0) y → Kept (rows * W .length) x z
+pub zeros-kept : (rows : ℕ) (W : Side) (x y z : ℕ → ℤ) → Kept (rows * W .length) x y →
+    z ≡ fronted (rows * W .length) (λ _. pos 0) y → Kept (rows * W .length) x z
 zeros-kept rows W x y z kept made =
     record { same = λ j b. ap (λ (f : ℕ → ℤ). f j) made ∙ front-rest (rows * W .length) (λ _. pos 0) y j b ∙ kept .same j b }
 

@@ -19,7 +19,8 @@ use Rattle.lifting.proofs.RowLaws.{row-order, row-at, row-past, row-other}
 use Rattle.wavelet.specs.Bands.{Band, across, down}
 use Rattle.wavelet.specs.Levels.{next}
 use Rattle.wavelet.specs.Order.{firstSet}
-use Rattle.level.specs.Stretch.{slot, rowPlace, local, rowOfSet, halfPlace, bandFed, rowIn, rowUnlifted, rowHasLine, rowBy, rowHalved, lowRowTaken, RowStands}
+use Rattle.level.specs.Stretch.{slot, rowPlace, local, rowOfSet, halfPlace, bandFed, rowIn, rowHasLine, rowBy, rowHalved, lowRowTaken, RowStands}
+use Rattle.level.specs.Stretch.{rowUnlifted}
 
 -- ---- slots
 module _ (m : ℕ) where
@@ -156,7 +157,8 @@ module _ {m : ℕ} (some : 0 < m) where
     only-unlifted = only-splice (W .length) q _ _ (omega arith) (omega arith) _ x
 
     -- the row becomes what is made of it in place
-    pub unlifted-by : (p : Half → ℕ → ℤ) → back W (rowIn m (W .length) q x) ≡ inHalves W p (rowIn m (W .length) q x) → RowStands m W (rowUnlifted m back W q x) q p
+    pub unlifted-by : (p : Half → ℕ → ℤ) → back W (rowIn m (W .length) q x) ≡ inHalves W p (rowIn m (W .length) q x) →
+        RowStands m W (rowUnlifted m back W q x) q p
     unfolding rowUnlifted
     unlifted-by p is h i b =
         let f : rowPlace m (W .length) q + (halfPlace h W + i) - rowPlace m (W .length) q ≡ (halfPlace h W + i) = omega arith in

@@ -46,7 +46,8 @@ module _ {m : ℕ} (some : 0 < m) where
         record { same = λ j h. ap (λ (f : ℕ → ℤ). f j) (at-put a k l ys long room) ∙ splice-past a k (at ys) (at l) j (omega arith) }
 
     -- lifted back
-    lifted : (back : Side → (ℕ → ℤ) → ℕ → ℤ) (x r : ℕ) (y z : ℕ → ℤ) (t : Bool) → rowHasLine m (side x w) q (at l) ≡ t → r ≡ pick t 0 14 → z ≡ spliced a k y (at l) →
+    lifted : (back : Side → (ℕ → ℤ) → ℕ → ℤ) (x r : ℕ) (y z : ℕ → ℤ) (t : Bool) → rowHasLine m (side x w) q (at l) ≡ t → r ≡ pick t 0 14 →
+        z ≡ spliced a k y (at l) →
         y ≡ pick t (back (side x w) (rowIn m w q (at l))) (rowIn m w q (at l)) →
         outcome (eqb r 0) z ≡ outcome t (rowUnlifted m back (side x w) q (at l))
     unfolding rowUnlifted

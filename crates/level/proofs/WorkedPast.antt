@@ -77,7 +77,8 @@ module _ {m : ℕ} (some : 0 < m) (W H : Side) where
       (stretch.rowIsEven m (W .length) q x)
 
   -- a set made, its low-low row taken first
-  pub taken-past : (f : (ℕ → ℤ) → Tried) → ((x : ℕ → ℤ) → Keeps room x (f x)) → (last : Bool) (n : ℕ) (x : ℕ → ℤ) → Keeps room x (f (stretch.lowTaken m last W H n x))
+  pub taken-past : (f : (ℕ → ℤ) → Tried) → ((x : ℕ → ℤ) → Keeps room x (f x)) → (last : Bool) (n : ℕ) (x : ℕ → ℤ) →
+      Keeps room x (f (stretch.lowTaken m last W H n x))
   unfolding stretch.lowTaken
   taken-past f g true n x = g x
   taken-past f g false n x = go (hasLow H n)
@@ -94,7 +95,8 @@ module _ (k : ℕ) (W H : Side) where
   even-past : (n : ℕ) (x : ℕ → ℤ) → Keeps four-rows x (evenMade admitted k (W .length) H n x)
   unfolding evenMade
   even-past n x =
-      either four-rows x _ _ (admits four-rows 4 fiveThreeFilter k (W .length) (2 * n) x (evenRow (W .length) H n x) (even-kept (W .length) H n x)) (stays four W H x) (hasLow H n)
+      either four-rows x _ _ (admits four-rows 4 fiveThreeFilter k (W .length) (2 * n) x (evenRow (W .length) H n x) (even-kept (W .length) H n x))
+      (stays four W H x) (hasLow H n)
 
   odd-past : (n : ℕ) (x : ℕ → ℤ) → Keeps four-rows x (oddMade admitted k (W .length) H n x)
   unfolding oddMade

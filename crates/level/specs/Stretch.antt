@@ -1,6 +1,7 @@
 -- A level's stretch of the line store on the way back: m rows of as many numbers as it has columns, each in halves. The level's rows are told by their
--- coordinates past the last even coordinate that is not after its start: row r is at start % 2 + r, and set n has the rows at 2n (low) and 2n + 1 (high). The row
--- at q stands in slot q mod m: there its coefficients are collected, and there they become the row.
+-- coordinates past the last even coordinate that is not after its start: row r is at start % 2 + r, and set n has the rows at 2n (low) and 2n + 1 (high).
+-- The row at q stands in slot q mod m: there its coefficients are collected, and there they become the row. The 5/3 has four rows (document 01), the integer
+-- 9/7 eight (document 02, Q-8).
 use mathlib.Core.Path.{_≡_}
 use mathlib.Core.Bool.{Bool, true}
 use Prim.Native.Nat.{ℕ, _+_, _-_, _*_, _%_, _<_}

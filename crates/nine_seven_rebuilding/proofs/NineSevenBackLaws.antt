@@ -186,7 +186,8 @@ module _ (W H : Side) (p : Band → Grid) (n : ℕ) where
             x (8 * W .length + (rowPlace (count lo W) (local (next H .start) (n - firstSet H lo)) + (halfPlace a (next W) + i))) ≡
             parted (next W) (p LL (n - firstSet H lo)) a i
         unfolding next
-        low-halves a i b = half-reads eight (next W) (λ j. x (8 * W .length + j)) (local (next H .start) (n - firstSet H lo)) (p LL (n - firstSet H lo)) low a i b
+        low-halves a i b =
+            half-reads eight (next W) (λ j. x (8 * W .length + j)) (local (next H .start) (n - firstSet H lo)) (p LL (n - firstSet H lo)) low a i b
 
         got-taken : (c : Band) → Got taken c
         unfolding across down rowOfSet setRow

@@ -398,7 +398,8 @@ module _ (k : ℕ) (W H : Side) (p : Band → Grid) where
         let o = only-odd m x in
         record {
           lines = s .lines;
-          even = λ i b c d. is-old eight W (2 * m + 1) x _ (2 * i) _ o (apart 8 (2 * m + 1) (2 * i) (λ z. omega arith) (omega (arith, g .2)) (omega (arith, g .4)))
+          even = λ i b c d. is-old eight W (2 * m + 1) x _ (2 * i) _ o
+              (apart 8 (2 * m + 1) (2 * i) (λ z. omega arith) (omega (arith, g .2)) (omega (arith, g .4)))
               (s .even i b c d);
           odd = λ i b c d. elim (ℕ-discrete i m) [
             | yes z ↦ rw z (odd-is-made n m x g s)

@@ -44,7 +44,8 @@ module _ (k : ℕ) (W H : Side) where
   unfolding lastMade
   last-past n x =
       either room x _ _
-      (either room x _ _ (lone-past eight W H nineSevenFilter k (2 * n + 1) x) (admits room 8 nineSevenFilter k w (2 * n + 1) x (oddRow w H (2 * n + 1) x) (odd-kept w H (2 * n + 1) x)) (loneHigh H))
+      (either room x _ _ (lone-past eight W H nineSevenFilter k (2 * n + 1) x)
+      (admits room 8 nineSevenFilter k w (2 * n + 1) x (oddRow w H (2 * n + 1) x) (odd-kept w H (2 * n + 1) x)) (loneHigh H))
       (stays eight W H x) (ltb (2 * n + 1) (endOf H))
 
   rest-past : (n : ℕ) (x : ℕ → ℤ) → Keeps room x (restMade k w H n x)
@@ -57,7 +58,9 @@ module _ (k : ℕ) (W H : Side) where
 
   set-past : (n : ℕ) (x : ℕ → ℤ) → Keeps room x (setMade k W H n x)
   unfolding setMade
-  set-past n x = bound room x _ _ (rows-past eight W H unliftedInPlace n x) (λ y. after room y (evenDone w H n y) _ (done-kept w H n y) (made-past n (evenDone w H n y)))
+  set-past n x =
+      bound room x _ _ (rows-past eight W H unliftedInPlace n x)
+      (λ y. after room y (evenDone w H n y) _ (done-kept w H n y) (made-past n (evenDone w H n y)))
 
   pub worked-past : (last : Bool) (n : ℕ) (x : ℕ → ℤ) → Keeps room x (setWorked last k W H n x)
   unfolding setWorked

@@ -12,7 +12,9 @@ use Rattle.level.proofs.rebuilding.can_work.Tie as tie
 
 returns : tie.Need-returns
 unfolding maxLevels
-returns c = let a = c .before .args in not-workable maxLevels 4 (a .last) (a .k) (side (a .x) (a .w)) (side (a .y) (a .h)) (a .n) (a .length) (λ f. omega (arith, f .0))
+returns c =
+    let a = c .before .args in
+    not-workable maxLevels 4 (a .last) (a .k) (side (a .x) (a .w)) (side (a .y) (a .h)) (a .n) (a .length) (λ f. omega (arith, f .0))
 
 returns-2 : tie.Need-returns-2
 returns-2 c =
@@ -30,7 +32,8 @@ has-set-requires c κs = omega arith
 returns-4 : tie.Need-returns-4
 returns-4 c =
     let a = c .before .before .before .before .before .args in
-    no-set maxLevels 4 (a .last) (a .k) (side (a .x) (a .w)) (side (a .y) (a .h)) (a .n) (a .length) (sym (c .before .has-set .ensures) ∙ not-true _ (c .if4 .taken))
+    no-set maxLevels 4 (a .last) (a .k) (side (a .x) (a .w)) (side (a .y) (a .h)) (a .n) (a .length)
+    (sym (c .before .has-set .ensures) ∙ not-true _ (c .if4 .taken))
 
 work-length-requires : tie.Need-work-length-requires
 work-length-requires c κs = omega arith
