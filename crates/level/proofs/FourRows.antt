@@ -20,6 +20,9 @@ use Rattle.level.proofs.SlotLaws.{row-by}
 pub four : 0 < 4
 four = omega arith
 
+pub many : 1 < 4
+many = omega arith
+
 -- rows two apart have two slots, and so have an even and an odd row
 pub apart : (r q : ℕ) → q ≡ r + 2 → slot r ≡ slot q → ⊥
 apart r q e = rows.apart 4 r q (λ z. omega arith) (omega arith) (omega arith)

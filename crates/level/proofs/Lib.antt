@@ -14,6 +14,8 @@ pub mod OpenedSets
 pub mod RowsIn
 pub mod SlotLaws
 pub mod FourRows
+pub mod BandsIn
+pub mod TriedRows
 pub mod AdmitLaws
 pub mod WorkLaws
 pub mod KeptLaws

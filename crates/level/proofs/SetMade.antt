@@ -8,76 +8,36 @@ use native.Mathlib.Decide.{ℕ-discrete, decLt}
 use native.Mathlib.Omega.{arith}
 use lib.IntN.{ℤ}
 use lib.Signed.{shrZ}
-use lib.Dec.{T, ltb, leb, eqb}
+use lib.Dec.{ltb, leb, eqb}
 use borrow.Author.Tests.{lt-ltb, le-ltb, le-leb, lt-leb, eq-eqb, ne-eqb}
 use Rattle.numbers.specs.Signal.{pick}
-use Rattle.numbers.specs.Tests.{every}
 use Rattle.numbers.specs.Word.{wrap32}
-use Rattle.numbers.proofs.Sweep.{both as both-hold}
 use Rattle.numbers.proofs.TestLaws.{every-each, each-every}
 use Rattle.lifting.specs.Line.{Half, lo, hi, unupdated, unpredicted}
 use Rattle.lifting.specs.Grid.{Side, place, count, parted, lineHalvesBack, lineBack, loneHigh, isEven, hasLine}
 use Rattle.lifting.specs.GridHalves.{unliftedInPlace}
 use Rattle.lifting.specs.Passes.{near}
-use Rattle.lifting.proofs.GridLaws.{place-in, in-place, by-place, joined-place, even-near, odd-near, even-one, odd-one}
+use Rattle.lifting.proofs.GridLaws.{place-in, joined-place, even-near, odd-near, even-one, odd-one}
 use Rattle.lifting.proofs.LoneLaws.{lone-high, lone-odd, has-lone, has-other}
-use Rattle.lifting.specs.Filter.{Filter}
 use Rattle.lifting.specs.FiveThree.{fiveThreeFilter}
-use Rattle.wavelet.specs.Bands.{Grid, Band, bandOf, rowsUnlifted, levelBack, rowsHave, columnsHave, levelHas}
+use Rattle.wavelet.specs.Bands.{Grid, Band, bandOf, rowsUnlifted, levelBack}
 use Rattle.wavelet.specs.Maps.{valueFits}
 use Rattle.wavelet.specs.Order.{firstSet, lastSet}
 use Rattle.wavelet.specs.Steps.{setOf}
 use Rattle.wavelet.proofs.StepLaws.{set-one}
-use Rattle.level.specs.Tried.{Tried, failed, passed, bind}
+use Rattle.level.specs.Tried.{failed, passed}
 use Rattle.level.specs.Stretch as stretch
-use Rattle.level.specs.Slots.{rowPlace, local, rowUnlifted, rowHasLine, rowBy, rowHalved, rowIsEven, halfPlace}
+use Rattle.level.specs.Slots.{local, rowUnlifted, rowHasLine, rowBy, rowHalved, rowIsEven}
 use Rattle.level.specs.Stands.{RowStands as Is, SetHas, SetLeaves}
-use Rattle.level.specs.Work.{endOf, hasLow, lowNear, highNear, lineTried, lowTried, highTried, setUnlifted, evenRow, oddRow, rowFits, admitted}
+use Rattle.level.specs.Work.{endOf, hasLow, lowNear, highNear, lineTried, lowTried, highTried, setUnlifted, evenRow, oddRow, admitted}
 use Rattle.level.specs.Work.{evenMade, oddMade, loneMade, lastMade, rowsMade, setMade}
-use Rattle.level.proofs.RowsIn.{Only, only-by, is-old, only-unlifted, line-is, by-is, only-halved, halved-is, half-inside, by-halves}
+use Rattle.level.proofs.RowsIn.{Only, only-by, is-old, only-unlifted, line-is, by-is, only-halved, halved-is}
+pub use Rattle.level.proofs.TriedRows.{Outcome, stops, goes, bind-outcome, FitAllBy}
+use Rattle.level.proofs.TriedRows.{not-false, has-row, has-column, each-stands, stands-each, admit}
 use Rattle.level.proofs.FourRows.{four, apart, parity, unlifted-is}
-
--- ---- what trying comes to: a memory with a property, or a value that does not fit where N says that all do
-pub data Outcome (N : Type 0) (P : (ℕ → ℤ) → Type 0) : Tried → Type 0 where
-  stops : (N → ⊥) → Outcome N P failed
-  goes : (y : ℕ → ℤ) → P y → Outcome N P (passed y)
-
-pub bind-outcome : {N : Type 0} {P Q : (ℕ → ℤ) → Type 0} (t : Tried) (f : (ℕ → ℤ) → Tried) → Outcome N P t → ((y : ℕ → ℤ) → P y → Outcome N Q (f y)) →
-    Outcome N Q (bind t f)
-unfolding bind
-bind-outcome _ f (stops n) g = stops n
-bind-outcome _ f (goes y p) g = g y p
-
-not-false : (t : Bool) → t ≡ true → t ≡ false → ⊥
-not-false t e f = subst T (sym e ∙ f) tt
-
--- every value of the way back fits as a low-low value of level k, and none that is halved is odd
-pub record FitAllBy (F : Filter) (k : ℕ) (W H : Side) (p : Band → Grid) : Type 0 where
-  pub has : levelHas F W H p ≡ true
-  pub fit : (r c : ℕ) → r < H .length → c < W .length → valueFits F k (levelBack F wrap32 W H p r c) ≡ true
 
 abbrev pub FitAll : ℕ → Side → Side → (Band → Grid) → Type 0
 FitAll = FitAllBy fiveThreeFilter
-
-pub has-row : (W H : Side) (p : Band → Grid) → levelHas fiveThreeFilter W H p ≡ true → (h : Half) (r : ℕ) → r < count h H
-    → hasLine W (λ a. p (bandOf a h) r) ≡ true
-unfolding levelHas rowsHave
-has-row W H p e = go
-  where
-    lines : (h : Half) → ℕ → Bool
-    lines h r = hasLine W (λ a. p (bandOf a h) r)
-
-    rows : (every (count lo H) (lines lo) ≡ true) × (every (count hi H) (lines hi) ≡ true)
-    rows = both-hold (every (count lo H) (lines lo)) (every (count hi H) (lines hi)) (both-hold (rowsHave W H p) (columnsHave fiveThreeFilter W H p) e .0)
-
-    go : (h : Half) (r : ℕ) → r < count h H → lines h r ≡ true
-    go lo r b = every-each (count lo H) (lines lo) (rows .0) r b
-    go hi r b = every-each (count hi H) (lines hi) (rows .1) r b
-
-pub has-column : (W H : Side) (p : Band → Grid) → levelHas fiveThreeFilter W H p ≡ true → (c : ℕ) → c < W .length →
-    hasLine H (λ h i. rowsUnlifted fiveThreeFilter wrap32 W p h i c) ≡ true
-unfolding levelHas columnsHave
-has-column W H p e c b = every-each (W .length) _ (both-hold (rowsHave W H p) (columnsHave fiveThreeFilter W H p) e .1) c b
 
 -- ---- one level: the bands p of the columns W and the rows H, whose rows are low-low values of level k
 module _ (k : ℕ) (W H : Side) (p : Band → Grid) where
@@ -173,35 +133,6 @@ module _ (k : ℕ) (W H : Side) (p : Band → Grid) where
   same-row : (x : ℕ → ℤ) (q : ℕ) (r₁ r₂ : ℕ → ℤ) → ((c : ℕ) → c < W .length → r₁ c ≡ r₂ c) → Is W x q (parted W r₁) → Is W x q (parted W r₂)
   same-row x q r₁ r₂ e s a i b = s a i b ∙ by-columns (λ v _ _. v) r₁ r₁ r₁ r₂ e a i b
 
-  -- ---- a test of every number of a row, of those that stand there
-  fits-parted : (row : ℕ → ℤ) (P : ℤ → Bool) → ((a : Half) (i : ℕ) → i < count a W → P (parted W row a i) ≡ true) → (c : ℕ) → c < W .length → P (row c) ≡ true
-  unfolding parted
-  fits-parted row P f = by-place W (λ c. c < W .length → P (row c) ≡ true) (λ a i b. f a i (in-place W a i b))
-
-  each-stands : (P : ℤ → Bool) (q : ℕ) (x row : ℕ → ℤ) → Is W x q (parted W row) →
-      ((i : ℕ) → i < W .length → P (x (rowPlace (W .length) q + i)) ≡ true) →
-      (c : ℕ) → c < W .length → P (row c) ≡ true
-  each-stands P q x row s f = fits-parted row P (λ a i b. subst (λ v. P v ≡ true) (s a i b) (f (halfPlace a W + i) (half-inside a W i b)))
-
-  stands-each : (P : ℤ → Bool) (q : ℕ) (x row : ℕ → ℤ) → Is W x q (parted W row) → ((c : ℕ) → c < W .length → P (row c) ≡ true) →
-      (i : ℕ) → i < W .length →
-      P (x (rowPlace (W .length) q + i)) ≡ true
-  unfolding parted
-  stands-each P q x row s f =
-      by-halves W (λ j. P (x (rowPlace (W .length) q + j)) ≡ true)
-      (λ a i b. subst (λ v. P v ≡ true) (sym (s a i b)) (f (place W a i) (place-in W a i b)))
-
-  -- ---- the test of 14
-  admit : (P : (ℕ → ℤ) → Type 0) (q r : ℕ) (x : ℕ → ℤ) → r < H .length → Is W x q (parted W (G r)) → (FitRow r → P x) →
-      Outcome (FitAll k W H p) P (admitted k (W .length) q x)
-  unfolding stretch.admitted stretch.rowFits
-  admit P q r x b s f = go (rowFits k (W .length) q x) refl
-    where
-      go : (t : Bool) → rowFits k (W .length) q x ≡ t → Outcome (FitAll k W H p) P (pick t (passed x) failed)
-      go true e = goes x (f (each-stands (valueFits fiveThreeFilter k) q x (G r) s (every-each (W .length) _ e)))
-      go false e = stops (λ all. not-false (rowFits k (W .length) q x)
-          (each-every (W .length) _ (stands-each (valueFits fiveThreeFilter k) q x (G r) s (λ c u. all .fit r c b u))) e)
-
   -- ---- what a set needs
   pub record Needs (n : ℕ) (x : ℕ → ℤ) : Type 0 where
     pub low : b₀ ≤ n → Is W x (2 * n) (λ a. p (bandOf a lo) (n - b₀))
@@ -245,7 +176,7 @@ module _ (k : ℕ) (W H : Side) (p : Band → Grid) where
       where
         go : (t : Bool) → rowHasLine W q x ≡ t → Outcome (FitAll k W H p) P (pick t (passed (rowUnlifted W q x)) failed)
         go true e = goes (rowUnlifted W q x) (f (sym (line-is four W q x _ s) ∙ e) (unlifted-is W q x _ s))
-        go false e = stops (λ all. not-false (rowHasLine W q x) (line-is four W q x _ s ∙ has-row W H p (all .has) h r b) e)
+        go false e = stops (λ all. not-false (rowHasLine W q x) (line-is four W q x _ s ∙ has-row fiveThreeFilter W H p (all .has) h r b) e)
 
     -- the low row lifted back
     record Low (n : ℕ) (x : ℕ → ℤ) : Type 0 where
@@ -399,7 +330,7 @@ module _ (k : ℕ) (W H : Side) (p : Band → Grid) where
             let b : b₀ ≤ n = omega arith in
             let e = evened n x g l b s in
             rw (le-leb b₀ n b)
-            (admit (Even n) (2 * n) (2 * n - b₀) _ (low-in n g l b) (e .even n b (omega arith) (omega arith)) (λ f. record {
+            (admit fiveThreeFilter 4 k W H p (Even n) (2 * n) (2 * n - b₀) _ (low-in n g l b) (e .even n b (omega arith) (omega arith)) (λ f. record {
               lines = s .lines;
               rows = e;
               fit = λ _. f;
@@ -455,7 +386,7 @@ module _ (k : ℕ) (W H : Side) (p : Band → Grid) where
     })
     odd-made (suc m) x g l s =
         let o = only-odd m x in
-        admit (Most (suc m)) (2 * m + 1) (2 * m + 1 - b₀) (oddRow (W .length) H m x) (near-two m g l .2) made (λ f. record {
+        admit fiveThreeFilter 4 k W H p (Most (suc m)) (2 * m + 1) (2 * m + 1 - b₀) (oddRow (W .length) H m x) (near-two m g l .2) made (λ f. record {
           lines = s .lines;
           even = λ b. is-old four W (2 * m + 1) x _ (2 * suc m) _ o (λ z. parity (2 * suc m) (2 * m + 1) (suc m) m (omega arith) (omega arith) (sym z))
               (s .rows .even (suc m) b (omega arith) (omega arith));
@@ -564,7 +495,7 @@ module _ (k : ℕ) (W H : Side) (p : Band → Grid) where
     beside-made : (n : ℕ) (x : ℕ → ℤ) → 0 < H .length → 2 * n + 2 ≡ endOf H → loneHigh H ≡ false → Most n x →
         Outcome (FitAll k W H p) (Worked n) (admitted k (W .length) (2 * n + 1) (oddRow (W .length) H n x))
     beside-made n x g e f s =
-        admit (Worked n) (2 * n + 1) (2 * n + 1 - b₀) y (last-in n g e .1) last (λ t. (
+        admit fiveThreeFilter 4 k W H p (Worked n) (2 * n + 1) (2 * n + 1 - b₀) y (last-in n g e .1) last (λ t. (
           record {
             made = made-by n y
                 (λ b. is-old four W (2 * n + 1) x y (2 * n) _ o (λ z. parity (2 * n) (2 * n + 1) n n (omega arith) (omega arith) (sym z)) (s .even b))
@@ -621,7 +552,7 @@ module _ (k : ℕ) (W H : Side) (p : Band → Grid) where
         go : (t : Bool) → rowIsEven (W .length) (2 * n + 1) x ≡ t →
             Outcome (FitAll k W H p) (Worked n) (pick t (admitted k (W .length) (2 * n + 1) y) failed)
         go true even =
-            admit (Worked n) (2 * n + 1) (2 * n + 1 - b₀) y (last-in n g e .1) last (λ t. (
+            admit fiveThreeFilter 4 k W H p (Worked n) (2 * n + 1) (2 * n + 1 - b₀) y (last-in n g e .1) last (λ t. (
               record {
                 made = made-by n y
                     (λ b. is-old four W (2 * n + 1) x y (2 * n) _ o (λ z. parity (2 * n) (2 * n + 1) n n (omega arith) (omega arith) (sym z)) (s .even b))
@@ -629,12 +560,13 @@ module _ (k : ℕ) (W H : Side) (p : Band → Grid) where
                     (λ _. last);
                 fit = by-set FitRow n (s .even-fit) (s .odd-fit) (λ _. t);
                 high = λ l. absurd (omega arith);
-                has = has-of n (s .lines) (λ c v. column c ∙ each-stands isEven (2 * n + 1) x (cols hi n) high (every-each (W .length) _ even) c v);
+                has = has-of n (s .lines) (λ c v. column c ∙ each-stands 4 W isEven (2 * n + 1) x (cols hi n) high (every-each (W .length) _ even) c v);
               },
               λ j q. o .past j q ∙ s .past j q,
             ))
         go false odd = stops (λ all. not-false (rowIsEven (W .length) (2 * n + 1) x)
-            (each-every (W .length) _ (stands-each isEven (2 * n + 1) x (cols hi n) high (λ c v. sym (column c) ∙ has-column W H p (all .has) c v))) odd)
+            (each-every (W .length) _ (stands-each 4 W isEven (2 * n + 1) x (cols hi n) high
+            (λ c v. sym (column c) ∙ has-column fiveThreeFilter W H p (all .has) c v))) odd)
 
     none-lone : (n : ℕ) → n ≤ lastSet H → (2 * n + 2 ≡ endOf H → ⊥) → loneHigh H ≡ true → ⊥
     unfolding lastSet endOf count

@@ -27,6 +27,9 @@ use Rattle.nine_seven_rebuilding.specs.Work.{rowBefore, rowAfter, evenRo
 pub eight : 0 < 8
 eight = omega arith
 
+pub many : 1 < 8
+many = omega arith
+
 -- the two bands of a row become the line that has them
 pub unlifted-is : (W : Side) (q : ℕ) (x : ℕ → ℤ) (c : Half → ℕ → ℤ) → RowStands W x q c → RowStands W (rowUnlifted W q x) q (parted W (lineBack wrap32 W c))
 unfolding unliftedInPlace parted lineBack

@@ -8,35 +8,33 @@ use native.Mathlib.Decide.{ℕ-discrete, decLt}
 use native.Mathlib.Omega.{arith}
 use lib.IntN.{ℤ}
 use lib.Signed.{shrZ}
-use lib.Dec.{T, ltb, leb, eqb}
+use lib.Dec.{ltb, leb, eqb}
 use borrow.Author.Tests.{lt-ltb, le-ltb, le-leb, lt-leb, eq-eqb, ne-eqb}
 use Rattle.numbers.specs.Signal.{pick}
-use Rattle.numbers.specs.Tests.{every}
 use Rattle.numbers.specs.Word.{wrap32}
-use Rattle.numbers.proofs.Sweep.{both as both-hold}
 use Rattle.numbers.proofs.TestLaws.{every-each, each-every}
 use Rattle.lifting.specs.Line.{Half, lo, hi}
 use Rattle.lifting.specs.Grid.{Side, place, count, parted, loneHigh, isEven, hasLine}
-use Rattle.lifting.proofs.GridLaws.{place-in, in-place, by-place, joined-place}
+use Rattle.lifting.proofs.GridLaws.{place-in, joined-place}
 use Rattle.lifting.proofs.LoneLaws.{lone-high, has-lone, has-other}
 use Rattle.lifting.proofs.Neighbours.{left, right}
 use Rattle.nine_seven.specs.NineSeven.{unupdated, unpredicted, lineHalvesBack, lineBack}
 use Rattle.nine_seven.specs.Memory.{unliftedInPlace}
 use Rattle.nine_seven.proofs.MirrorLaws.{farBefore, farAfter}
 use Rattle.nine_seven.proofs.NineSevenLaws.{even-near, odd-near, even-one, odd-one}
-use Rattle.wavelet.specs.Bands.{Grid, Band, bandOf, rowsHave, rowsUnlifted, levelBack, columnsHave, levelHas}
+use Rattle.wavelet.specs.Bands.{Grid, Band, bandOf, rowsUnlifted, levelBack}
 use Rattle.wavelet.specs.Order.{firstSet, lastSet}
 use Rattle.level.specs.Tried.{Tried, failed, passed, bind}
 use Rattle.level.specs.Stretch as stretch
-use Rattle.level.specs.Stretch.{local, halfPlace, endOf, hasLow}
+use Rattle.level.specs.Stretch.{local, endOf, hasLow}
 use Rattle.level.specs.Stands.{SetHasBy}
-use Rattle.level.proofs.RowsIn.{apart, Only, only-by, is-old, only-unlifted, line-is, by-is, only-halved, halved-is, half-inside, by-halves}
-use Rattle.level.proofs.SetMade.{Outcome, FitAllBy, stops, goes, bind-outcome}
+use Rattle.level.proofs.RowsIn.{apart, Only, only-by, is-old, only-unlifted, line-is, by-is, only-halved, halved-is}
+use Rattle.level.proofs.TriedRows.{Outcome, FitAllBy, stops, goes, bind-outcome, not-false, has-row, has-column, each-stands, stands-each, admit}
 use Rattle.wavelet.specs.Maps.{valueFits}
 use Rattle.wavelet.specs.Steps.{setOf}
 use Rattle.nine_seven.specs.NineSevenFilter.{nineSevenFilter}
-use Rattle.nine_seven_rebuilding.specs.Slots.{rowPlace, rowUnlifted, rowHasLine, rowByTwo, rowHalved, rowIsEven}
-use Rattle.nine_seven_rebuilding.specs.Work.{rowBefore, rowAfter, lineTried, lowTried, highTried, setUnlifted, evenRow, oddRow, evenDone, rowFits}
+use Rattle.nine_seven_rebuilding.specs.Slots.{rowUnlifted, rowHasLine, rowByTwo, rowHalved, rowIsEven}
+use Rattle.nine_seven_rebuilding.specs.Work.{rowBefore, rowAfter, lineTried, lowTried, highTried, setUnlifted, evenRow, oddRow, evenDone}
 use Rattle.nine_seven_rebuilding.specs.Work.{admitted, pairMade, firstMade, earlierPair, earlierMade, ownMade, loneMade, lastMade, restMade}
 use Rattle.nine_seven_rebuilding.specs.Work.{rowsMade, setMade}
 use Rattle.nine_seven_rebuilding.specs.Stands.{RowStands as Is, SetBefore, SetLeaves}
@@ -45,33 +43,11 @@ use Rattle.nine_seven_rebuilding.proofs.RowSets.{low-before, low-after,
 use Rattle.nine_seven_rebuilding.proofs.RowSets.{before-in, after-in, evens-in, set-low, set-high, set-first}
 use Rattle.nine_seven_rebuilding.proofs.EightRows.{eight, only-four, four-is, unlifted-is}
 
-not-false : (t : Bool) → t ≡ true → t ≡ false → ⊥
-not-false t e f = subst T (sym e ∙ f) tt
-
 abbrev FitAll : ℕ → Side → Side → (Band → Grid) → Type 0
 FitAll = FitAllBy nineSevenFilter
 
 abbrev SetHas : Side → Side → (Band → Grid) → ℕ → Type 0
 SetHas = SetHasBy nineSevenFilter 2
-
-has-row : (W H : Side) (p : Band → Grid) → levelHas nineSevenFilter W H p ≡ true → (h : Half) (r : ℕ) → r < count h H → hasLine W (λ a. p (bandOf a h) r) ≡ true
-unfolding levelHas rowsHave
-has-row W H p e = go
-  where
-    lines : (h : Half) → ℕ → Bool
-    lines h r = hasLine W (λ a. p (bandOf a h) r)
-
-    rows : (every (count lo H) (lines lo) ≡ true) × (every (count hi H) (lines hi) ≡ true)
-    rows = both-hold (every (count lo H) (lines lo)) (every (count hi H) (lines hi)) (both-hold (rowsHave W H p) (columnsHave nineSevenFilter W H p) e .0)
-
-    go : (h : Half) (r : ℕ) → r < count h H → lines h r ≡ true
-    go lo r b = every-each (count lo H) (lines lo) (rows .0) r b
-    go hi r b = every-each (count hi H) (lines hi) (rows .1) r b
-
-has-column : (W H : Side) (p : Band → Grid) → levelHas nineSevenFilter W H p ≡ true → (c : ℕ) → c < W .length →
-    hasLine H (λ h i. rowsUnlifted nineSevenFilter wrap32 W p h i c) ≡ true
-unfolding levelHas columnsHave
-has-column W H p e c b = every-each (W .length) _ (both-hold (rowsHave W H p) (columnsHave nineSevenFilter W H p) e .1) c b
 
 -- ---- one level: the bands p of the columns W and the rows H, whose rows are low-low values of level k
 module _ (k : ℕ) (W H : Side) (p : Band → Grid) where
@@ -149,35 +125,6 @@ module _ (k : ℕ) (W H : Side) (p : Band → Grid) where
   moved : (x : ℕ → ℤ) (q t : ℕ) (v : ℕ → ℤ) → q ≡ t → Is W x t (parted W v) → Is W x q (parted W v)
   moved x q t v e s = subst (λ (j : ℕ). Is W x j (parted W v)) (sym e) s
 
-  -- ---- a test of every number of a row, of those that stand there
-  fits-parted : (row : ℕ → ℤ) (P : ℤ → Bool) → ((a : Half) (i : ℕ) → i < count a W → P (parted W row a i) ≡ true) → (c : ℕ) → c < W .length → P (row c) ≡ true
-  unfolding parted
-  fits-parted row P f = by-place W (λ c. c < W .length → P (row c) ≡ true) (λ a i b. f a i (in-place W a i b))
-
-  each-stands : (P : ℤ → Bool) (q : ℕ) (x row : ℕ → ℤ) → Is W x q (parted W row) →
-      ((i : ℕ) → i < W .length → P (x (rowPlace (W .length) q + i)) ≡ true) →
-      (c : ℕ) → c < W .length → P (row c) ≡ true
-  each-stands P q x row s f = fits-parted row P (λ a i b. subst (λ v. P v ≡ true) (s a i b) (f (halfPlace a W + i) (half-inside a W i b)))
-
-  stands-each : (P : ℤ → Bool) (q : ℕ) (x row : ℕ → ℤ) → Is W x q (parted W row) → ((c : ℕ) → c < W .length → P (row c) ≡ true) →
-      (i : ℕ) → i < W .length →
-      P (x (rowPlace (W .length) q + i)) ≡ true
-  unfolding parted
-  stands-each P q x row s f =
-      by-halves W (λ j. P (x (rowPlace (W .length) q + j)) ≡ true)
-      (λ a i b. subst (λ v. P v ≡ true) (sym (s a i b)) (f (place W a i) (place-in W a i b)))
-
-  -- ---- the test of 14
-  admit : (P : (ℕ → ℤ) → Type 0) (q r : ℕ) (x : ℕ → ℤ) → r < H .length → Is W x q (parted W (G r)) → (FitRow r → P x) →
-      Outcome (FitAll k W H p) P (admitted k (W .length) q x)
-  unfolding stretch.admitted stretch.rowFits
-  admit P q r x b s f = go (rowFits k (W .length) q x) refl
-    where
-      go : (t : Bool) → rowFits k (W .length) q x ≡ t → Outcome (FitAll k W H p) P (pick t (passed x) failed)
-      go true e = goes x (f (each-stands (valueFits nineSevenFilter k) q x (G r) s (every-each (W .length) _ e)))
-      go false e = stops (λ all. not-false (rowFits k (W .length) q x)
-          (each-every (W .length) _ (stands-each (valueFits nineSevenFilter k) q x (G r) s (λ c u. all .fit r c b u))) e)
-
   -- ---- what a set needs
   pub record Needs (n : ℕ) (x : ℕ → ℤ) : Type 0 where
     pub low : b₀ ≤ n → Is W x (2 * n) (λ a. p (bandOf a lo) (n - b₀))
@@ -225,7 +172,7 @@ module _ (k : ℕ) (W H : Side) (p : Band → Grid) where
       where
         go : (t : Bool) → rowHasLine W q x ≡ t → Outcome (FitAll k W H p) P (pick t (passed (rowUnlifted W q x)) failed)
         go true e = goes (rowUnlifted W q x) (f (sym (line-is eight W q x _ s) ∙ e) (unlifted-is W q x _ s))
-        go false e = stops (λ all. not-false (rowHasLine W q x) (line-is eight W q x _ s ∙ has-row W H p (all .has) h r b) e)
+        go false e = stops (λ all. not-false (rowHasLine W q x) (line-is eight W q x _ s ∙ has-row nineSevenFilter W H p (all .has) h r b) e)
 
     -- the low row lifted back
     record Low (n : ℕ) (x : ℕ → ℤ) : Type 0 where
@@ -443,10 +390,11 @@ module _ (k : ℕ) (W H : Side) (p : Band → Grid) where
     unfolding pairMade
     pair-made n f m x g u more s =
         bind-outcome (admitted k (W .length) (2 * m + 1) (oddRow (W .length) H (2 * m + 1) x)) _
-        (admit (λ y. Held n (suc m) y × FitRow (row (2 * m + 1))) (2 * m + 1) (row (2 * m + 1)) _
+        (admit nineSevenFilter 8 k W H p (λ y. Held n (suc m) y × FitRow (row (2 * m + 1))) (2 * m + 1) (row (2 * m + 1)) _
         (row-in (2 * m + 1) (omega (arith, g .3)) (omega (arith, few)))
         (h .odd m (g .0) (omega arith) (g .4)) (λ t. (h, t)))
-        (λ y e. admit (Stage n (suc m) (2 * m + 3)) (2 * m + 2) (row (2 * m + 2)) y (row-in (2 * m + 2) (omega (arith, g .3)) (omega (arith, few)))
+        (λ y e. admit nineSevenFilter 8 k W H p (Stage n (suc m) (2 * m + 3)) (2 * m + 2) (row (2 * m + 2)) y
+        (row-in (2 * m + 2) (omega (arith, g .3)) (omega (arith, few)))
         (rw twice (e .0 .even (suc m) (omega (arith, few)) u (omega (arith, g .4))))
         (λ t. record { held = e .0; fit = fit-pair n f m (s .fit) more (e .1) t }))
       where
@@ -471,7 +419,7 @@ module _ (k : ℕ) (W H : Side) (p : Band → Grid) where
         go (yes e) =
             let z = zero-row (omega arith) (omega arith) in
             rw (eq-eqb (H .start % 2 + n) 0 e)
-            (admit (Stage n (n - 2) 1) 0 (row 0) x (z .0) (s .even 0 (z .1) (omega arith) (omega arith)) (λ t. record {
+            (admit nineSevenFilter 8 k W H p (Stage n (n - 2) 1) 0 (row 0) x (z .0) (s .even 0 (z .1) (omega arith) (omega arith)) (λ t. record {
               held = s;
               fit = λ r b q u. subst FitRow (z .2 ∙ sym (at-zero n r q u .1)) t;
             }))
@@ -587,7 +535,8 @@ module _ (k : ℕ) (W H : Side) (p : Band → Grid) where
         Outcome (FitAll k W H p) (Worked n) (admitted k (W .length) (2 * n + 1) (oddRow (W .length) H (2 * n + 1) x))
     unfolding endOf
     beside-made n x g l e f s =
-        admit (Worked n) (2 * n + 1) (row (2 * n + 1)) _ (row-in (2 * n + 1) l (omega (arith, few))) (h .odd n (in-highs n l) (omega arith) (omega arith))
+        admit nineSevenFilter 8 k W H p (Worked n) (2 * n + 1) (row (2 * n + 1)) _ (row-in (2 * n + 1) l (omega (arith, few)))
+        (h .odd n (in-highs n l) (omega arith) (omega arith))
         (λ t. last-leaves n _ g e (record { held = h; fit = fit-last n 0 (s .fit) t }) (λ c _. has-other H _ f))
       where
         near : Near n n
@@ -643,11 +592,12 @@ module _ (k : ℕ) (W H : Side) (p : Band → Grid) where
         go : (t : Bool) → rowIsEven (W .length) (2 * n + 1) x ≡ t →
             Outcome (FitAll k W H p) (Worked n) (pick t (admitted k (W .length) (2 * n + 1) y) failed)
         go true even =
-            admit (Worked n) (2 * n + 1) (row (2 * n + 1)) y (row-in (2 * n + 1) l (omega (arith, few))) last
+            admit nineSevenFilter 8 k W H p (Worked n) (2 * n + 1) (row (2 * n + 1)) y (row-in (2 * n + 1) l (omega (arith, few))) last
             (λ t. last-leaves n y g e (record { held = held; fit = fit-last n 0 (s .fit) t })
-            (λ c v. column c ∙ each-stands isEven (2 * n + 1) x (cols hi n) high (every-each (W .length) _ even) c v))
+            (λ c v. column c ∙ each-stands 8 W isEven (2 * n + 1) x (cols hi n) high (every-each (W .length) _ even) c v))
         go false odd = stops (λ all. not-false (rowIsEven (W .length) (2 * n + 1) x)
-            (each-every (W .length) _ (stands-each isEven (2 * n + 1) x (cols hi n) high (λ c v. sym (column c) ∙ has-column W H p (all .has) c v))) odd)
+            (each-every (W .length) _ (stands-each 8 W isEven (2 * n + 1) x (cols hi n) high
+            (λ c v. sym (column c) ∙ has-column nineSevenFilter W H p (all .has) c v))) odd)
 
     -- no last row: the level ends with an even one
     no-lone : (n : ℕ) → endOf H ≤ 2 * n + 1 → 2 * n < endOf H → loneHigh H ≡ true → ⊥
