@@ -16,13 +16,21 @@ uint32_t kernel_unpredict_row(int32_t *area, size_t len, size_t stride, size_t w
 void kernel_lift(int32_t *line, size_t len, size_t start);
 uint32_t kernel_unlift(int32_t *line, size_t len, size_t start);
 
-enum { N = 2049, ROUNDS = 401, CALLS = 200, KINDS = 3 };
+/* and those of the integer 9/7 */
+uint32_t ccsds_predict_row(int32_t *area, size_t len, size_t stride, size_t width, size_t target, size_t left, size_t right, size_t before, size_t after);
+uint32_t ccsds_update_row(int32_t *area, size_t len, size_t stride, size_t width, size_t target, size_t left, size_t right);
+uint32_t ccsds_unupdate_row(int32_t *area, size_t len, size_t stride, size_t width, size_t target, size_t left, size_t right);
+uint32_t ccsds_unpredict_row(int32_t *area, size_t len, size_t stride, size_t width, size_t target, size_t left, size_t right, size_t before, size_t after);
+void ccsds_lift(int32_t *line, size_t len, size_t start);
+uint32_t ccsds_unlift(int32_t *line, size_t len, size_t start);
 
-static int32_t start[3 * N], area[KINDS][3 * N], line[N], out[KINDS][N];
+enum { N = 2049, ROWS = 5, ROUNDS = 401, CALLS = 200, KINDS = 3 };
 
-/* rows 0 and 2 are the neighbours of row 1; a line call works on row 1 alone */
+static int32_t start[ROWS * N], area[KINDS][ROWS * N], line[N], out[KINDS][N];
+
+/* rows 0 and 2 are the neighbours of row 1, rows 3 and 4 those beyond; a line call works on row 1 alone */
 #define ROW(name)                                                                                          \
-    static void proved_##name(int k) { kernel_##name(area[k], 3 * N, N, N, 1, 0, 2); }                     \
+    static void proved_##name(int k) { kernel_##name(area[k], ROWS * N, N, N, 1, 0, 2); }                  \
     static void whole_run_##name(int k) { whole_##name(area[k] + N, area[k], area[k] + 2 * N, N); }        \
     static void short_run_##name(int k) { short_##name(area[k] + N, area[k], area[k] + 2 * N, N); }
 #define LINE(name)                                                                                         \
@@ -33,6 +41,22 @@ static int32_t start[3 * N], area[KINDS][3 * N], line[N], out[KINDS][N];
     static void proved_##name(int k) { if (terrain_line_##name(line, N, 0, out[k], N)) exit(1); }             \
     static void whole_run_##name(int k) { whole_##name(line, out[k], N); }                                 \
     static void short_run_##name(int k) { short_##name(line, out[k], N); }
+#define BY_TWO_97(name)                                                                                    \
+    static void proved_##name##_97(int k) { ccsds_##name(area[k], ROWS * N, N, N, 1, 0, 2); }              \
+    static void whole_run_##name##_97(int k) { whole_##name##_97(area[k] + N, area[k], area[k] + 2 * N, N); } \
+    static void short_run_##name##_97(int k) { short_##name##_97(area[k] + N, area[k], area[k] + 2 * N, N); }
+#define BY_FOUR_97(name)                                                                                   \
+    static void proved_##name##_97(int k) { ccsds_##name(area[k], ROWS * N, N, N, 1, 0, 2, 3, 4); }        \
+    static void whole_run_##name##_97(int k) { whole_##name##_97(area[k] + N, area[k], area[k] + 2 * N, area[k] + 3 * N, area[k] + 4 * N, N); } \
+    static void short_run_##name##_97(int k) { short_##name##_97(area[k] + N, area[k], area[k] + 2 * N, area[k] + 3 * N, area[k] + 4 * N, N); }
+#define LINE_97(name)                                                                                      \
+    static void proved_##name##_97(int k) { ccsds_##name(area[k] + N, N, 0); }                             \
+    static void whole_run_##name##_97(int k) { whole_##name##_97(area[k] + N, N); }                        \
+    static void short_run_##name##_97(int k) { short_##name##_97(area[k] + N, N); }
+#define COPY_97(name)                                                                                      \
+    static void proved_##name##_97(int k) { if (terrain_ccsds_line_##name(line, N, 0, out[k], N)) exit(1); } \
+    static void whole_run_##name##_97(int k) { whole_##name##_97(line, out[k], N); }                       \
+    static void short_run_##name##_97(int k) { short_##name##_97(line, out[k], N); }
 
 ROW(predict_row)
 ROW(update_row)
@@ -42,6 +66,14 @@ LINE(lift)
 LINE(unlift)
 COPY(forward)
 COPY(backward)
+BY_FOUR_97(predict_row)
+BY_TWO_97(update_row)
+BY_TWO_97(unupdate_row)
+BY_FOUR_97(unpredict_row)
+LINE_97(lift)
+LINE_97(unlift)
+COPY_97(forward)
+COPY_97(backward)
 
 struct Call {
     const char *name;
@@ -54,6 +86,8 @@ struct Call {
 static const struct Call calls[] = {
     CALL(predict_row, 1.2), CALL(update_row, 1.2), CALL(unupdate_row, 1.2), CALL(unpredict_row, 1.2),
     CALL(lift, 1.5),        CALL(unlift, 1.5),     CALL(forward, 0),        CALL(backward, 0),
+    CALL(predict_row_97, 1.5), CALL(update_row_97, 1.5), CALL(unupdate_row_97, 1.5), CALL(unpredict_row_97, 1.5),
+    CALL(lift_97, 1.5),        CALL(unlift_97, 1.5),     CALL(forward_97, 0),        CALL(backward_97, 0),
 };
 enum { COUNT = sizeof calls / sizeof calls[0] };
 
@@ -71,7 +105,7 @@ static uint32_t next(void)
 
 static void fill(uint32_t mask)
 {
-    for (size_t i = 0; i < 3 * N; i++) start[i] = (int32_t)(next() & mask);
+    for (size_t i = 0; i < ROWS * N; i++) start[i] = (int32_t)(next() & mask);
     for (size_t i = 0; i < N; i++) line[i] = (int32_t)(next() & mask);
     for (int k = 0; k < KINDS; k++) {
         memcpy(area[k], start, sizeof start);
@@ -119,9 +153,9 @@ int main(void)
                 times[c][k][round] = (now() - from) / CALLS / N;
             }
     printf("ns a number at %d numbers, %d rounds of %d calls: median (best)\n", N, ROUNDS, CALLS);
-    printf("%-14s %17s %17s %17s  %s\n", "call", "proved", "C, 64-bit sums", "C, 32-bit sums", "proved / C (medians)");
+    printf("%-16s %17s %17s %17s  %s\n", "call", "proved", "C, 64-bit sums", "C, 32-bit sums", "proved / C (medians)");
     for (int c = 0; c < COUNT; c++) {
-        printf("%-14s", calls[c].name);
+        printf("%-16s", calls[c].name);
         for (int k = 0; k < KINDS; k++) {
             qsort(times[c][k], ROUNDS, sizeof(double), by_value);
             printf("   %6.3f (%5.3f)", times[c][k][ROUNDS / 2], times[c][k][0]);

@@ -2,10 +2,9 @@
    one plane of 32-bit numbers, without the questions, the tests and the zeroing. Every area has width times height numbers. */
 #ifndef MAPS_H
 #define MAPS_H
+#include "filter.h"
 #include <stddef.h>
 #include <stdint.h>
-
-enum { LEVELS = 5 };
 
 typedef void Forward(const uint16_t *heights, size_t W, size_t H, int32_t *plane, int32_t *work);
 typedef void Backward(const int32_t *plane, size_t W, size_t H, uint16_t *heights, int32_t *work);

@@ -75,7 +75,7 @@ static void square(size_t side)
     for (size_t i = 0; i < n; i++) heights[i] = (uint16_t)((seed = seed * 1664525u + 1013904223u) >> 16);
     for (int round = 0; round < ROUNDS; round++) {
         for (int origin = 0; origin < ORIGINS; origin++) {
-            terrain_shape map = terrain_shape_of(side, side, LEVELS);
+            terrain_shape map = shape_of(side, side);
             map.x = origin & 1, map.y = (uint16_t)(origin >> 1);
             measure(map, origin, round);
         }

@@ -5,10 +5,10 @@
 
 void proved_forward(const uint16_t *heights, size_t W, size_t H, int32_t *plane, int32_t *work)
 {
-    if (terrain_map_forward(heights, W * H, terrain_shape_of(W, H, LEVELS), plane, W * H, work, W * H)) exit(1);
+    if (terrain_map_forward(heights, W * H, shape_of(W, H), plane, W * H, work, W * H)) exit(1);
 }
 
 void proved_backward(const int32_t *plane, size_t W, size_t H, uint16_t *heights, int32_t *work)
 {
-    if (terrain_map_backward(plane, W * H, terrain_shape_of(W, H, LEVELS), heights, W * H, work, W * H)) exit(1);
+    if (terrain_map_backward(plane, W * H, shape_of(W, H), heights, W * H, work, W * H)) exit(1);
 }

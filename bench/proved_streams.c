@@ -33,7 +33,7 @@ static void draw_all(void)
 
 static void proved_write(size_t run)
 {
-    check(terrain_writer_set_up(state, terrain_shape_of(W, H, LEVELS), store, store_len));
+    check(terrain_writer_set_up(state, shape_of(W, H), store, store_len));
     for (size_t at = 0; at < (size_t)W * H;) {
         size_t end = at + run < (size_t)W * H ? at + run : (size_t)W * H, taken;
         while (at < end) {
@@ -52,7 +52,7 @@ static void proved_runs(void) { proved_write(64); }
 /* the same, but a draw is tried only where an offer did not take all of its run, or said that a row waits */
 static void proved_runs_on_8(void)
 {
-    check(terrain_writer_set_up(state, terrain_shape_of(W, H, LEVELS), store, store_len));
+    check(terrain_writer_set_up(state, shape_of(W, H), store, store_len));
     for (size_t at = 0; at < (size_t)W * H;) {
         size_t end = at + 64 < (size_t)W * H ? at + 64 : (size_t)W * H, taken;
         uint32_t answer = terrain_writer_offer(state, store, store_len, heights + at, end - at, &taken);
@@ -71,7 +71,7 @@ static void proved_read(void)
 {
     uint64_t want[5];
     size_t drawn, r = 0;
-    check(terrain_reader_set_up(state, terrain_shape_of(W, H, LEVELS), store, store_len));
+    check(terrain_reader_set_up(state, shape_of(W, H), store, store_len));
     for (;;) {
         check(terrain_reader_want(state, want));
         if (want[0] == 0)
@@ -85,7 +85,7 @@ static void proved_read(void)
 
 static void ready(void)
 {
-    store_len = terrain_store_length(terrain_shape_of(W, H, LEVELS));
+    store_len = terrain_store_length(shape_of(W, H));
     if (!(store = malloc(store_len * sizeof *store))) exit(1);
 }
 

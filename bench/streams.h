@@ -3,6 +3,7 @@
    the plane and drawn as it wants. */
 #ifndef STREAMS_H
 #define STREAMS_H
+#include "filter.h"
 #include <stddef.h>
 #include <stdint.h>
 #include <string.h>
@@ -16,7 +17,7 @@ typedef struct {
     void (*proved_rows)(void), (*proved_runs)(void), (*proved_runs_on_8)(void), (*proved_read)(void);
 } Streams;
 
-extern const Streams streams_1025, streams_2049;
+extern const Streams streams_257, streams_1025, streams_2049;
 
 #ifdef SIDE
 #define JOIN2(a, b) a##_##b
@@ -30,7 +31,7 @@ extern const Streams streams_1025, streams_2049;
 #define plain_write OF_SIDE(plain_write)
 #define plain_read OF_SIDE(plain_read)
 
-enum { W = SIDE, H = SIDE, LEVELS = 5 };
+enum { W = SIDE, H = SIDE };
 
 extern uint16_t heights[W * H], back[W * H];
 extern int32_t plane[W * H], *kept, out[W];

@@ -19,7 +19,7 @@ typedef struct {
     int32_t *store;
     size_t store_len;
     int kind; /* WRITER, READER: all calls went by the rules. 0: anything may stand in state and store */
-    size_t width, height, levels;
+    Map on; /* what it was set up for */
     Order order;
     uint16_t heights[CAP]; /* taken or drawn */
     size_t count;
@@ -41,18 +41,42 @@ static int at_end(void)
     return byte() & 1;
 }
 
+/* A map of any shape, as a rule one that is taken. */
+static Map any_map(void)
+{
+    Map m = { { 0, size() }, { 0, size() }, below(8) ? 1 + below(5) : number(), filter_number() };
+    m.across.start = origin(), m.down.start = origin();
+    return m;
+}
+
+static terrain_shape shape_of(const Map *m)
+{
+    terrain_shape shape = terrain_shape_of(m->across.length, m->down.length, m->levels);
+    shape.x = (uint16_t)m->across.start, shape.y = (uint16_t)m->down.start, shape.filter = (uint32_t)m->filter;
+    return shape;
+}
+
 /* ---- state and store */
+
+/* The map that a state's counts speak of; a writer has no height. */
+static Map map_of(const uint64_t *s, int kind)
+{
+    if (kind == WRITER) return (Map){ { s[10], s[1] }, { s[11], 1 }, s[2], s[12] };
+    return (Map){ { s[8], s[1] }, { s[9], s[2] }, s[3], s[11] };
+}
 
 /* Question 1, as docs/STATE.md has it. */
 static int counts_fit(const uint64_t *s, int kind)
 {
+    Map m = map_of(s, kind);
     int rest = 1;
-    for (int i = kind == WRITER ? 10 : 8; i < 16; i++) rest &= s[i] == 0;
+    for (int i = kind == WRITER ? 13 : 12; i < 16; i++) rest &= s[i] == 0;
+    if (!rest || s[0] != (uint64_t)kind || streamable(&m) || m.across.start > MOST_ORIGIN || m.down.start > MOST_ORIGIN) return 0;
+    size_t ahead = filters[m.filter].ahead;
     if (kind == WRITER)
-        return rest && s[0] == 1 && s[1] - 1 < MOST_WIDTH && s[2] - 1 < MOST_LEVELS && s[3] <= MOST_HEIGHT && s[4] < s[1] && s[5] <= 1 &&
-               s[6] <= s[2] && s[7] <= s[2] && s[8] <= (!s[7] ? 0u : s[7] < s[2] ? 3u : 4u) && s[9] == (s[7] ? model_store(s[1], s[7] - 1) : 0);
-    return rest && s[0] == 2 && s[1] - 1 < MOST_WIDTH && s[2] - 1 < MOST_HEIGHT && s[3] - 1 < MOST_LEVELS && s[4] <= s[2] && s[5] <= s[3] &&
-           s[6] <= 4 && s[7] <= 1;
+        return s[3] <= MOST_HEIGHT && s[4] < s[1] && s[5] <= 1 && s[6] <= ahead * s[2] && s[7] <= s[2] &&
+               s[8] <= (!s[7] ? 0u : s[7] < s[2] ? 3u : 4u) && s[9] == (s[7] ? stretches(&m, s[7] - 1) : 0);
+    return s[2] - 1 < MOST_HEIGHT && s[4] <= s[2] && s[5] <= s[3] && s[6] <= 4 && s[7] <= 1 && s[10] <= 2 * ahead - 1;
 }
 
 /* Lends state and store, every so often a store cut short. */
@@ -75,7 +99,8 @@ static void take_back(Slot *s)
 static void back(Slot *s, int kind, uint32_t answer, uint32_t may)
 {
     int fit = counts_fit(s->state, kind);
-    size_t needed = fit ? model_store(s->state[1], s->state[kind == WRITER ? 2 : 3]) : 0;
+    Map m = map_of(s->state, kind);
+    size_t needed = fit ? model_store(&m) : 0;
     area_back(&state_area);
     area_back(&store_area);
     HOLDS(answer < 16 && ((may | MAY(0) | MAY(1) | MAY(5)) >> answer & 1));
@@ -111,14 +136,15 @@ static void check_rows(const Slot *s)
     static uint16_t map[CAP + MOST_WIDTH];
     static int32_t plane[CAP + MOST_WIDTH];
     if (s->kind != WRITER || !s->count) return;
-    size_t w = s->width, h = (s->count + w - 1) / w;
+    Map m = s->on;
+    m.down.length = (s->count + m.across.length - 1) / m.across.length;
     memset(map, 0x77, sizeof map);
     memcpy(map, s->heights, s->count * sizeof *map);
-    model_forward(map, w, h, s->levels, plane);
+    model_forward(map, &m, plane);
     const int32_t *values = s->values;
     for (size_t i = 0; i < s->row_count; i++) {
         Row r = s->rows[i];
-        HOLDS(memcmp(values, plane + place(w, h, r.level, r.band, r.row), r.length * sizeof *values) == 0);
+        HOLDS(memcmp(values, plane + place(&m, r.level, r.band, r.row), r.length * sizeof *values) == 0);
         values += r.length;
     }
 }
@@ -126,23 +152,18 @@ static void check_rows(const Slot *s)
 static void set_up(Slot *s, int kind)
 {
     check_rows(s);
-    size_t w = size(), h = size(), levels = below(8) ? 1 + below(5) : number(), needed = model_store(w, levels);
-    if (kind == READER && h > MOST_HEIGHT) needed = 0;
+    Map m = any_map();
+    size_t h = m.down.length, needed = kind == READER && h > MOST_HEIGHT ? 0 : model_store(&m);
     unsigned more = byte();
     int32_t *old = s->store;
     size_t old_len = s->store_len;
     s->store = NULL;
     new_store(s, needed + (more < 200 ? more % 4 : 0) - (needed && more >= 240 ? 1 : 0));
     lend(s);
-    uint32_t answer = kind == WRITER ? terrain_writer_set_up(lent_state, terrain_shape_of(w, h, levels), lent_store, lent_len)
-                                     : terrain_reader_set_up(lent_state, terrain_shape_of(w, h, levels), lent_store, lent_len);
+    uint32_t answer = (kind == WRITER ? terrain_writer_set_up : terrain_reader_set_up)(lent_state, shape_of(&m), lent_store, lent_len);
     area_back(&state_area);
     area_back(&store_area);
-    uint32_t first = w < 1 || w > MOST_WIDTH                           ? 2
-                     : kind == READER && (h < 1 || h > MOST_HEIGHT)    ? 3
-                     : levels < 1 || levels > MOST_LEVELS              ? 4
-                     : lent_len < needed                               ? 5
-                                                                       : 0;
+    uint32_t no = streamable(&m), first = no == 2 ? 2 : kind == READER && (h < 1 || h > MOST_HEIGHT) ? 3 : no ? no : lent_len < needed ? 5 : 0;
     HOLDS(answer == first);
     HOLDS(!answer || (area_is(&state_area, s->state) && area_is(&store_area, s->store)));
     if (answer) { /* the stream that is under way goes on */
@@ -155,13 +176,12 @@ static void set_up(Slot *s, int kind)
     for (size_t i = 0; i < needed; i++) HOLDS(lent_store[i] == 0);
     if (lent_len > needed) HOLDS(memcmp(lent_store + needed, s->store + needed, (lent_len - needed) * sizeof *s->store) == 0);
     take_back(s);
-    s->kind = kind, s->width = w, s->height = h, s->levels = levels, s->count = s->row_count = s->value_count = 0;
-    memset(&s->order, 0, sizeof s->order);
-    s->order.width = w, s->order.levels = levels;
-    if (kind == READER && w * h > CAP) s->kind = 0;
+    s->kind = kind, s->on = m, s->count = s->row_count = s->value_count = 0;
+    order_start(&s->order, &m);
+    if (kind == READER && m.across.length * h > CAP) s->kind = 0;
     if (s->kind == READER) {
-        fill(s->map, w * h);
-        model_forward(s->map, w, h, levels, s->plane);
+        fill(s->map, m.across.length * h);
+        model_forward(s->map, &m, s->plane);
         s->pure = 1;
     }
 }
@@ -262,16 +282,17 @@ static uint32_t want(Slot *s, uint64_t wanted[5])
     }
     memcpy(wanted, said, 5 * sizeof *wanted);
     HOLDS(said[0] <= ENDED && (said[0] == ENDED) == (s->state[7] == 1));
+    Map m = map_of(s->state, READER);
     if (said[0] == ROW)
-        HOLDS(said[1] - 1 < s->state[3] && said[2] <= HH && said[4] >= 1 && said[4] == across(s->state[1], said[1], said[2]));
+        HOLDS(said[1] - 1 < s->state[3] && said[2] <= HH && said[4] >= 1 && said[4] == across(&m, said[1], said[2]));
     else
         HOLDS(!said[1] && !said[2] && !said[3] && !said[4]);
-    if (s->kind == READER && said[0] == ROW) HOLDS(said[3] < down(s->height, said[1], said[2]) && (said[2] != LL || said[1] == s->levels));
+    if (s->kind == READER && said[0] == ROW) HOLDS(said[3] < down(&s->on, said[1], said[2]) && (said[2] != LL || said[1] == s->on.levels));
     if (s->kind == READER && said[0] == DONE) {
         /* never Done but for a map: the one that has these rows */
         static int32_t plane[CAP];
-        HOLDS(s->count == s->width * s->height);
-        model_forward(s->heights, s->width, s->height, s->levels, plane);
+        HOLDS(s->count == s->on.across.length * s->on.down.length);
+        model_forward(s->heights, &s->on, plane);
         HOLDS(memcmp(plane, s->plane, s->count * sizeof *plane) == 0);
         HOLDS(!s->pure || memcmp(s->heights, s->map, s->count * sizeof *s->map) == 0);
     }
@@ -284,7 +305,7 @@ static void ended(Slot *s)
     static uint16_t map[CAP];
     if (s->kind != READER) return;
     HOLDS(!s->pure);
-    HOLDS(model_backward(s->plane, s->width, s->height, s->levels, map) != 0);
+    HOLDS(model_backward(s->plane, &s->on, map) != 0);
     s->kind = 0;
 }
 
@@ -298,7 +319,7 @@ static void feed(Slot *s)
     size_t n = row ? wanted[4] : below(8), at = 0;
     if (how % 16 == 1) n += 1 + below(4);
     if (how % 16 == 2 && n) n -= 1;
-    if (s->kind == READER && row) at = place(s->width, s->height, wanted[1], wanted[2], wanted[3]);
+    if (s->kind == READER && row) at = place(&s->on, wanted[1], wanted[2], wanted[3]);
     for (size_t i = 0; i < n; i++)
         values[i] = s->kind == READER && row && i < wanted[4] ? s->plane[at + i] : (int32_t)(how * i % 65536);
     if (how >= 200 && n) {
@@ -310,7 +331,8 @@ static void feed(Slot *s)
     uint32_t answer = terrain_reader_feed(lent_state, lent_store, lent_len, run, n);
     area_back(&run_area);
     HOLDS(area_is(&run_area, values));
-    for (size_t i = 0; row && i < n; i++) out_of_range |= values[i] > range(wanted[1]) || values[i] < -range(wanted[1]);
+    Map m = map_of(s->state, READER);
+    for (size_t i = 0; row && i < n; i++) out_of_range |= values[i] > range(&m, wanted[1]) || values[i] < -range(&m, wanted[1]);
     back(s, READER, answer, MAY(7) | MAY(8) | MAY(9) | MAY(13) | MAY(14));
     if (answer == 1 || answer == 5) return;
     HOLDS((answer == 9) == (wanted[0] == ENDED));
@@ -358,20 +380,22 @@ static void draw_heights(Slot *s)
 /* A state that no call made, its counts in their ranges or one of them anything; and any store. */
 static void foreign(Slot *s)
 {
-    size_t w = below(4) ? 1 + below(20) : MOST_WIDTH, levels = 1 + below(5);
-    uint64_t h = below(2) ? 1 + below(40) : MOST_HEIGHT;
+    size_t filter = below(2);
+    Map m = { { origin(), below(4) ? 1 + below(20) : MOST_WIDTH }, { origin(), below(2) ? 1 + below(40) : MOST_HEIGHT }, 1 + below(5), filter };
     check_rows(s);
     s->kind = 0;
     memset(s->state, 0, sizeof s->state);
     if (below(2)) {
-        uint64_t level = below(6), start = level ? model_store(w, level - 1) : 0;
-        uint64_t counts[] = { 1, w, levels, wide(2), byte() % w, below(2), below(6), level, below(level ? 5 : 1), below(8) ? start : wide(2) };
+        uint64_t level = below(6), start = level ? stretches(&m, level - 1) : 0;
+        uint64_t counts[] = { 1, m.across.length, m.levels, wide(2), byte() % m.across.length, below(2), below(10), level, below(level ? 5 : 1),
+                              below(8) ? start : wide(2), m.across.start, m.down.start, below(16) ? filter : below(4) };
         memcpy(s->state, counts, sizeof counts);
     } else {
-        uint64_t counts[] = { 2, w, h, levels, below(2) ? below(40) : wide(2), below(6), below(5), below(8) == 7 };
+        uint64_t counts[] = { 2, m.across.length, m.down.length, m.levels, below(2) ? below(40) : wide(2), below(6), below(5), below(8) == 7,
+                              m.across.start, m.down.start, below(2) ? 0 : below(5), below(16) ? filter : below(4) };
         memcpy(s->state, counts, sizeof counts);
     }
-    new_store(s, model_store(w, levels) + below(4));
+    new_store(s, model_store(&m) + below(4));
 }
 
 static void scribble(Slot *s)
@@ -396,17 +420,19 @@ static void line(void)
     size_t n = below(4) ? below(40) : (size_t)wide(2) % RUN, more = below(12), len = n + (more < 8 ? more % 4 : 0);
     if (more >= 8) len = n ? byte() % n : 0;
     int forward = byte() & 1;
+    size_t start = below(4) ? below(4) : number(), filter = below(FILTERS);
     uint32_t seed = byte();
     for (size_t i = 0; i < n; i++) values[i] = below(8) ? (int32_t)(uint32_t)(seed * i * 2654435761u) >> (i & 16) : word();
     memcpy(expected, values, n * sizeof *values);
-    model_line(expected, n, 1, forward);
+    uint32_t first = len < n ? 5 : model_line(expected, n, 1, start, filter, forward) ? 0 : 14;
     const int32_t *lent = area_lend(&run_area, values, n * sizeof *values, at_end());
     int32_t *out = area_lend(&out_area, NULL, len * sizeof *out, at_end());
-    uint32_t answer = (forward ? terrain_line_forward : terrain_line_backward)(lent, n, 0, out, len);
+    uint32_t answer = filter ? (forward ? terrain_ccsds_line_forward : terrain_ccsds_line_backward)(lent, n, start, out, len)
+                             : (forward ? terrain_line_forward : terrain_line_backward)(lent, n, start, out, len);
     area_back(&run_area);
     area_back(&out_area);
     HOLDS(area_is(&run_area, values));
-    HOLDS(answer == (len < n ? 5u : 0u));
+    HOLDS(answer == first);
     HOLDS(area_unset(&out_area, answer ? 0 : n * sizeof *out));
     HOLDS(answer || !n || memcmp(out, expected, n * sizeof *out) == 0);
 }
@@ -441,13 +467,15 @@ static void profile(void)
     HOLDS(answer || memcmp(out, expected, n * sizeof *out) == 0);
 }
 
-/* What the questions before 6 and 7 say, areas of these lengths being lent. */
-static uint32_t shape(size_t w, size_t h, size_t levels, size_t shortest)
+/* What the questions before 6 and 7 say, areas of these lengths being lent; the view has no filter. */
+static uint32_t asked(const Map *m, int view, size_t shortest)
 {
-    if (w < 1 || w > MOST_WIDTH) return 2;
-    if (h < 1 || h > MOST_HEIGHT) return 3;
-    if (levels < 1 || levels > MOST_LEVELS) return 4;
-    return shortest < w * h ? 5 : 0;
+    Map plain = *m;
+    if (view) plain.filter = 0;
+    uint32_t no = streamable(&plain);
+    if (no == 2) return 2;
+    if (m->down.length < 1 || m->down.length > MOST_HEIGHT) return 3;
+    return no ? no : shortest < m->across.length * m->down.length ? 5 : 0;
 }
 
 static size_t least(size_t a, size_t b)
@@ -466,7 +494,8 @@ static void map(void)
 {
     static uint16_t heights[CAP + 8], again[CAP];
     static int32_t plane[CAP + 8], expected[CAP];
-    size_t w = size(), h = size(), levels = below(8) ? 1 + below(5) : number();
+    Map m = any_map();
+    size_t w = m.across.length, h = m.down.length;
     size_t n = w <= MOST_WIDTH && h <= MOST_HEIGHT && w * h <= CAP ? w * h : 64;
     size_t lens[3];
     for (int i = 0; i < 3; i++) {
@@ -474,11 +503,11 @@ static void map(void)
         lens[i] = more >= 250 && n ? n - 1 : n + more % 3;
     }
     fill(heights, lens[0]);
-    uint32_t first = shape(w, h, levels, least(lens[0], least(lens[1], lens[2])));
+    uint32_t first = asked(&m, 0, least(lens[0], least(lens[1], lens[2])));
     const uint16_t *lent = area_lend(&run_area, heights, lens[0] * sizeof *heights, at_end());
     int32_t *out = area_lend(&out_area, NULL, lens[1] * sizeof *out, at_end());
     int32_t *work = area_lend(&more_area, NULL, lens[2] * sizeof *work, at_end());
-    uint32_t answer = terrain_map_forward(lent, lens[0], terrain_shape_of(w, h, levels), out, lens[1], work, lens[2]);
+    uint32_t answer = terrain_map_forward(lent, lens[0], shape_of(&m), out, lens[1], work, lens[2]);
     area_back(&run_area);
     area_back(&out_area);
     area_back(&more_area);
@@ -486,7 +515,7 @@ static void map(void)
     HOLDS(area_unset(&out_area, answer ? 0 : n * sizeof *out) && area_unset(&more_area, answer ? 0 : n * sizeof *work));
     if (!answer) {
         HOLDS(zeros(&more_area) == n * sizeof *work);
-        model_forward(heights, w, h, levels, expected);
+        model_forward(heights, &m, expected);
         HOLDS(memcmp(out, expected, n * sizeof *out) == 0);
     }
     /* and back, with up to three numbers changed */
@@ -496,11 +525,11 @@ static void map(void)
         size_t at = wide(2) % n;
         plane[at] = byte() & 1 ? word() : stored((int64_t)plane[at] + below(9) - 4);
     }
-    if (!first) first = model_backward(plane, w, h, levels, again);
+    if (!first) first = model_backward(plane, &m, again);
     const int32_t *lent_plane = area_lend(&out_area, plane, lens[1] * sizeof *plane, at_end());
     uint16_t *drawn = area_lend(&run_area, NULL, lens[0] * sizeof *drawn, at_end());
     work = area_lend(&more_area, NULL, lens[2] * sizeof *work, at_end());
-    answer = terrain_map_backward(lent_plane, lens[1], terrain_shape_of(w, h, levels), drawn, lens[0], work, lens[2]);
+    answer = terrain_map_backward(lent_plane, lens[1], shape_of(&m), drawn, lens[0], work, lens[2]);
     area_back(&run_area);
     area_back(&out_area);
     area_back(&more_area);
@@ -514,19 +543,20 @@ static void map(void)
 
 static void band_row(void)
 {
-    size_t w = size(), h = size(), levels = below(8) ? 1 + below(5) : number();
+    Map m = any_map();
+    size_t w = m.across.length, h = m.down.length;
     size_t level = below(8) ? 1 + below(5) : number(), band = below(8) ? below(4) : number(), row = below(4) ? below(8) : number();
     size_t len = below(8) ? (w <= MOST_WIDTH && h <= MOST_HEIGHT ? w * h : 0) : number();
     size_t *start = area_lend(&small_area, NULL, sizeof *start, at_end()), *length = area_lend(&more_area, NULL, sizeof *length, at_end());
-    uint32_t answer = terrain_band_row(len, terrain_shape_of(w, h, levels), level, band, row, start, length);
+    uint32_t answer = terrain_band_row(len, shape_of(&m), level, band, row, start, length);
     area_back(&small_area);
     area_back(&more_area);
-    uint32_t first = shape(w, h, levels, len);
-    if (!first && (level < 1 || level > levels || band > HH || (band == LL && level < levels))) first = 6;
-    if (!first && (row >= down(h, level, band) || !across(w, level, band))) first = 6;
+    uint32_t first = asked(&m, 1, len);
+    if (!first && (level < 1 || level > m.levels || band > HH || (band == LL && level < m.levels))) first = 6;
+    if (!first && (row >= down(&m, level, band) || !across(&m, level, band))) first = 6;
     HOLDS(answer == first);
     if (answer) HOLDS(area_unset(&small_area, 0) && area_unset(&more_area, 0));
-    else HOLDS(*start == place(w, h, level, band, row) && *length == across(w, level, band));
+    else HOLDS(*start == place(&m, level, band, row) && *length == across(&m, level, band));
 }
 
 /* ---- as a program would */
@@ -573,7 +603,7 @@ static void call(void)
     case 26: line(); break;
     case 27: map(); break;
     case 28: band_row(); break;
-    case 29: { size_t w = number(), levels = number(); HOLDS(terrain_store_length(terrain_shape_of(w, 0, levels)) == model_store(w, levels)); break; }
+    case 29: { Map m = any_map(); m.across.length = number(); HOLDS(terrain_store_length(shape_of(&m)) == model_store(&m)); break; }
     case 30: write_on(s); break;
     default: read_on(s); break;
     }

@@ -27,7 +27,8 @@ static inline uint64_t wide(int bytes)
 /* Any number: small ones, those about the limits, and a few as large as can be. */
 static inline size_t number(void)
 {
-    static const uint64_t edges[] = { 0, 1, 2, 5, 6, 2047, 2048, 2049, 2050, 65534, 65535, 65536, (1ull << 32) - 1, 1ull << 32, 1ull << 63, UINT64_MAX - 1, UINT64_MAX };
+    static const uint64_t edges[] = { 0, 1, 2, 5, 6, 2047, 2048, 2049, 2050, 65534, 65535, 65536, (1ull << 32) - 1, 1ull << 32, 1ull << 63,
+                                      UINT64_MAX - 1, UINT64_MAX };
     unsigned b = byte();
     if (b < 192) return b % 40;
     if (b < 240) return edges[b % 16];
@@ -40,11 +41,25 @@ static inline size_t size(void)
     return below(4) ? 1 + below(12) : number();
 }
 
+/* A coordinate at which a map starts: about 0 as a rule. */
+static inline uint16_t origin(void)
+{
+    return (uint16_t)(below(4) ? below(4) : wide(2));
+}
+
+/* The number of a filter, now and then of none. */
+static inline uint32_t filter_number(void)
+{
+    unsigned b = byte();
+    return b < 240 ? b % 2 : b < 250 ? b % 8 : (uint32_t)wide(4);
+}
+
 /* Any 32-bit number, those about the ranges of heights and coefficients above all. */
 static inline int32_t word(void)
 {
     unsigned b = byte();
-    int64_t reach = (int64_t)65535 << b / 16 % 6 * 2;
+    static const int32_t reaches[] = { 65535, 262140, 1048560, 4194240, 16776960, 67107840, 393210, 2359260, 14155560, 84933360 };
+    int64_t reach = reaches[b / 8 % 10];
     switch (b % 8) {
     case 0: return (int32_t)reach;
     case 1: return (int32_t)-reach;

@@ -1,4 +1,4 @@
-/* What the calls must give, written straight from T.800 and the header, without a thought for speed, and knowing nothing of the library. */
+/* What the calls must give, written straight from T.800, document 02 and the header, without a thought for speed, and knowing nothing of the library. */
 #ifndef MODEL_H
 #define MODEL_H
 
@@ -7,19 +7,39 @@
 #include <stdlib.h>
 #include <string.h>
 
-enum { LL, HL, LH, HH, MOST_WIDTH = 2049, MOST_LEVELS = 5 };
+enum { LL, HL, LH, HH, MOST_WIDTH = 2049, MOST_LEVELS = 5, MOST_ORIGIN = 65535, FILTERS = 2 };
 
 static const uint64_t MOST_HEIGHT = 4294967295;
 
-static inline size_t side(size_t n, size_t level)
+/* The filters by their numbers: the 5/3 and the integer 9/7. Set n is made with row 2n + 2 * ahead. */
+static const struct {
+    size_t levels, rows, ahead;
+    int64_t growth;
+} filters[FILTERS] = { { 5, 4, 1, 4 }, { 4, 8, 2, 6 } };
+
+/* Rows or columns on the grid: even coordinates are low. */
+typedef struct {
+    size_t start, length;
+} Side;
+
+/* A map; of one that a set-up refuses any number may be wrong. */
+typedef struct {
+    Side across, down;
+    size_t levels, filter;
+} Map;
+
+static inline Side side(Side s, size_t level)
 {
-    while (level--) n -= n / 2;
-    return n;
+    size_t from = s.start, to = s.start + s.length;
+    while (level--) from = (from + 1) / 2, to = (to + 1) / 2;
+    return (Side){ from, to - from };
 }
 
-static inline int64_t range(size_t level)
+static inline int64_t range(const Map *m, size_t level)
 {
-    return (int64_t)65535 << 2 * level;
+    int64_t reach = 65535;
+    while (level--) reach *= filters[m->filter].growth;
+    return reach;
 }
 
 static inline int64_t floored(int64_t a, int64_t b)
@@ -33,121 +53,170 @@ static inline int32_t stored(int64_t sum)
     return bits < 0x80000000u ? (int32_t)bits : (int32_t)((int64_t)bits - 0x100000000);
 }
 
-static inline size_t mirrored(int64_t place, size_t n)
+static inline int64_t mirrored(const int32_t *x, int64_t place, size_t n)
 {
     int64_t last = (int64_t)n - 1;
     while (place < 0 || place > last) place = place < 0 ? -place : 2 * last - place;
-    return (size_t)place;
+    return x[place];
 }
 
-/* One lifting step over the places of one parity. */
-static inline void lifting(int32_t *x, size_t n, size_t parity, int sign, int plus, int by)
+/* The two steps over the places of one parity, the first of them `first`. */
+static inline void high_step(int32_t *x, size_t n, size_t first, size_t filter, int sign)
 {
-    for (size_t p = parity; p < n; p += 2) {
-        int64_t around = (int64_t)x[mirrored((int64_t)p - 1, n)] + x[mirrored((int64_t)p + 1, n)];
-        x[p] = stored(x[p] + sign * floored(around + plus, by));
+    for (size_t p = first; p < n; p += 2) {
+        int64_t at = (int64_t)p, near = mirrored(x, at - 1, n) + mirrored(x, at + 1, n), far = mirrored(x, at - 3, n) + mirrored(x, at + 3, n);
+        x[p] = stored(x[p] - sign * (filter ? floored(9 * near - far + 8, 16) : floored(near, 2)));
     }
 }
 
-/* A line, `stride` apart in memory, to its low and then its high values, or back. */
-static inline void model_line(int32_t *line, size_t n, size_t stride, int forward)
+static inline void low_step(int32_t *x, size_t n, size_t first, size_t filter, int sign)
 {
-    if (!n) return;
-    int32_t *x = malloc(n * sizeof *x);
-    if (!x) abort();
-    for (size_t p = 0; p < n; p++) x[p] = line[(forward ? p : p / 2 + (p % 2 ? n - n / 2 : 0)) * stride];
-    if (n > 1 && forward) lifting(x, n, 1, -1, 0, 2), lifting(x, n, 0, 1, 2, 4);
-    if (n > 1 && !forward) lifting(x, n, 0, -1, 2, 4), lifting(x, n, 1, 1, 0, 2);
-    for (size_t p = 0; p < n; p++) line[(forward ? p / 2 + (p % 2 ? n - n / 2 : 0) : p) * stride] = x[p];
-    free(x);
+    for (size_t p = first; p < n; p += 2) {
+        int64_t around = mirrored(x, (int64_t)p - 1, n) + mirrored(x, (int64_t)p + 1, n);
+        x[p] = stored(x[p] + sign * (filter ? -floored(2 - around, 4) : floored(around + 2, 4)));
+    }
 }
 
-static inline void model_forward(const uint16_t *heights, size_t w, size_t h, size_t levels, int32_t *plane)
+/* A line, `stride` apart in memory, to its low and then its high values, or back: 0 where a lone value at an odd coordinate has no half. */
+static inline int model_line(int32_t *line, size_t n, size_t stride, size_t start, size_t filter, int forward)
 {
-    for (size_t i = 0; i < w * h; i++) plane[i] = heights[i];
-    for (size_t k = 0; k < levels; k++) {
-        for (size_t c = 0; c < side(w, k); c++) model_line(plane + c, side(h, k), w, 1);
-        for (size_t r = 0; r < side(h, k); r++) model_line(plane + r * w, side(w, k), 1, 1);
+    size_t odd = start % 2, low = side((Side){ odd, n }, 1).length;
+    if (!n) return 1;
+    if (n == 1) {
+        int halves = forward || !odd || *line % 2 == 0;
+        if (odd) *line = forward ? stored(2 * (int64_t)*line) : (int32_t)floored(*line, 2);
+        return halves;
+    }
+    int32_t *x = malloc(n * sizeof *x);
+    if (!x) abort();
+    for (size_t p = 0; p < n; p++) x[p] = line[(forward ? p : p % 2 == odd ? p / 2 : low + p / 2) * stride];
+    if (forward) high_step(x, n, 1 - odd, filter, 1), low_step(x, n, odd, filter, 1);
+    else low_step(x, n, odd, filter, -1), high_step(x, n, 1 - odd, filter, -1);
+    for (size_t p = 0; p < n; p++) line[(forward ? p % 2 == odd ? p / 2 : low + p / 2 : p) * stride] = x[p];
+    free(x);
+    return 1;
+}
+
+static inline void model_forward(const uint16_t *heights, const Map *m, int32_t *plane)
+{
+    size_t w = m->across.length;
+    for (size_t i = 0; i < w * m->down.length; i++) plane[i] = heights[i];
+    for (size_t k = 0; k < m->levels; k++) {
+        Side x = side(m->across, k), y = side(m->down, k);
+        for (size_t c = 0; c < x.length; c++) model_line(plane + c, y.length, w, y.start, m->filter, 1);
+        for (size_t r = 0; r < y.length; r++) model_line(plane + r * w, x.length, 1, x.start, m->filter, 1);
     }
 }
 
 /* 0 and the map that has this plane; 7: a number is out of its level's range; 14: no map has it. */
-static inline uint32_t model_backward(const int32_t *plane, size_t w, size_t h, size_t levels, uint16_t *heights)
+static inline uint32_t model_backward(const int32_t *plane, const Map *m, uint16_t *heights)
 {
-    size_t n = w * h;
+    size_t w = m->across.length, n = w * m->down.length;
     uint32_t answer = 0;
     int32_t *x = malloc(n * sizeof *x);
     if (!x) abort();
     for (size_t i = 0; i < n; i++) {
         size_t level = 1;
-        while (level < levels && i / w < side(h, level) && i % w < side(w, level)) level++;
-        if (plane[i] > range(level) || plane[i] < -range(level)) answer = 7;
+        while (level < m->levels && i / w < side(m->down, level).length && i % w < side(m->across, level).length) level++;
+        if (plane[i] > range(m, level) || plane[i] < -range(m, level)) answer = 7;
     }
     memcpy(x, plane, n * sizeof *x);
-    for (size_t k = levels; k-- > 0;) {
-        for (size_t r = 0; r < side(h, k); r++) model_line(x + r * w, side(w, k), 1, 0);
-        for (size_t c = 0; c < side(w, k); c++) model_line(x + c, side(h, k), w, 0);
+    for (size_t k = m->levels; k-- > 0;) {
+        Side a = side(m->across, k), d = side(m->down, k);
+        for (size_t r = 0; r < d.length; r++) model_line(x + r * w, a.length, 1, a.start, m->filter, 0);
+        for (size_t c = 0; c < a.length; c++) model_line(x + c, d.length, w, d.start, m->filter, 0);
     }
     for (size_t i = 0; i < n; i++) {
         if (!answer && (x[i] < 0 || x[i] > 65535)) answer = 14;
         heights[i] = (uint16_t)x[i];
     }
     if (!answer) {
-        model_forward(heights, w, h, levels, x);
+        model_forward(heights, m, x);
         if (memcmp(x, plane, n * sizeof *x)) answer = 14;
     }
     free(x);
     return answer;
 }
 
-static inline size_t model_store(size_t w, size_t levels)
+/* Questions 2, 18 and 4. */
+static inline uint32_t streamable(const Map *m)
+{
+    if (m->across.length < 1 || m->across.length > MOST_WIDTH) return 2;
+    if (m->filter >= FILTERS) return 18;
+    return m->levels < 1 || m->levels > filters[m->filter].levels ? 4 : 0;
+}
+
+/* The numbers that the stretches of the first `levels` levels have. */
+static inline size_t stretches(const Map *m, size_t levels)
 {
     size_t n = 0;
-    if (w < 1 || w > MOST_WIDTH || levels < 1 || levels > MOST_LEVELS) return 0;
-    for (size_t k = 0; k < levels; k++) n += 4 * side(w, k);
+    for (size_t k = 0; k < levels; k++) n += filters[m->filter].rows * side(m->across, k).length;
     return n;
 }
 
+static inline size_t model_store(const Map *m)
+{
+    return streamable(m) ? 0 : stretches(m, m->levels);
+}
+
 /* The numbers in a row of a band, and the rows of a band. */
-static inline size_t across(size_t w, size_t level, size_t band)
+static inline size_t in_band(Side s, size_t level, size_t high)
 {
-    return band & 1 ? side(w, level - 1) - side(w, level) : side(w, level);
+    size_t low = side(s, level).length;
+    return high ? side(s, level - 1).length - low : low;
 }
 
-static inline size_t down(size_t h, size_t level, size_t band)
+static inline size_t across(const Map *m, size_t level, size_t band)
 {
-    return band & 2 ? side(h, level - 1) - side(h, level) : side(h, level);
+    return in_band(m->across, level, band & 1);
 }
 
-static inline size_t place(size_t w, size_t h, size_t level, size_t band, size_t row)
+static inline size_t down(const Map *m, size_t level, size_t band)
 {
-    return (row + (band & 2 ? side(h, level) : 0)) * w + (band & 1 ? side(w, level) : 0);
+    return in_band(m->down, level, band & 2);
 }
 
-/* ---- the writer's order, as document 01 tells it: rows are handed on one by one */
+static inline size_t place(const Map *m, size_t level, size_t band, size_t row)
+{
+    return (row + (band & 2 ? side(m->down, level).length : 0)) * m->across.length + (band & 1 ? side(m->across, level).length : 0);
+}
+
+/* ---- the writer's order, as documents 01 and 02 tell it: rows are handed on one by one */
 typedef struct {
     size_t level, band, row, length;
 } Row;
 
 typedef struct {
-    size_t width, levels, begun, complete[MOST_LEVELS + 2], first, last; /* rows that wait: first to last - 1 */
+    Map map; /* its height is not looked at */
+    size_t begun, complete[MOST_LEVELS + 2], sets[MOST_LEVELS + 2], first, last; /* rows that wait: first to last - 1 */
     int finished;
     Row waiting[256];
 } Order;
 
 static inline void order_arrive(Order *o, size_t level);
 
-static inline void order_make(Order *o, size_t level, size_t row, int high)
+static inline void order_start(Order *o, const Map *m)
 {
-    for (size_t band = level == o->levels ? LL : HL; band <= (high ? HH : HL); band++)
-        if (across(o->width, level, band)) o->waiting[o->last++] = (Row){ level, band, row, across(o->width, level, band) };
-    if (level < o->levels) order_arrive(o, level + 1);
+    memset(o, 0, sizeof *o);
+    o->map = *m;
+    for (size_t k = 1; k <= m->levels; k++) o->sets[k] = side(m->down, k - 1).start / 2;
+}
+
+/* the next set of a level */
+static inline void order_make(Order *o, size_t level)
+{
+    size_t n = o->sets[level]++, start = side(o->map.down, level - 1).start, end = start + o->complete[level];
+    for (size_t band = level == o->map.levels ? LL : HL; band <= HH; band++) {
+        size_t at = 2 * n + (band >= LH), row = at / 2 - (band >= LH ? start / 2 : (start + 1) / 2), length = across(&o->map, level, band);
+        if (at >= start && at < end && length) o->waiting[o->last++] = (Row){ level, band, row, length };
+    }
+    if (level < o->map.levels && start <= 2 * n && across(&o->map, level, LL)) order_arrive(o, level + 1);
 }
 
 static inline void order_arrive(Order *o, size_t level)
 {
-    size_t row = o->complete[level]++;
-    if (row >= 2 && row % 2 == 0) order_make(o, level, row / 2 - 1, 1);
+    size_t at = side(o->map.down, level - 1).start + o->complete[level]++;
+    if (at == 2 * (o->sets[level] + filters[o->map.filter].ahead)) order_make(o, level);
 }
 
 static inline int order_waits(Order *o)
@@ -164,7 +233,7 @@ static inline uint32_t order_offer(Order *o, size_t run, size_t *taken)
     if (run && o->complete[1] >= MOST_HEIGHT) return 10;
     while (*taken < run && !order_waits(o) && o->complete[1] < MOST_HEIGHT) {
         ++*taken;
-        if (++o->begun == o->width) o->begun = 0, order_arrive(o, 1);
+        if (++o->begun == o->map.across.length) o->begun = 0, order_arrive(o, 1);
     }
     return 0;
 }
@@ -175,7 +244,10 @@ static inline uint32_t order_finish(Order *o)
     if (order_waits(o)) return 8;
     if (!o->complete[1] || o->begun) return 11;
     o->finished = 1;
-    for (size_t k = 1; k <= o->levels; k++) order_make(o, k, (o->complete[k] + 1) / 2 - 1, o->complete[k] % 2 == 0);
+    for (size_t k = 1; k <= o->map.levels; k++) {
+        size_t end = side(o->map.down, k - 1).start + o->complete[k];
+        while (o->complete[k] && 2 * o->sets[k] < end) order_make(o, k);
+    }
     return 0;
 }
 

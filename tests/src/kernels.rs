@@ -92,15 +92,13 @@ pair_calls!(
     lift_and_copy => kernel_lift_and_copy
 );
 
-/// The same calls of the integer 9/7.
+/// The calls of the integer 9/7 that the C interface leaves out.
 pub mod ccsds {
     use super::Rows;
 
     extern "C" {
         fn ccsds_lift(line: *mut i32, line_len: usize, start: usize);
         fn ccsds_unlift(line: *mut i32, line_len: usize, start: usize) -> u32;
-        fn ccsds_forward(line: *const i32, line_len: usize, start: usize, out: *mut i32, out_len: usize) -> u32;
-        fn ccsds_backward(coefficients: *const i32, coefficients_len: usize, start: usize, out: *mut i32, out_len: usize) -> u32;
     }
 
     pub fn lift(line: &mut [i32], start: usize) {
@@ -111,16 +109,6 @@ pub mod ccsds {
     pub fn unlift(line: &mut [i32], start: usize) -> u32 {
         // SAFETY: as above.
         unsafe { ccsds_unlift(line.as_mut_ptr(), line.len(), start) }
-    }
-
-    pub fn forward(line: &[i32], start: usize, out: &mut [i32]) -> u32 {
-        // SAFETY: both areas are whole slices, and no one else has `out`.
-        unsafe { ccsds_forward(line.as_ptr(), line.len(), start, out.as_mut_ptr(), out.len()) }
-    }
-
-    pub fn backward(coefficients: &[i32], start: usize, out: &mut [i32]) -> u32 {
-        // SAFETY: as above.
-        unsafe { ccsds_backward(coefficients.as_ptr(), coefficients.len(), start, out.as_mut_ptr(), out.len()) }
     }
 
     macro_rules! row_calls {

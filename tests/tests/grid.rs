@@ -1,8 +1,14 @@
-//! The line calls with a start, against T.800's own extension procedure: lines that start at an even and at an odd coordinate, every length
-//! to 70 and some beyond, and the lone sample at an odd coordinate.
-use terrain::raw;
+//! The line calls with a start, against T.800's own extension procedure and document 02's formulas: lines that start at an even and at an odd
+//! coordinate, every length to 70 and some beyond, and the lone sample at an odd coordinate.
+use terrain::{ccsds_line_backward, ccsds_line_forward, line_backward, line_forward, Question};
 use terrain_tests::areas::{lengths, lines, unset, Guarded};
+use terrain_tests::filter::FILTERS;
 use terrain_tests::{grid, kernels};
+
+type Call = fn(&[i32], usize, &mut [i32]) -> Result<(), Question>;
+
+/// The calls from area to area, forward and back, by each filter.
+const CALLS: [[Call; 2]; FILTERS.len()] = [[line_forward, line_backward], [ccsds_line_forward, ccsds_line_backward]];
 
 /// Only the parity of a start counts.
 const STARTS: [usize; 6] = [0, 1, 2, 65_535, usize::MAX - 1, usize::MAX];
@@ -22,26 +28,32 @@ fn each(check: impl Fn(&[i32], usize)) {
     }
 }
 
+/// What a call answers of a line lent at a start, and what it leaves in `out`: the whole of `expected`, or nothing with that refusal.
+fn gives(call: Call, lent: &[i32], start: usize, surplus: usize, expected: Result<Vec<i32>, u32>) {
+    let n = lent.len();
+    let mut out = Guarded::unset(n + surplus);
+    let answer = call(lent, start, out.lent()).map_err(|question| question.number);
+    match expected {
+        Ok(numbers) => {
+            assert_eq!(answer, Ok(()), "{n} numbers from {start}");
+            assert_eq!(out.content()[..n], numbers, "{n} numbers from {start}");
+            assert!(out.is_unset_from(n), "the surplus is touched");
+        }
+        Err(number) => {
+            assert_eq!(answer, Err(number), "{n} numbers from {start}");
+            assert!(out.is_unset_from(0), "{number} and something changed");
+        }
+    }
+}
+
 #[test]
 fn from_area_to_area_it_is_the_extended_signal_filtered() {
     each(|lent, start| {
-        let (n, i0) = (lent.len(), parity(start));
-        for surplus in [0, 3] {
-            let mut out = Guarded::unset(n + surplus);
-            assert_eq!(raw::line_forward(lent, start, out.lent()), 0);
-            assert_eq!(out.content()[..n], grid::in_halves(&grid::forward(lent, i0), i0), "{n} numbers from {start}");
-            assert!(out.is_unset_from(n), "the surplus is touched");
-            let mut out = Guarded::unset(n + surplus);
-            match grid::backward(&grid::interleaved(lent, i0), i0) {
-                Some(line) => {
-                    assert_eq!(raw::line_backward(lent, start, out.lent()), 0);
-                    assert_eq!(out.content()[..n], line, "{n} numbers from {start}");
-                    assert!(out.is_unset_from(n), "the surplus is touched");
-                }
-                None => {
-                    assert_eq!(raw::line_backward(lent, start, out.lent()), 14);
-                    assert!(out.is_unset_from(0), "14 and something changed");
-                }
+        let i0 = parity(start);
+        for (filter, [forward, backward]) in FILTERS.iter().zip(CALLS) {
+            for surplus in [0, 3] {
+                gives(forward, lent, start, surplus, Ok(grid::in_halves(&(filter.forward)(lent, i0), i0)));
+                gives(backward, lent, start, surplus, (filter.backward)(&grid::interleaved(lent, i0), i0).ok_or(14));
             }
         }
     });
@@ -123,6 +135,11 @@ fn an_area_too_short_gives_5_and_stays() {
     for n in 1..=20 {
         for start in [0, 1] {
             for short in 0..n {
+                for call in CALLS.concat() {
+                    let mut out = Guarded::unset(short);
+                    assert_eq!(call(&vec![i32::MAX; n], start, out.lent()).map_err(|question| question.number), Err(5));
+                    assert!(out.is_unset_from(0));
+                }
                 for call in [kernels::forward, kernels::backward, kernels::unlift_by] {
                     let mut out = Guarded::unset(short);
                     assert_eq!(call(&vec![i32::MAX; n], start, out.lent()), 5);

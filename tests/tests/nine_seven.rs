@@ -1,5 +1,6 @@
 //! The calls of the integer 9/7: lines that start at an even and at an odd coordinate, every length to 70 and some beyond, against document
 //! 02's formulas, and its row calls, number by number.
+use terrain::raw::{ccsds_line_backward as line_backward, ccsds_line_forward as line_forward};
 use terrain_tests::areas::{lengths, lines, Guarded};
 use terrain_tests::kernels::ccsds::Level;
 use terrain_tests::kernels::{ccsds, Rows};
@@ -30,18 +31,18 @@ fn from_area_to_area_it_is_the_mirrored_line_lifted() {
         let (n, i0) = (lent.len(), parity(start));
         for surplus in [0, 3] {
             let mut out = Guarded::unset(n + surplus);
-            assert_eq!(ccsds::forward(lent, start, out.lent()), 0);
+            assert_eq!(line_forward(lent, start, out.lent()), 0);
             assert_eq!(out.content()[..n], grid::in_halves(&nine_seven::forward(lent, i0), i0), "{n} numbers from {start}");
             assert!(out.is_unset_from(n), "the surplus is touched");
             let mut out = Guarded::unset(n + surplus);
             match nine_seven::backward(&grid::interleaved(lent, i0), i0) {
                 Some(line) => {
-                    assert_eq!(ccsds::backward(lent, start, out.lent()), 0);
+                    assert_eq!(line_backward(lent, start, out.lent()), 0);
                     assert_eq!(out.content()[..n], line, "{n} numbers from {start}");
                     assert!(out.is_unset_from(n), "the surplus is touched");
                 }
                 None => {
-                    assert_eq!(ccsds::backward(lent, start, out.lent()), 14);
+                    assert_eq!(line_backward(lent, start, out.lent()), 14);
                     assert!(out.is_unset_from(0), "14 and something changed");
                 }
             }
@@ -72,14 +73,14 @@ fn there_and_back_is_the_line_and_back_and_there_the_values() {
         let n = lent.len();
         let (mut between, mut again) = (vec![0; n], vec![0; n]);
         let lone = n == 1 && start % 2 == 1;
-        assert_eq!(ccsds::forward(lent, start, &mut between), 0);
-        assert_eq!(ccsds::backward(&between, start, &mut again), 0);
+        assert_eq!(line_forward(lent, start, &mut between), 0);
+        assert_eq!(line_backward(&between, start, &mut again), 0);
         if !lone || lent[0].checked_mul(2).is_some() {
             assert_eq!(again, lent);
         }
         if !lone || lent[0] % 2 == 0 {
-            assert_eq!(ccsds::backward(lent, start, &mut between), 0);
-            assert_eq!(ccsds::forward(&between, start, &mut again), 0);
+            assert_eq!(line_backward(lent, start, &mut between), 0);
+            assert_eq!(line_forward(&between, start, &mut again), 0);
             assert_eq!(again, lent);
         }
     });
@@ -90,7 +91,7 @@ fn an_area_too_short_gives_5_and_stays() {
     for n in 1..=20 {
         for start in [0, 1] {
             for short in 0..n {
-                for call in [ccsds::forward, ccsds::backward] {
+                for call in [line_forward, line_backward] {
                     let mut out = Guarded::unset(short);
                     assert_eq!(call(&vec![i32::MAX; n], start, out.lent()), 5);
                     assert!(out.is_unset_from(0));

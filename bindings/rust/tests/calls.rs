@@ -6,6 +6,12 @@ fn map(width: usize, height: usize) -> Vec<u16> {
     (0..width * height).map(|i| (i as u64 * 2_654_435_761 % 65_536) as u16).collect()
 }
 
+/// That size at every number of levels of each filter.
+fn shapes(width: usize, height: usize) -> impl Iterator<Item = Shape> {
+    let five_three = (1..=MAX_LEVELS).map(move |levels| Shape::new(width, height, levels));
+    five_three.chain((1..MAX_LEVELS).map(move |levels| Shape::new(width, height, levels).by(NINE_SEVEN)))
+}
+
 fn draw_all(writer: &mut Writer, line: &mut [i32], rows: &mut HashMap<BandRow, Vec<i32>>) {
     while let Some((row, values)) = writer.draw(line).unwrap() {
         assert!(rows.insert(row, values.to_vec()).is_none());
@@ -46,8 +52,7 @@ fn heights_of(rows: &HashMap<BandRow, Vec<i32>>, s: Shape) -> Result<Vec<u16>, Q
 #[test]
 fn writer_reader_and_whole_map_agree() {
     for (width, height) in [(1, 1), (1, 4), (4, 1), (2, 2), (5, 3), (9, 17), (33, 20)] {
-        for levels in 1..=MAX_LEVELS {
-            let s = Shape::new(width, height, levels);
+        for s in shapes(width, height) {
             let heights = map(width, height);
             let n = width * height;
             let (mut plane, mut work) = (vec![0; n], vec![1; n]);
@@ -71,7 +76,11 @@ fn writer_reader_and_whole_map_agree() {
 /// Saved after every call, and on from the copy: the same rows and the same heights.
 #[test]
 fn a_stream_is_its_numbers_and_its_store() {
-    let s = Shape::new(5, 9, 2);
+    goes_on(Shape::new(5, 9, 2));
+    goes_on(Shape::new(5, 9, 2).by(NINE_SEVEN));
+}
+
+fn goes_on(s: Shape) {
     let heights = map(s.width, s.height);
     let mut store = vec![0; store_length(s)];
     let writer = Writer::new(s, &mut store).unwrap();

@@ -7,6 +7,12 @@ fn map(width: usize, height: usize) -> Vec<u16> {
     (0..width * height).map(|i| (i as u64 * 2_654_435_761 % 65_536) as u16).collect()
 }
 
+/// That size at every number of levels of each filter.
+fn shapes(width: usize, height: usize) -> impl Iterator<Item = Shape> {
+    let five_three = (1..=MAX_LEVELS).map(move |levels| Shape::new(width, height, levels));
+    five_three.chain((1..MAX_LEVELS).map(move |levels| Shape::new(width, height, levels).by(NINE_SEVEN)))
+}
+
 fn draw_all(writer: &mut OwnedWriter, rows: &mut HashMap<BandRow, Vec<i32>>) {
     while let Some((row, values)) = writer.draw().unwrap() {
         assert_eq!(row.length, values.len());
@@ -45,8 +51,7 @@ fn heights_of(rows: &HashMap<BandRow, Vec<i32>>, reader: &mut OwnedReader) -> Ve
 #[test]
 fn there_and_back() {
     for (width, height) in [(1, 1), (4, 1), (5, 3), (33, 20)] {
-        for levels in 1..=MAX_LEVELS {
-            let s = Shape::new(width, height, levels);
+        for s in shapes(width, height) {
             let (heights, n) = (map(width, height), width * height);
             let (mut plane, mut work) = (vec![0; n], vec![0; n]);
             map_forward(&heights, s, &mut plane, &mut work).unwrap();

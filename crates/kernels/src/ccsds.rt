@@ -1,16 +1,15 @@
-// The calls of `nine_seven`, exported likewise: each has that crate's own promise.
+// The calls of `nine_seven` that `terrain` does not export, exported likewise: each has that crate's own promise.
 use nine_seven::line;
 use nine_seven::rows;
 ghost use mathlib.Core.Path.{_≡_};
 ghost use lib.ListN.{length};
-ghost use lib.Dec.{leb};
-ghost use Rattle.numbers.specs.Signal.{at, pick, both};
+ghost use Rattle.numbers.specs.Signal.{at, pick};
 ghost use Rattle.numbers.specs.Word.{wrap32};
 ghost use Rattle.lifting.specs.Grid.{side};
 ghost use Rattle.lifting.specs.GridHalves.{hasLineIn};
 ghost use Rattle.lifting.specs.Rows.{rowsFit, rowsChanged};
 ghost use Rattle.nine_seven.specs.NineSeven.{predicted, unpredicted, updated, unupdated};
-ghost use Rattle.nine_seven.specs.Memory.{liftedInPlace, unliftedInPlace, forwardInto, backwardInto};
+ghost use Rattle.nine_seven.specs.Memory.{liftedInPlace, unliftedInPlace};
 ghost use Rattle.nine_seven.specs.Rows.{fiveFit, rowsBy};
 
 #[no_mangle]
@@ -27,26 +26,6 @@ pub extern "C" fn ccsds_unlift(line: &mut [i32], start: usize) -> u32
         (unliftedInPlace (side start (length (now (line .entry)))) (at (now (line .entry)))) (at (now (line .entry))) ⌝ }
 {
     line::unlift(line, start) as u32
-}
-
-#[no_mangle]
-pub extern "C" fn ccsds_forward(line: &[i32], start: usize, out: &mut [i32]) -> u32
-    ensures { λ r. ⌜ r ≡ pick (leb (length (now (line .entry))) (length (now (out .entry)))) 0 5 ⌝ }
-    ensures { λ r. ⌜ at (now (out .exit)) ≡ pick (leb (length (now (line .entry))) (length (now (out .entry))))
-        (forwardInto (side start (length (now (line .entry)))) (at (now (line .entry))) (at (now (out .entry)))) (at (now (out .entry))) ⌝ }
-{
-    line::forward(line, start, out) as u32
-}
-
-#[no_mangle]
-pub extern "C" fn ccsds_backward(coefficients: &[i32], start: usize, out: &mut [i32]) -> u32
-    ensures { λ r. ⌜ r ≡ pick (leb (length (now (coefficients .entry))) (length (now (out .entry))))
-        (pick (hasLineIn (side start (length (now (coefficients .entry)))) (at (now (coefficients .entry)))) 0 14) 5 ⌝ }
-    ensures { λ r. ⌜ at (now (out .exit)) ≡ pick (both (leb (length (now (coefficients .entry))) (length (now (out .entry))))
-        (hasLineIn (side start (length (now (coefficients .entry)))) (at (now (coefficients .entry)))))
-        (backwardInto (side start (length (now (coefficients .entry)))) (at (now (coefficients .entry))) (at (now (out .entry)))) (at (now (out .entry))) ⌝ }
-{
-    line::backward(coefficients, start, out) as u32
 }
 
 #[no_mangle]

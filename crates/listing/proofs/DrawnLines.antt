@@ -10,6 +10,7 @@ use lib.ListN.{length, drop, getD}
 use Rattle.numbers.specs.Word.{whole}
 use Rattle.lifting.specs.Grid.{side}
 use Rattle.lifting.specs.FiveThree.{fiveThreeFilter}
+use Rattle.nine_seven.specs.Filters.{filterOf}
 use Rattle.wavelet.specs.Limits.{maxHeight, maxSample}
 use Rattle.wavelet.specs.Bands.{Grid, Band, LL, HL, LH, HH, code}
 use Rattle.wavelet.specs.Levels.{levelBand}
@@ -55,8 +56,8 @@ module _ (W H : ℕ) (g : Grid) where
   abbrev valuesOf : RowName → ℕ → ℤ
   valuesOf x = levelBand fiveThreeFilter whole (side 0 W) (side 0 H) g (x .level) (x .band) (x .row)
 
-  pub line-same : (d : DrawnRow) (x : RowName) → d .row ≡ answered (side 0 W) x → HasValues (side 0 W) 0 H g d → drawnLine d ≡ lineOf W H g x
-  unfolding drawnLine lineOf rowLine
+  pub line-same : (d : DrawnRow) (x : RowName) → d .row ≡ answered (side 0 W) x → HasValues 0 (side 0 W) 0 H g d → drawnLine d ≡ lineOf W H g x
+  unfolding filterOf drawnLine lineOf rowLine
   line-same d x e v =
       ap (λ r. lineAs r (d .values)) e
       ∙ ap₂ (λ h s. h ++ (s ++ (10 ∷ []))) (head-same (x .level) (x .band) (x .row) (columns x)) (spaced-same (columns x) (d .values) (valuesOf x) same)
@@ -69,7 +70,7 @@ module _ (W H : ℕ) (g : Grid) where
           ∙ ap (λ r. levelBand fiveThreeFilter whole (side 0 W) (side 0 H) g (r .level) (x .band) (r .row) i) e
 
   -- ---- the lines of rows drawn, and of those after them
-  pub lines-same : (l : List DrawnRow) (m : List RowName) → All (HasValues (side 0 W) 0 H g) l
+  pub lines-same : (l : List DrawnRow) (m : List RowName) → All (HasValues 0 (side 0 W) 0 H g) l
       → map (λ d. d .row) l ++ map (answered (side 0 W)) (drop (length l) m) ≡ map (answered (side 0 W)) m
       → drawnText l ++ linesOf W H g (drop (length l) m) ≡ linesOf W H g m
   unfolding drawnText linesOf
@@ -105,7 +106,7 @@ module _ (W L n : ℕ) (x : Memory) (ready : setUpQuestion 0 (side 0 W) L n ≡ 
     -- the lines drawn, and those of the rows that wait
     pub lines-all : (sizeLine W H L ++ drawnText (drawn es)) ++ linesOf W H (gridOf W (taken es)) (waitingOf 0 (side 0 W) 0 L es)
         ≡ linesDue q (taken es) (finishedBy es)
-    unfolding linesDue waitingOf madeOf wholeRows
+    unfolding linesDue waitingOf madeOf wholeRows filterOf
     lines-all =
         let d = demand-3 0 (side 0 W) 0 L n x (omega arith) (omega arith) ready cs .1 in
         append-assoc (sizeLine W H L) (drawnText (drawn es)) _

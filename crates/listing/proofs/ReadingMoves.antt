@@ -12,9 +12,8 @@ use Rattle.numbers.specs.Signal.{pick}
 use Rattle.pgm.specs.Samples.{sampleSize, heightsOf}
 use Rattle.pgm.proofs.RunReads.{heights-first, bytes-room, bytes-more}
 use Rattle.calls.specs.Lists.{gives, refused, unless, changedUnless}
-use Rattle.level.specs.Level.{Memory}
-use Rattle.level.specs.FiveThreeLevel.{fiveThree}
-use Rattle.writer.specs.Taking.{Taking, oneMore, takes, begun, complete, heightPut, rowMakes, offering}
+use Rattle.level.specs.Level.{Memory, LevelKind}
+use Rattle.writer.specs.Taking.{kind, Taking, oneMore, takes, begun, complete, heightPut, rowMakes, offering}
 use Rattle.writer.specs.Questions.{offerQuestion}
 use Rattle.writer.specs.Answers.{Took}
 use Rattle.writer.specs.Calls.{took, offerReply, offerStore}
@@ -49,17 +48,17 @@ also true true t u v m f g h = omega arith
 also true false t u v m f g h = omega arith
 also false c t u v m f g h = omega arith
 
-taken-most : (run : List ℕ) (s : Writer) (x : Memory) → offering fiveThree run s x .taken ≤ length run
+taken-most : (K : LevelKind) (run : List ℕ) (s : Writer) (x : Memory) → offering K run s x .taken ≤ length run
 unfolding offering
-taken-most [] s x = omega arith
-taken-most (h ∷ run) s x =
+taken-most K [] s x = omega arith
+taken-most K (h ∷ run) s x =
     also (takes s) (ltb (s .column + 1) (s .width)) _ _ _ (length run)
-    (taken-most run (begun s) (heightPut fiveThree h s x))
-    (taken-most run (complete s (rowMakes fiveThree s (heightPut fiveThree h s x))) (rowMakes fiveThree s (heightPut fiveThree h s x) .store))
+    (taken-most K run (begun s) (heightPut K h s x))
+    (taken-most K run (complete s (rowMakes K s (heightPut K h s x))) (rowMakes K s (heightPut K h s x) .store))
     refl
 
-taken-some : (run : List ℕ) (s : Writer) (n : ℕ) (x : Memory) → 0 < length run → offerQuestion s n (length run) ≡ 0 → 0 < offering fiveThree run s x .taken
-taken-some run s n x h q = takes-one run s x (offer-may s n (length run) q .1 h) h
+taken-some : (run : List ℕ) (s : Writer) (n : ℕ) (x : Memory) → 0 < length run → offerQuestion s n (length run) ≡ 0 → 0 < offering (kind s) run s x .taken
+taken-some run s n x h q = takes-one (kind s) run s x (offer-may s n (length run) q .1 h) h
 
 -- ---- the answer of an offer
 yes : {A : Type 0} (q : ℕ) (a b : A) → gives b ≡ unless q a → (q ≡ 0) × (b ≡ a)
@@ -72,7 +71,7 @@ kept (suc q) r a x y e = refl
 
 pub offer-kept : (s : Writer) (n r : ℕ) (run : List ℕ) (x : Memory) → refused r ≡ offerReply s n run x → offerStore s n run x ≡ x
 unfolding offerReply offerStore
-offer-kept s n r run x e = kept (offerQuestion s n (length run)) r (took (offering fiveThree run s x)) x (offering fiveThree run s x .store) e
+offer-kept s n r run x e = kept (offerQuestion s n (length run)) r (took (offering (kind s) run s x)) x (offering (kind s) run s x .store) e
 
 record Passed (run : List ℕ) (j : Took) : Type 0 where
   pub most : j .taken ≤ length run
@@ -81,8 +80,8 @@ record Passed (run : List ℕ) (j : Took) : Type 0 where
 passed : (s : Writer) (n : ℕ) (run : List ℕ) (x : Memory) (j : Took) → gives j ≡ offerReply s n run x → Passed run j
 unfolding offerReply
 passed s n run x j e =
-    let y = yes (offerQuestion s n (length run)) (took (offering fiveThree run s x)) j e in
-    rw (y .1) (record { most = taken-most run s x; some = λ h. taken-some run s n x h (y .0) })
+    let y = yes (offerQuestion s n (length run)) (took (offering (kind s) run s x)) j e in
+    rw (y .1) (record { most = taken-most (kind s) run s x; some = λ h. taken-some run s n x h (y .0) })
 
 -- ---- heights together
 heights-size : (m : ℕ) (s : List ℕ) (c : ℕ) → c ≤ length (heightsOf m s) → length (heightsOf m (take (sampleSize m * c) s)) ≡ c

@@ -27,7 +27,8 @@ module _ (n k : ℕ) (i : Input) (w : Writer) (x z : Memory) where
   unfolding drawState
   drew l y e f g h = record { listing = e ∙ ap (drawnTo i w) f; store = g; row = h }
 
-  pub began : (W H : ℕ) (l : Listing) {x′ : Memory} → l ≡ begunTo i w W H (setUpReply 0 (side 0 W) 0 (i .levels) n) → x′ ≡ setUpStore 0 (side 0 W) (i .levels) n x
+  pub began : (W H : ℕ) (l : Listing) {x′ : Memory} → l ≡ begunTo i w W H (setUpReply 0 (side 0 W) 0 (i .levels) n) →
+      x′ ≡ setUpStore 0 (side 0 W) (i .levels) n x
       → Leaves (beginState n i w W H x z) l x′ z
   unfolding beginState
   began W H l e f = record { listing = e; store = f; row = refl }

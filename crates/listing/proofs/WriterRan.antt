@@ -10,6 +10,7 @@ use lib.ListN.{length, drop}
 use borrow.Author.Tests.{le-leb}
 use Rattle.numbers.specs.Signal.{pick}
 use Rattle.lifting.specs.Grid.{side}
+use Rattle.nine_seven.specs.Filters.{filterOf}
 use Rattle.wavelet.specs.Bands.{across}
 use Rattle.wavelet.specs.Levels.{sideAt}
 use Rattle.wavelet.specs.View.{bandColumns}
@@ -65,7 +66,7 @@ module _ (W L n : ℕ) where
     es = events (r .calls) w₀
 
     pub waiting-is : waitingOf 0 (side 0 W) 0 L es ≡ waits W L hs f ds
-    unfolding waitingOf madeOf wholeRows waits
+    unfolding filterOf waitingOf madeOf wholeRows waits
     waiting-is = rw (r .heights, r .ended, r .rows) refl
 
     pub ran-next : (c : Call) (e : Event) (w′ : Writer) (x′ : Memory) → event c (worldOf n w x) ≡ e → next c (worldOf n w x) ≡ worldOf n w′ x′
@@ -123,7 +124,8 @@ module _ (W L n : ℕ) where
       says : setUpQuestion 0 (side 0 W) L n ≡ 0 → seen given (drawReply w n k x) ≡ drawSays (side 0 W) (waits W L hs f ds) k
       says s =
           let d = demand-3 0 (side 0 W) 0 L n (r .before) (omega arith) (omega arith) s (r .calls) .1 .draws (area z) in
-          let e : drew (area z) (seen given (drawReply w n k x)) (area after) ≡ drew (area z) (drawSays (side 0 W) (waitingOf 0 (side 0 W) 0 L es) k) (d .area) =
+          let e : drew (area z) (seen given (drawReply w n k x)) (area after) ≡ drew (area z)
+          (drawSays (side 0 W) (waitingOf 0 (side 0 W) 0 L es) k) (d .area) =
           sym (drew-is (drawReply w n k x) refl) ∙ ap (event (draw (area z))) (sym (r .world)) ∙ d .says in
           cc (e, ap (λ l. drawSays (side 0 W) l k) waiting-is)
 

@@ -15,7 +15,7 @@ use Rattle.wavelet.specs.Steps.{setTo, setOf, setsBefore}
 use Rattle.wavelet.proofs.StepLaws.{to-first, to-later, set-of, set-there, set-rises, set-last, before-zero, before-suc, before-rises}
 use Rattle.nine_seven.proofs.Filters.{filter-laws}
 use Rattle.level.specs.Sets.{opens}
-use Rattle.reader.specs.Sets.{ahead, hasRow, rowOf, taking, needed, firstRow, makes, waiting, waitsAt}
+use Rattle.reader.specs.Sets.{ahead, hasRow, rowOf, taking, needed, rowTo, firstRow, makes, waiting, waitsAt}
 
 -- a filter looks ahead
 pub looks : (f : ℕ) → 1 ≤ ahead f
@@ -57,14 +57,11 @@ fewer f S r (suc q) h = elim (ℕ-discrete r (suc q)) [
   | no e ↦ omega (arith, fewer f S r q (omega (arith, e)), before-rises (ahead f) S q)
 ]
 
-abbrev rowTo : ℕ → Side → ℕ → ℕ
-rowTo f S n = 2 * (suc n - ahead f) + 1 - S .start % 2
-
-row-is : (f : ℕ) (S : Side) (n : ℕ) → firstRow f S (suc n) ≡ min (rowTo f S n) (S .length - 1)
+row-is : (f : ℕ) (S : Side) (n : ℕ) → firstRow f S (suc n) ≡ min (rowTo f S (suc n)) (S .length - 1)
 unfolding firstRow
 row-is f S n = refl
 
-to-before : (f : ℕ) (S : Side) (n r : ℕ) → rowTo f S n ≡ r → setsBefore (ahead f) S r ≤ suc n
+to-before : (f : ℕ) (S : Side) (n r : ℕ) → rowTo f S (suc n) ≡ r → setsBefore (ahead f) S r ≤ suc n
 to-before f S n zero e = omega (arith, before-zero (ahead f) S)
 to-before f S n (suc r) e = at (suc n - ahead f) refl
   where
@@ -79,18 +76,18 @@ to-before f S n (suc r) e = at (suc n - ahead f) refl
 pub row-before : (f : ℕ) (S : Side) (n : ℕ) → setsBefore (ahead f) S (firstRow f S n) ≤ n
 row-before f S zero = unfold firstRow in omega (arith, before-zero (ahead f) S)
 row-before f S (suc n) =
-    let a = fewer f S (firstRow f S (suc n)) (rowTo f S n) (omega (arith, row-is f S n)) in
-    omega (arith, a, to-before f S n (rowTo f S n) refl)
+    let a = fewer f S (firstRow f S (suc n)) (rowTo f S (suc n)) (omega (arith, row-is f S n)) in
+    omega (arith, a, to-before f S n (rowTo f S (suc n)) refl)
 
 -- and it does, if the level has such a set; then it is a row of the level
-within : (f : ℕ) (S : Side) (n : ℕ) → suc n ≤ lastSet S → firstRow f S (suc n) ≡ rowTo f S n
+within : (f : ℕ) (S : Side) (n : ℕ) → suc n ≤ lastSet S → firstRow f S (suc n) ≡ rowTo f S (suc n)
 within f S n h = omega (arith, row-is f S n, looks f, last-is S)
 
 pub row-makes : (f : ℕ) (S : Side) (n : ℕ) → n ≤ lastSet S → n ≤ setOf (ahead f) S (firstRow f S n)
 row-makes f S zero h = omega arith
 row-makes f S (suc n) h =
-    let u = to-at f (S .start % 2 + rowTo f S n) (2 * (suc n - ahead f)) (omega arith) in
-    rw (within f S n h) (omega (arith, set-of (ahead f) S (rowTo f S n), u))
+    let u = to-at f (S .start % 2 + rowTo f S (suc n)) (2 * (suc n - ahead f)) (omega arith) in
+    rw (within f S n h) (omega (arith, set-of (ahead f) S (rowTo f S (suc n)), u))
 
 pub row-there : (f : ℕ) (S : Side) (n : ℕ) → 0 < S .length → firstRow f S n < S .length
 row-there f S zero p = unfold firstRow in p
@@ -101,17 +98,17 @@ row-in f S zero = unfold firstRow in omega arith
 row-in f S (suc n) = omega (arith, row-is f S n)
 
 -- no other row is so
-to-only : (f : ℕ) (S : Side) (n r : ℕ) → setsBefore (ahead f) S r ≤ suc n → suc n ≤ setOf (ahead f) S r → rowTo f S n ≡ r
+to-only : (f : ℕ) (S : Side) (n r : ℕ) → setsBefore (ahead f) S r ≤ suc n → suc n ≤ setOf (ahead f) S r → rowTo f S (suc n) ≡ r
 to-only f S n zero b m = at (S .start % 2) refl
   where
-    at : (p : ℕ) → S .start % 2 ≡ p → rowTo f S n ≡ 0
+    at : (p : ℕ) → S .start % 2 ≡ p → rowTo f S (suc n) ≡ 0
     at zero e =
         let u : setTo (ahead f) (S .start % 2 + 0) ≡ 0 = ap (setTo (ahead f)) (omega arith) ∙ to-first (ahead f) in
         absurd (omega (arith, set-of (ahead f) S 0, u))
     at (suc p) e = omega (arith, set-of (ahead f) S 0, to-at f (S .start % 2 + 0) p (omega arith))
 to-only f S n (suc r) b m = at (S .start % 2 + r) refl
   where
-    at : (q : ℕ) → S .start % 2 + r ≡ q → rowTo f S n ≡ suc r
+    at : (q : ℕ) → S .start % 2 + r ≡ q → rowTo f S (suc n) ≡ suc r
     at zero e =
         let u = to-at f (S .start % 2 + suc r) 0 (omega arith) in
         omega (arith, set-of (ahead f) S (suc r), u)

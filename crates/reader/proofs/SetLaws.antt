@@ -15,7 +15,7 @@ use Rattle.wavelet.proofs.StepLaws.{to-first, to-later, set-of, before-suc}
 use Rattle.nine_seven.specs.Filters.{filterOf}
 use Rattle.level.specs.Sets.{opens}
 use Rattle.level.specs.Slots.{rowOfSet, halfPlace}
-use Rattle.reader.specs.Sets.{ahead, firstRow}
+use Rattle.reader.specs.Sets.{ahead, rowTo, firstRow}
 use Rattle.reader.specs.Asked.{named}
 use Rattle.reader.specs.Store.{hasCells}
 use Rattle.reader.proofs.OpenedSets.{looks}
@@ -63,10 +63,10 @@ unfolding firstRow
 row-none f S zero e = refl
 row-none f S (suc n) e = omega arith
 
-pub row-some : (f : ℕ) (S : Side) (n t r : ℕ) → 0 < n → t ≡ n - ahead f → r ≡ 2 * t + 1 - S .start % 2 → min r (S .length - 1) ≡ firstRow f S n
+pub row-some : (f : ℕ) (S : Side) (n r : ℕ) → 0 < n → r ≡ rowTo f S n → min r (S .length - 1) ≡ firstRow f S n
 unfolding firstRow
-row-some f S zero t r p et er = absurd (omega arith)
-row-some f S (suc n) t r p et er = omega (arith, et, er)
+row-some f S zero r p e = absurd (omega arith)
+row-some f S (suc n) r p e = ap (λ i. min i (S .length - 1)) e
 
 pub row-either : (f : ℕ) (S : Side) (n : ℕ) → eqb n 0 || eqb (S .length) 0 ≡ true → 0 ≡ firstRow f S n
 row-either f S n e = go (eqb n 0) refl (eqb (S .length) 0) refl e

@@ -34,10 +34,14 @@ unfoldable pub needed : ℕ → Side → ℕ → ℕ → ℕ → ℕ
 needed f H k n zero = n
 needed f H k n (suc j) = pick (eqb k (suc j)) n (setOf (ahead f) (sideAt j H) (rowOf H j (needed f H k n j)))
 
--- ---- to the finer ones: the first row of a level, of the rows S, that set n or a later one makes, and whether set n makes it
+-- ---- to the finer ones: the first row of a level that set n or a later one makes, n past 0, were its rows as many,
+abbrev pub rowTo : ℕ → Side → ℕ → ℕ
+rowTo f S n = 2 * (n - ahead f) + 1 - S .start % 2
+
+-- of the rows S, and whether set n makes it
 unfoldable pub firstRow : ℕ → Side → ℕ → ℕ
 firstRow f S zero = 0
-firstRow f S (suc n) = min (2 * (suc n - ahead f) + 1 - S .start % 2) (S .length - 1)
+firstRow f S (suc n) = min (rowTo f S (suc n)) (S .length - 1)
 
 unfoldable pub makes : ℕ → Side → ℕ → Bool
 makes f S n = leb (setOf (ahead f) S (firstRow f S n)) n

@@ -17,8 +17,7 @@ ghost use Rattle.writer.specs.Calls.{setUpReply, setUpStore};
 ghost use Rattle.terrain.specs.WriterCalls.{number, stateOf, offered, offeredStore, stateTook, takenOf, drawn, drawnStore, drawnArea, stateHanded, rowOf};
 ghost use Rattle.terrain.specs.WriterCalls.{waiting, lookOf, finished, finishedStore};
 
-// The numbers that the line store of a writer or a reader needs; 0 where set-up would give 2, 18 or 4. The height does not
-// count.
+// The numbers that the line store of a writer or a reader needs; 0 where set-up would give 2, 18 or 4. The height does not count.
 #[no_mangle]
 pub extern "C" fn terrain_store_length(shape: Shape) -> usize
     ensures { λ r. ⌜ r ≡ pick (streamable (shape .filter) (columns shape) (shape .levels)) (storeBy (shape .filter) (columns shape) (shape .levels)) 0 ⌝ }

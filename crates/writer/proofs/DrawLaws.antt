@@ -18,12 +18,13 @@ use Rattle.filters.proofs.ForwardLaws.{place-room}
 use Rattle.writer.specs.declared.Writer.{Writer}
 use Rattle.writer.specs.declared.cascade.Wait.{Wait}
 use Rattle.writer.specs.declared.draws.Level.{Level}
+use Rattle.writer.specs.declared.draws.Spot.{Spot}
 use Rattle.writer.specs.Counts.{deeperBy, further, made, lowRows, bandAt, skip, startOf}
 use Rattle.writer.specs.Machine.{Out, under, settled, passOn}
 use Rattle.writer.specs.Draws.{lower, rowOf, waiting, pull}
 use Rattle.writer.specs.Taking.{kind, columnsOf}
 use Rattle.writer.specs.Questions.{waitingRow}
-use Rattle.writer.specs.Calls.{pulled}
+use Rattle.writer.specs.Calls.{pulled, bandRow}
 use Rattle.writer.specs.Steps.{Left, Found, Reaches, columns, received, waitingAt, pullAt, from, spotOf, Walk}
 use Rattle.writer.proofs.CountLaws.{start-first, start-deeper, further-none, further-some, deeper-by-same, deeper-by-more, deeper-by-none}
 use Rattle.writer.proofs.CountLaws.{deeper-by-some, deeper-by-le, made-le, low-le, start-more}
@@ -289,6 +290,13 @@ module _ (s : Writer) (r : Level) (f : Reaches (s .filter) (s .levels) (columnsO
         room = omega (arith, placed, f .room);
         within = omega (arith, f .deep);
       }
+
+  -- as a look tells it
+  pub told : (i b n d : ℕ) → i ≡ prev (s .left) → b ≡ code (bandAt i) → n ≡ setRow (received r) (bandAt i) (r .set) →
+      d ≡ count (across (bandAt i)) (columns r) → record { level = s .level; band = b; row = n; length = d } ≡ bandRow (waitingRow s)
+  told i b n d ei eb en ed =
+      ap (λ (r : Spot). record { level = r .level; band = r .band; row = r .row; length = r .length })
+      (at-is (s .filter) (s .level) (s .offset) r (s .left) i b n d _ ei eb en ed refl ∙ ap spotOf (sym row-is))
 
   module _ (x : Memory) (p i : ℕ) (ep : p ≡ prev (s .left)) (ei : i ≡ skip (columns r) (received r) (r .set) p) where
     draw-is : pulled s x ≡ from (prev (s .level)) (s .offset) x (settled (passOn (kind s) (r .below) (columns r) (r .y)) (r .set) (rest (s .offset) x) i)

@@ -20,7 +20,6 @@ use Rattle.calls.specs.Lists.{Reply, gives, refused, unless, seen, Area}
 use Rattle.level.specs.Level.{Memory}
 use Rattle.writer.specs.declared.Writer.{Writer}
 use Rattle.writer.specs.declared.BandRow.{BandRow}
-use Rattle.writer.specs.declared.draws.Spot.{Spot}
 use Rattle.writer.specs.Taking.{columnsOf}
 use Rattle.writer.specs.Questions.{either, inRanges, longEnough, waitingRow, setUpQuestion, drawQuestion, waitsQuestion}
 use Rattle.writer.specs.Answers.{Handed, aRow, nothing}
@@ -28,7 +27,6 @@ use Rattle.writer.specs.Gate.{stateQuestion}
 use Rattle.writer.specs.Calls.{handed, drawReply, bandRow, noRow, awaited, waitsReply, rowHanded}
 use Rattle.writer.specs.History.{Call, Given, row, none, World, given, event, events, final, freshWorld}
 use Rattle.writer.specs.Demand3.{waitingOf, answered, drawSays, nextRow}
-use Rattle.writer.specs.Steps.{Found}
 use Rattle.writer.proofs.GateLaws.{Sound, sound}
 use Rattle.writer.proofs.Demand3.{demand-3}
 
@@ -61,11 +59,8 @@ module _ (s : Writer) (t : Bool) (e : t ≡ inRanges s) where
   pub look-none : not t ≡ false → s .level ≡ 0 → gives noRow ≡ waitsReply s
   look-none h f = look-passes noRow h (none-awaited (s .level) f)
 
-  pub look-row : (r : Spot) → Found (s .filter) (s .levels) (columnsOf s) (waitingRow s) r → not t ≡ false → 0 < s .level →
-      gives (record { level = r .level; band = r .band; row = r .row; length = r .length }) ≡ waitsReply s
-  look-row r f h p =
-      look-passes _ h
-      (ap (λ (r : Spot). record { level = r .level; band = r .band; row = r .row; length = r .length }) (f .spot) ∙ row-awaited (s .level) p)
+  pub look-row : (r : BandRow) → r ≡ bandRow (waitingRow s) → not t ≡ false → 0 < s .level → gives r ≡ waitsReply s
+  look-row r f h p = look-passes _ h (f ∙ row-awaited (s .level) p)
 
 -- ---- it says what the next draw gives
 module _ (s : Writer) (n k : ℕ) (x : Memory) where

@@ -1,7 +1,6 @@
 // The numbers that the writer derives on its way down the levels. A level has w columns, the first at coordinate x, and has received m rows, the first at
 // coordinate y; `filter` is the number of the filter. The module is private: only this crate, which meets what is required, can call it.
 use filters::figures;
-use filters::forward;
 use wavelet::sizes;
 ghost use mathlib.Core.Path.{_≡_};
 ghost use Prim.Native.Nat.{_<_, _-_, _%_, _^_};
@@ -236,10 +235,10 @@ pub fn next_band(w: usize, x: usize, m: usize, y: usize, n: usize, i: usize) -> 
     0
 }
 
-// How many numbers the stretch of a level has.
+// How many numbers the stretch of a level has. One product whatever the filter: question 1 stays small enough to be put into each call.
 pub fn stretch(filter: usize, w: usize, x: usize) -> usize
     requires { ⌜ w < 4294967296 ⌝ }
     ensures { λ r. ⌜ r ≡ kindOf filter .stretch (side x w) ⌝ }
 {
-    forward::stretch(filter, w, x)
+    figures::rows_kept(filter) * w
 }

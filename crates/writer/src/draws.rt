@@ -1,16 +1,18 @@
 // The row that waits, and the draw of it. The module is private: only this crate, which meets what is required, can call it.
+use crate::BandRow;
 use crate::Writer;
 use crate::cascade;
 use crate::cascade::Wait;
 use crate::counts;
 use filters::forward;
 use wavelet::sizes;
+ghost use mathlib.Core.Path.{_≡_};
 ghost use lib.ListN.{length};
 ghost use Rattle.numbers.specs.Signal.{at};
 ghost use Rattle.lifting.specs.Grid.{side};
 ghost use Rattle.writer.specs.Questions.{waitingRow};
 ghost use Rattle.writer.specs.Taking.{columnsOf};
-ghost use Rattle.writer.specs.Calls.{pulled};
+ghost use Rattle.writer.specs.Calls.{pulled, bandRow};
 ghost use Rattle.writer.specs.Steps.{Left, Walk, Reaches, Placed, Reached, Found, Drawable};
 
 // A band row that waits, and where in the store its numbers begin.
@@ -86,6 +88,21 @@ pub fn waiting(s: Writer, q: Level) -> Spot
         row: counts::set_row(q.rows, q.y, q.set, i),
         length: counts::columns(q.width, q.x, i),
         start: s.offset + forward::band_place(s.filter, q.width, q.x, q.set, band),
+    }
+}
+
+// The same as a look tells it, without its place. A function of its own: either one is put into the call that has it, which one of both would not be.
+pub fn looked(s: Writer, q: Level) -> BandRow
+    requires { ⌜ Walk (s .levels) (columnsOf s) (s .level) (s .rows) × Placed s × Reached s q ⌝ }
+    ensures { λ r. ⌜ r ≡ bandRow (waitingRow s) ⌝ }
+{
+    let i = counts::prev(s.left);
+    let band = counts::code(i);
+    BandRow {
+        level: s.level,
+        band,
+        row: counts::set_row(q.rows, q.y, q.set, i),
+        length: counts::columns(q.width, q.x, i),
     }
 }
 

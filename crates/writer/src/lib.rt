@@ -225,13 +225,7 @@ impl Writer {
                 self.level,
                 self.rows,
             );
-            let spot = draws::waiting(self, q);
-            return Look::Row(BandRow {
-                level: spot.level,
-                band: spot.band,
-                row: spot.row,
-                length: spot.length,
-            });
+            return Look::Row(draws::looked(self, q));
         }
         Look::Row(BandRow {
             level: 0,

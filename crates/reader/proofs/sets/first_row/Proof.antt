@@ -35,8 +35,8 @@ returns-2 c =
     let h = row-high (side (a .y) (a .h)) (a .n) (some .if1 .left) in
     omega (
       arith,
-      row-some (a .filter) (side (a .y) (a .h)) (a .n) (t .less .result) (2 * t .less .result + 1 - a .y % 2) (h .0)
-          (omega (arith, t .less .ensures, t .before .look-ahead .ensures)) (omega arith),
+      row-some (a .filter) (side (a .y) (a .h)) (a .n) (2 * t .less .result + 1 - a .y % 2) (h .0)
+          (omega (arith, t .less .ensures, t .before .look-ahead .ensures)),
     )
 
 returns-3 : tie.Need-returns-3
@@ -47,8 +47,8 @@ returns-3 c =
     let h = row-high (side (a .y) (a .h)) (a .n) (some .if1 .left) in
     omega (
       arith,
-      row-some (a .filter) (side (a .y) (a .h)) (a .n) (t .less .result) (2 * t .less .result + 1 - a .y % 2) (h .0)
-          (omega (arith, t .less .ensures, t .before .look-ahead .ensures)) (omega arith),
+      row-some (a .filter) (side (a .y) (a .h)) (a .n) (2 * t .less .result + 1 - a .y % 2) (h .0)
+          (omega (arith, t .less .ensures, t .before .look-ahead .ensures)),
     )
 
 pub first-row-spec : {M : Type 1} → statement M

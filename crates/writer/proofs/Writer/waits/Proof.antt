@@ -16,18 +16,18 @@ level-of-requires c κs =
     let f = look-sound _ _ (c .before .before .before .in-ranges .ensures) (c .before .before .if1 .left) in
     omega (arith, width-small, height-small)
 
-waiting-requires : tie.Need-waiting-requires
-waiting-requires c κs =
+looked-requires : tie.Need-looked-requires
+looked-requires c κs =
     let f = look-sound _ _ (c .before .before .before .before .in-ranges .ensures) (c .before .before .before .if1 .left) in
     (omega (arith, width-small, height-small), f .placed, c .level-of .ensures)
 
 returns-2 : tie.Need-returns-2
 returns-2 c =
     let i = c .before .before .before .before in
-    look-row _ _ (i .before .in-ranges .ensures) _ (c .waiting .ensures) (i .if1 .left) (omega arith)
+    look-row _ _ (i .before .in-ranges .ensures) _ (c .looked .ensures) (i .if1 .left) (omega arith)
 
 returns-3 : tie.Need-returns-3
 returns-3 c = look-none _ _ (c .before .before .before .in-ranges .ensures) (c .before .before .if1 .left) (omega arith)
 
 pub waits-spec : {M : Type 1} → statement M
-waits-spec = tie.close (tie.spec in-ranges-requires returns level-of-requires waiting-requires returns-2 returns-3)
+waits-spec = tie.close (tie.spec in-ranges-requires returns level-of-requires looked-requires returns-2 returns-3)

@@ -1,20 +1,22 @@
--- `counts::stretch` meets its contract. Assumes nothing.
-use mathlib.Core.Path.{_∙_, ap}
+-- `counts::stretch` meets its contract: the rows that a level keeps, each of w numbers. Assumes nothing.
+use mathlib.Core.Path.{ap}
+use Prim.Native.Nat.{_*_, _≤_}
 use native.Mathlib.Omega.{arith}
-use Rattle.numbers.specs.Signal.{pick}
-use Rattle.lifting.specs.Grid.{side}
-use Rattle.filters.specs.Forward.{kindOf}
-use Rattle.filters.proofs.ForwardLaws.{count-fits}
+use Rattle.filters.proofs.FigureLaws.{row-few}
 use Rattle.writer.proofs.counts.stretch.Statement.{statement}
 use Rattle.writer.proofs.counts.stretch.Tie as tie
 
-stretch-requires : tie.Need-stretch-requires
-stretch-requires c κs = tt
+rows-kept-requires : tie.Need-rows-kept-requires
+rows-kept-requires c κs = tt
+
+mul-result : tie.Need-mul-result
+mul-result c =
+    let a = c .before .args in
+    let p : c .rows-kept .result * a .w ≤ 8 * a .w = rw (c .rows-kept .ensures) (row-few (a .filter) (a .w)) in
+    omega (arith, p)
 
 returns : tie.Need-returns
-returns c =
-    let a = c .before .args in
-    c .stretch .ensures ∙ ap (λ t. pick t (kindOf (a .filter) .stretch (side (a .x) (a .w))) 0) (count-fits (a .filter) (a .w) (omega arith))
+returns c = ap (λ r. r * c .before .args .w) (c .rows-kept .ensures)
 
 pub stretch-spec : {M : Type 1} → statement M
-stretch-spec = tie.close (tie.spec stretch-requires returns)
+stretch-spec = tie.close (tie.spec rows-kept-requires mul-result returns)

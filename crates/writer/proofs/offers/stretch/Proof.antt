@@ -7,7 +7,7 @@ use lib.IntN.{ℤ}
 use lib.ListN.{length}
 use Rattle.numbers.specs.Signal.{pick}
 use Rattle.wavelet.proofs.LimitLaws.{height-small}
-use Rattle.wavelet.proofs.StoreLaws.{store-back}
+use Rattle.wavelet.proofs.StoreLaws.{store-in, store-back}
 use Rattle.nine_seven.specs.Filters.{filterOf}
 use Rattle.level.specs.Heights.{heightAt}
 use Rattle.filters.specs.Forward.{heightsPut, heightsFit}
@@ -51,7 +51,9 @@ returns c =
     (put-there (a .s) (a .run .now) (a .from) (a .n) (length (a .store .now)) _ _ t (omega arith) (omega arith) (put .put .ensures .1)) (omega arith)
 
 arrive-requires : tie.Need-arrive-requires
-arrive-requires c κs = omega arith
+arrive-requires c κs =
+    let s = c .before .before .before .before .before .before .before .before .before .before .args .s in
+    omega (arith, store-in (filterOf (s .filter) .rows) (columnsOf s) 1 (s .levels) (omega arith))
 
 add-t9 : tie.Need-add-t9
 add-t9 c = omega (arith, height-small)
