@@ -115,13 +115,14 @@ oddTable =
 abbrev pub secondTable : List Sample
 secondTable =
     line 0 (pos 1 ∷ pos 4 ∷ pos 2 ∷ pos 7 ∷ pos 3 ∷ []) (pos 2 ∷ pos 4 ∷ pos 5 ∷ []) (pos 3 ∷ pos 4 ∷ [])
-    -- a line that is mirrored more than once: d = 0 − ⌊(9 (2 + 2) − (2 + 2) + 8) / 16⌋
-    ∷ line 0 (pos 2 ∷ pos 0 ∷ []) (pos 1 ∷ []) (negℤ (pos 2) ∷ [])
+    -- a line that is mirrored more than once: d = 0 − ⌊(9 (4 + 4) − (4 + 4) + 8) / 16⌋
+    ∷ line 0 (pos 4 ∷ pos 0 ∷ []) (pos 2 ∷ []) (negℤ (pos 4) ∷ [])
     ∷ line 1 (pos 2 ∷ pos 0 ∷ []) (pos 1 ∷ []) (pos 2 ∷ [])
     ∷ line 1 (pos 1 ∷ pos 4 ∷ pos 2 ∷ []) (pos 3 ∷ []) (negℤ (pos 3) ∷ negℤ (pos 2) ∷ [])
-    ∷ line 0 (pos 100 ∷ pos 0 ∷ pos 0 ∷ pos 0 ∷ pos 0 ∷ pos 0 ∷ pos 0 ∷ pos 0 ∷ pos 50 ∷ []) (pos 72 ∷ negℤ (pos 13) ∷ pos 2 ∷ negℤ (pos 6) ∷ pos 36 ∷ []) (negℤ (pos 56) ∷ pos 6 ∷ pos 3 ∷ negℤ (pos 28) ∷ [])
+    ∷ line 0 (pos 100 ∷ pos 0 ∷ pos 0 ∷ pos 0 ∷ pos 0 ∷ pos 0 ∷ pos 0 ∷ pos 0 ∷ pos 50 ∷ [])
+    (pos 72 ∷ negℤ (pos 13) ∷ pos 2 ∷ negℤ (pos 6) ∷ pos 36 ∷ []) (negℤ (pos 56) ∷ pos 6 ∷ pos 3 ∷ negℤ (pos 28) ∷ [])
     -- "a line of one sample, at either parity, follows the 5/3 rule"
-    ∷ line 0 (pos 9 ∷ []) (pos 9 ∷ []) []
+    ∷ line 0 (pos 7 ∷ []) (pos 7 ∷ []) []
     ∷ line 1 (pos 5 ∷ []) [] (pos 10 ∷ [])
     -- 1 to 4 levels
     ∷ answer 4 (zeroed 1) (zeroed 1) (pos 65535 ∷ []) 0
