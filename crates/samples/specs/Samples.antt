@@ -117,7 +117,8 @@ secondTable =
     line 0 (pos 1 ∷ pos 4 ∷ pos 2 ∷ pos 7 ∷ pos 3 ∷ []) (pos 2 ∷ pos 4 ∷ pos 5 ∷ []) (pos 3 ∷ pos 4 ∷ [])
     -- a line that is mirrored more than once: d = 0 − ⌊(9 (4 + 4) − (4 + 4) + 8) / 16⌋
     ∷ line 0 (pos 4 ∷ pos 0 ∷ []) (pos 2 ∷ []) (negℤ (pos 4) ∷ [])
-    ∷ line 1 (pos 2 ∷ pos 0 ∷ []) (pos 1 ∷ []) (pos 2 ∷ [])
+    -- three places before the first sample is the second, mirrored twice: d = 100 − ⌊(9 (0 + 0) − (0 + 0) + 8) / 16⌋
+    ∷ line 1 (pos 100 ∷ pos 0 ∷ []) (pos 50 ∷ []) (pos 100 ∷ [])
     ∷ line 1 (pos 1 ∷ pos 4 ∷ pos 2 ∷ []) (pos 3 ∷ []) (negℤ (pos 3) ∷ negℤ (pos 2) ∷ [])
     ∷ line 0 (pos 100 ∷ pos 0 ∷ pos 0 ∷ pos 0 ∷ pos 0 ∷ pos 0 ∷ pos 0 ∷ pos 0 ∷ pos 50 ∷ [])
     (pos 72 ∷ negℤ (pos 13) ∷ pos 2 ∷ negℤ (pos 6) ∷ pos 36 ∷ []) (negℤ (pos 56) ∷ pos 6 ∷ pos 3 ∷ negℤ (pos 28) ∷ [])
