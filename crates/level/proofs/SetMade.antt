@@ -1,5 +1,5 @@
 -- Working out a set. If the level's memory holds the set's rows, and of the set before it the even row and the high row of the columns, then what is made are
--- the rows of the way back; and if a number is refused, a row does not fit, or one that is halved is odd.
+-- the rows of the way back; and if a number is refused, a row that this set makes does not fit, or a number that it halves is odd.
 -- Over words, for any bands: nothing is asked of their numbers. Assumes nothing.
 use mathlib.Core.Bool.{Bool, true, false}
 use mathlib.Core.Path.{_≡_, refl, sym, ap, subst, _∙_}
@@ -28,16 +28,16 @@ use Rattle.wavelet.proofs.StepLaws.{set-one}
 use Rattle.level.specs.Tried.{failed, passed}
 use Rattle.level.specs.Stretch as stretch
 use Rattle.level.specs.Slots.{local, rowUnlifted, rowHasLine, rowBy, rowHalved, rowIsEven}
-use Rattle.level.specs.Stands.{RowStands as Is, SetHas, SetLeaves}
+use Rattle.level.specs.Stands.{RowStands as Is, SetHas, SetFitsBy, SetLeaves}
 use Rattle.level.specs.Work.{endOf, hasLow, lowNear, highNear, lineTried, lowTried, highTried, setUnlifted, evenRow, oddRow, admitted}
 use Rattle.level.specs.Work.{evenMade, oddMade, loneMade, lastMade, rowsMade, setMade}
 use Rattle.level.proofs.RowsIn.{Only, only-by, is-old, only-unlifted, line-is, by-is, only-halved, halved-is}
-pub use Rattle.level.proofs.TriedRows.{Outcome, stops, goes, bind-outcome, FitAllBy}
-use Rattle.level.proofs.TriedRows.{not-false, has-row, has-column, each-stands, stands-each, admit}
+pub use Rattle.level.proofs.TriedRows.{Outcome, stops, goes, bind-outcome}
+use Rattle.level.proofs.TriedRows.{not-false, each-stands, stands-each, admit}
 use Rattle.level.proofs.FourRows.{four, apart, parity, unlifted-is}
 
-abbrev pub FitAll : ℕ → Side → Side → (Band → Grid) → Type 0
-FitAll = FitAllBy fiveThreeFilter
+abbrev pub FitSet : ℕ → Side → Side → (Band → Grid) → ℕ → Type 0
+FitSet = SetFitsBy fiveThreeFilter 1
 
 -- ---- one level: the bands p of the columns W and the rows H, whose rows are low-low values of level k
 module _ (k : ℕ) (W H : Side) (p : Band → Grid) where
@@ -168,15 +168,16 @@ module _ (k : ℕ) (W H : Side) (p : Band → Grid) where
 
     -- ---- along the rows
     -- a row tried: what stands in the other slots still does
-    line-tried : (P : (ℕ → ℤ) → Type 0) (h : Half) (r q : ℕ) (x : ℕ → ℤ) → r < count h H → Is W x q (λ a. p (bandOf a h) r) →
+    line-tried : (P : (ℕ → ℤ) → Type 0) (n : ℕ) (h : Half) (r q : ℕ) (x : ℕ → ℤ) → (SetHas 1 W H p n → hasLine W (λ a. p (bandOf a h) r) ≡ true) →
+        Is W x q (λ a. p (bandOf a h) r) →
         (hasLine W (λ a. p (bandOf a h) r) ≡ true → Is W (rowUnlifted W q x) q (parted W (cols h r)) → P (rowUnlifted W q x)) →
-        Outcome (FitAll k W H p) P (lineTried W q x)
+        Outcome (FitSet k W H p n) P (lineTried W q x)
     unfolding stretch.lineTried rowsUnlifted lineBack
-    line-tried P h r q x b s f = go (rowHasLine W q x) refl
+    line-tried P n h r q x m s f = go (rowHasLine W q x) refl
       where
-        go : (t : Bool) → rowHasLine W q x ≡ t → Outcome (FitAll k W H p) P (pick t (passed (rowUnlifted W q x)) failed)
+        go : (t : Bool) → rowHasLine W q x ≡ t → Outcome (FitSet k W H p n) P (pick t (passed (rowUnlifted W q x)) failed)
         go true e = goes (rowUnlifted W q x) (f (sym (line-is four W q x _ s) ∙ e) (unlifted-is W q x _ s))
-        go false e = stops (λ all. not-false (rowHasLine W q x) (line-is four W q x _ s ∙ has-row fiveThreeFilter W H p (all .has) h r b) e)
+        go false e = stops (λ all. not-false (rowHasLine W q x) (line-is four W q x _ s ∙ m (all .has)) e)
 
     -- the low row lifted back
     record Low (n : ℕ) (x : ℕ → ℤ) : Type 0 where
@@ -187,11 +188,11 @@ module _ (k : ℕ) (W H : Side) (p : Band → Grid) where
       high-before : (m : ℕ) → n ≡ suc m → Is W x (2 * m + 1) (parted W (cols hi m))
       past : Past x
 
-    low-tried : (n : ℕ) (x : ℕ → ℤ) → 0 < H .length → n ≤ lastSet H → Past x → Needs n x → Outcome (FitAll k W H p) (Low n) (lowTried W H n x)
+    low-tried : (n : ℕ) (x : ℕ → ℤ) → 0 < H .length → n ≤ lastSet H → Past x → Needs n x → Outcome (FitSet k W H p n) (Low n) (lowTried W H n x)
     unfolding stretch.lowTried hasLow
     low-tried n x g l z s = go (decLt n b₀)
       where
-        go : Dec (n < b₀) → Outcome (FitAll k W H p) (Low n) (pick (leb b₀ n) (lineTried W (2 * n) x) (passed x))
+        go : Dec (n < b₀) → Outcome (FitSet k W H p n) (Low n) (pick (leb b₀ n) (lineTried W (2 * n) x) (passed x))
         go (yes u) = rw (lt-leb b₀ n u) (goes x (record {
           line = λ v. absurd (omega arith);
           low = λ v. absurd (omega arith);
@@ -203,7 +204,7 @@ module _ (k : ℕ) (W H : Side) (p : Band → Grid) where
         go (no u) =
             let o = only-unlifted four unliftedInPlace W (2 * n) x in
             rw (le-leb b₀ n (omega arith))
-            (line-tried (Low n) lo (n - b₀) (2 * n) x (in-lows n g l (omega arith)) (s .low (omega arith)) (λ e m. record {
+            (line-tried (Low n) n lo (n - b₀) (2 * n) x (λ h. h .low (omega arith)) (s .low (omega arith)) (λ e m. record {
               line = λ _. e;
               low = λ _. m;
               high = λ v. is-old four W (2 * n) x _ (2 * n + 1) _ o (parity (2 * n) (2 * n + 1) n n (omega arith) (omega arith)) (s .high v);
@@ -220,16 +221,16 @@ module _ (k : ℕ) (W H : Side) (p : Band → Grid) where
       even-before : (m : ℕ) → n ≡ suc m → b₀ ≤ m → Is W x (2 * m) (parted W (G (2 * m - b₀)))
       past : Past x
 
-    high-tried : (n : ℕ) (x : ℕ → ℤ) → Low n x → Outcome (FitAll k W H p) (Rows n) (highTried W H n x)
+    high-tried : (n : ℕ) (x : ℕ → ℤ) → Low n x → Outcome (FitSet k W H p n) (Rows n) (highTried W H n x)
     unfolding stretch.highTried
     high-tried n x s = go (decLt (2 * n + 1) (endOf H))
       where
-        go : Dec (2 * n + 1 < endOf H) → Outcome (FitAll k W H p) (Rows n) (pick (ltb (2 * n + 1) (endOf H)) (lineTried W (2 * n + 1) x) (passed x))
+        go : Dec (2 * n + 1 < endOf H) → Outcome (FitSet k W H p n) (Rows n) (pick (ltb (2 * n + 1) (endOf H)) (lineTried W (2 * n + 1) x) (passed x))
         go (yes u) =
             let o = only-unlifted four unliftedInPlace W (2 * n + 1) x in
             let v = in-highs n u in
             rw (lt-ltb (2 * n + 1) (endOf H) u)
-            (line-tried (Rows n) hi n (2 * n + 1) x v (s .high v) (λ e m. record {
+            (line-tried (Rows n) n hi n (2 * n + 1) x (λ h. h .high v) (s .high v) (λ e m. record {
               lines = record { low = s .line; high = λ _. e };
               low = λ b. is-old four W (2 * n + 1) x _ (2 * n) _ o (λ y. parity (2 * n) (2 * n + 1) n n (omega arith) (omega arith) (sym y)) (s .low b);
               high = λ i b c d. elim (ℕ-discrete i n) [
@@ -249,7 +250,7 @@ module _ (k : ℕ) (W H : Side) (p : Band → Grid) where
           past = s .past;
         }))
 
-    unlifted : (n : ℕ) (x : ℕ → ℤ) → 0 < H .length → n ≤ lastSet H → Past x → Needs n x → Outcome (FitAll k W H p) (Rows n) (setUnlifted W H n x)
+    unlifted : (n : ℕ) (x : ℕ → ℤ) → 0 < H .length → n ≤ lastSet H → Past x → Needs n x → Outcome (FitSet k W H p n) (Rows n) (setUnlifted W H n x)
     unfolding stretch.setUnlifted
     unlifted n x g l z s = bind-outcome (lowTried W H n x) _ (low-tried n x g l z s) (high-tried n)
 
@@ -312,15 +313,19 @@ module _ (k : ℕ) (W H : Side) (p : Band → Grid) where
     unfolding lastSet firstSet
     low-in n g l b = omega arith
 
+    even-set : (n : ℕ) → n ≤ lastSet H → b₀ ≤ n → setOf 1 H (2 * n - b₀) ≡ n
+    unfolding firstSet
+    even-set n l b = omega (arith, set-one H (2 * n - b₀))
+
     no-low : (n : ℕ) → n < b₀ → n ≡ 0
     unfolding firstSet
     no-low n u = omega arith
 
-    even-made : (n : ℕ) (x : ℕ → ℤ) → 0 < H .length → n ≤ lastSet H → Rows n x → Outcome (FitAll k W H p) (Even n) (evenMade admitted k (W .length) H n x)
+    even-made : (n : ℕ) (x : ℕ → ℤ) → 0 < H .length → n ≤ lastSet H → Rows n x → Outcome (FitSet k W H p n) (Even n) (evenMade admitted k (W .length) H n x)
     unfolding evenMade hasLow
     even-made n x g l s = go (decLt n b₀)
       where
-        go : Dec (n < b₀) → Outcome (FitAll k W H p) (Even n) (pick (leb b₀ n) (admitted k (W .length) (2 * n) (evenRow (W .length) H n x)) (passed x))
+        go : Dec (n < b₀) → Outcome (FitSet k W H p n) (Even n) (pick (leb b₀ n) (admitted k (W .length) (2 * n) (evenRow (W .length) H n x)) (passed x))
         go (yes u) = rw (lt-leb b₀ n u) (goes x (record {
           lines = s .lines;
           rows = record { even = λ i b c d. absurd (omega arith); high = s .high; past = s .past };
@@ -330,7 +335,8 @@ module _ (k : ℕ) (W H : Side) (p : Band → Grid) where
             let b : b₀ ≤ n = omega arith in
             let e = evened n x g l b s in
             rw (le-leb b₀ n b)
-            (admit fiveThreeFilter 4 k W H p (Even n) (2 * n) (2 * n - b₀) _ (low-in n g l b) (e .even n b (omega arith) (omega arith)) (λ f. record {
+            (admit fiveThreeFilter 4 1 k W H p (Even n) n (2 * n) (2 * n - b₀) _ (low-in n g l b) (even-set n l b)
+            (e .even n b (omega arith) (omega arith)) (λ f. record {
               lines = s .lines;
               rows = e;
               fit = λ _. f;
@@ -373,7 +379,11 @@ module _ (k : ℕ) (W H : Side) (p : Band → Grid) where
     unfolding lowNear lastSet count firstSet
     near-right m g l = (omega arith, omega arith)
 
-    odd-made : (n : ℕ) (x : ℕ → ℤ) → 0 < H .length → n ≤ lastSet H → Even n x → Outcome (FitAll k W H p) (Most n) (oddMade admitted k (W .length) H n x)
+    odd-set : (m : ℕ) → suc m ≤ lastSet H → setOf 1 H (2 * m + 1 - b₀) ≡ suc m
+    unfolding firstSet
+    odd-set m l = omega (arith, set-one H (2 * m + 1 - b₀))
+
+    odd-made : (n : ℕ) (x : ℕ → ℤ) → 0 < H .length → n ≤ lastSet H → Even n x → Outcome (FitSet k W H p n) (Most n) (oddMade admitted k (W .length) H n x)
     unfolding oddMade
     odd-made zero x g l s = goes x (record {
       lines = s .lines;
@@ -386,7 +396,8 @@ module _ (k : ℕ) (W H : Side) (p : Band → Grid) where
     })
     odd-made (suc m) x g l s =
         let o = only-odd m x in
-        admit fiveThreeFilter 4 k W H p (Most (suc m)) (2 * m + 1) (2 * m + 1 - b₀) (oddRow (W .length) H m x) (near-two m g l .2) made (λ f. record {
+        admit fiveThreeFilter 4 1 k W H p (Most (suc m)) (suc m) (2 * m + 1) (2 * m + 1 - b₀) (oddRow (W .length) H m x) (near-two m g l .2)
+        (odd-set m l) made (λ f. record {
           lines = s .lines;
           even = λ b. is-old four W (2 * m + 1) x _ (2 * suc m) _ o (λ z. parity (2 * suc m) (2 * m + 1) (suc m) m (omega arith) (omega arith) (sym z))
               (s .rows .even (suc m) b (omega arith) (omega arith));
@@ -473,6 +484,10 @@ module _ (k : ℕ) (W H : Side) (p : Band → Grid) where
     unfolding endOf count firstSet
     last-in n g e = (omega arith, omega arith)
 
+    last-set : (n : ℕ) → 0 < H .length → 2 * n + 2 ≡ endOf H → setOf 1 H (2 * n + 1 - b₀) ≡ n
+    unfolding endOf firstSet lastSet
+    last-set n g e = omega (arith, set-one H (2 * n + 1 - b₀))
+
     not-lone : (n : ℕ) → 2 * n + 2 ≡ endOf H → loneHigh H ≡ false → (1 < H .length) × (b₀ ≤ n)
     unfolding endOf firstSet
     not-lone n e f = elim (ℕ-discrete (H .start % 2) 1) [
@@ -493,9 +508,9 @@ module _ (k : ℕ) (W H : Side) (p : Band → Grid) where
 
     -- a row beside others
     beside-made : (n : ℕ) (x : ℕ → ℤ) → 0 < H .length → 2 * n + 2 ≡ endOf H → loneHigh H ≡ false → Most n x →
-        Outcome (FitAll k W H p) (Worked n) (admitted k (W .length) (2 * n + 1) (oddRow (W .length) H n x))
+        Outcome (FitSet k W H p n) (Worked n) (admitted k (W .length) (2 * n + 1) (oddRow (W .length) H n x))
     beside-made n x g e f s =
-        admit fiveThreeFilter 4 k W H p (Worked n) (2 * n + 1) (2 * n + 1 - b₀) y (last-in n g e .1) last (λ t. (
+        admit fiveThreeFilter 4 1 k W H p (Worked n) n (2 * n + 1) (2 * n + 1 - b₀) y (last-in n g e .1) (last-set n g e) last (λ t. (
           record {
             made = made-by n y
                 (λ b. is-old four W (2 * n + 1) x y (2 * n) _ o (λ z. parity (2 * n) (2 * n + 1) n n (omega arith) (omega arith) (sym z)) (s .even b))
@@ -522,7 +537,7 @@ module _ (k : ℕ) (W H : Side) (p : Band → Grid) where
 
     -- an only row, at an odd coordinate
     lone-made : (n : ℕ) (x : ℕ → ℤ) → 0 < H .length → 2 * n + 2 ≡ endOf H → loneHigh H ≡ true → Most n x →
-        Outcome (FitAll k W H p) (Worked n) (loneMade admitted k (W .length) (2 * n + 1) x)
+        Outcome (FitSet k W H p n) (Worked n) (loneMade admitted k (W .length) (2 * n + 1) x)
     unfolding stretch.loneMade stretch.rowIsEven
     lone-made n x g e f s = go (rowIsEven (W .length) (2 * n + 1) x) refl
       where
@@ -550,9 +565,9 @@ module _ (k : ℕ) (W H : Side) (p : Band → Grid) where
         column c = has-lone H _ f ∙ ap (λ (i : ℕ). isEven (cols hi i c)) (sym first)
 
         go : (t : Bool) → rowIsEven (W .length) (2 * n + 1) x ≡ t →
-            Outcome (FitAll k W H p) (Worked n) (pick t (admitted k (W .length) (2 * n + 1) y) failed)
+            Outcome (FitSet k W H p n) (Worked n) (pick t (admitted k (W .length) (2 * n + 1) y) failed)
         go true even =
-            admit fiveThreeFilter 4 k W H p (Worked n) (2 * n + 1) (2 * n + 1 - b₀) y (last-in n g e .1) last (λ t. (
+            admit fiveThreeFilter 4 1 k W H p (Worked n) n (2 * n + 1) (2 * n + 1 - b₀) y (last-in n g e .1) (last-set n g e) last (λ t. (
               record {
                 made = made-by n y
                     (λ b. is-old four W (2 * n + 1) x y (2 * n) _ o (λ z. parity (2 * n) (2 * n + 1) n n (omega arith) (omega arith) (sym z)) (s .even b))
@@ -565,21 +580,21 @@ module _ (k : ℕ) (W H : Side) (p : Band → Grid) where
               λ j q. o .past j q ∙ s .past j q,
             ))
         go false odd = stops (λ all. not-false (rowIsEven (W .length) (2 * n + 1) x)
-            (each-every (W .length) _ (stands-each 4 W isEven (2 * n + 1) x (cols hi n) high
-            (λ c v. sym (column c) ∙ has-column fiveThreeFilter W H p (all .has) c v))) odd)
+            (each-every (W .length) _ (stands-each 4 W isEven (2 * n + 1) x (cols hi n) high (λ c v.
+            sym (column c) ∙ all .has .columns (2 * n + 1 - b₀) (last-in n g e .1) (last-set n g e) c v))) odd)
 
     none-lone : (n : ℕ) → n ≤ lastSet H → (2 * n + 2 ≡ endOf H → ⊥) → loneHigh H ≡ true → ⊥
     unfolding lastSet endOf count
     none-lone n l e f = let a = lone-high H f .0 in let b = lone-high H f .2 in e (omega arith)
 
-    last-made : (n : ℕ) (x : ℕ → ℤ) → 0 < H .length → n ≤ lastSet H → Most n x → Outcome (FitAll k W H p) (Worked n) (lastMade admitted k (W .length) H n x)
+    last-made : (n : ℕ) (x : ℕ → ℤ) → 0 < H .length → n ≤ lastSet H → Most n x → Outcome (FitSet k W H p n) (Worked n) (lastMade admitted k (W .length) H n x)
     unfolding lastMade
     last-made n x g l s = go (ℕ-discrete (2 * n + 2) (endOf H))
       where
         high-in : 2 * n + 2 < endOf H → n < count hi H
         high-in b = in-highs n (omega arith)
 
-        lone : (t : Bool) → loneHigh H ≡ t → 2 * n + 2 ≡ endOf H → Outcome (FitAll k W H p) (Worked n)
+        lone : (t : Bool) → loneHigh H ≡ t → 2 * n + 2 ≡ endOf H → Outcome (FitSet k W H p n) (Worked n)
             (pick t (loneMade admitted k (W .length) (2 * n + 1) x) (admitted k (W .length) (2 * n + 1) (oddRow (W .length) H n x)))
         lone true f e = lone-made n x g e f s
         lone false f e = beside-made n x g e f s
@@ -588,7 +603,7 @@ module _ (k : ℕ) (W H : Side) (p : Band → Grid) where
         has-none true f e = absurd (none-lone n l e f)
         has-none false f e = has-of n (s .lines) (λ c _. has-other H _ f)
 
-        go : Dec (2 * n + 2 ≡ endOf H) → Outcome (FitAll k W H p) (Worked n)
+        go : Dec (2 * n + 2 ≡ endOf H) → Outcome (FitSet k W H p n) (Worked n)
             (pick (eqb (2 * n + 2) (endOf H))
             (pick (loneHigh H) (loneMade admitted k (W .length) (2 * n + 1) x) (admitted k (W .length) (2 * n + 1) (oddRow (W .length) H n x)))
             (passed x))
@@ -604,11 +619,11 @@ module _ (k : ℕ) (W H : Side) (p : Band → Grid) where
         ))
 
     -- ---- a set worked out makes rows of the way back
-    rows-made : (n : ℕ) (x : ℕ → ℤ) → 0 < H .length → n ≤ lastSet H → Rows n x → Outcome (FitAll k W H p) (Worked n) (rowsMade admitted k (W .length) H n x)
+    rows-made : (n : ℕ) (x : ℕ → ℤ) → 0 < H .length → n ≤ lastSet H → Rows n x → Outcome (FitSet k W H p n) (Worked n) (rowsMade admitted k (W .length) H n x)
     unfolding rowsMade
     rows-made n x g l s = bind-outcome (evenMade admitted k (W .length) H n x) _ (even-made n x g l s)
         (λ y e. bind-outcome (oddMade admitted k (W .length) H n y) _ (odd-made n y g l e) (λ u m. last-made n u g l m))
 
-    pub set-made : (n : ℕ) (x : ℕ → ℤ) → 0 < H .length → n ≤ lastSet H → Past x → Needs n x → Outcome (FitAll k W H p) (Worked n) (setMade admitted k W H n x)
+    pub set-made : (n : ℕ) (x : ℕ → ℤ) → 0 < H .length → n ≤ lastSet H → Past x → Needs n x → Outcome (FitSet k W H p n) (Worked n) (setMade admitted k W H n x)
     unfolding setMade
     set-made n x g l z s = bind-outcome (setUnlifted W H n x) _ (unlifted n x g l z s) (λ y r. rows-made n y g l r)

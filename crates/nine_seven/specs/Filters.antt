@@ -1,4 +1,4 @@
--- The filters by their numbers. Document 02, Q-8: "Filter 0 is the 5/3, 1 this one"; any other is refused (18) before it is asked here.
+-- The filters by their numbers. Document 02, Q-8: "0 the 5/3, 1 this one"; any other is refused (18) before it is asked here.
 use mathlib.Core.Bool.{Bool}
 use Prim.Native.Nat.{ℕ, zero, suc}
 use lib.Dec.{leb}

@@ -16,11 +16,11 @@ use Rattle.wavelet.specs.Levels.{next}
 use Rattle.wavelet.specs.Order.{firstSet, lastSet, setHas}
 use Rattle.level.specs.Stretch as stretch
 use Rattle.level.specs.Stretch.{local, rowOfSet, endOf, hasLow}
-use Rattle.level.proofs.RowsIn.{apart, Only, is-old, only-fed, only-taken}
-use Rattle.level.proofs.RowsIn.{row-halves, joined-reads}
+use Rattle.level.specs.Stands.{SetFitsBy}
+use Rattle.level.proofs.RowsIn.{apart, Only, is-old, only-fed, only-taken, row-halves, joined-reads}
 use Rattle.level.proofs.BandsIn.{SameMem, is-same, got-same, got-old, got-new, low-bands, high-bands, no-low, got-taken, no-true}
 use Rattle.level.proofs.RebuildingLaws.{set-row}
-use Rattle.level.proofs.SetMade.{Outcome, FitAllBy}
+use Rattle.level.proofs.SetMade.{Outcome}
 use Rattle.level.proofs.ReaderLaws.{ReaderLawsBy}
 use Rattle.nine_seven.specs.NineSevenFilter.{nineSevenFilter}
 use Rattle.nine_seven_rebuilding.specs.Slots.{slot, bandFed, lowRowTaken}
@@ -84,7 +84,7 @@ module _ (W H : Side) (p : Band → Grid) (n : ℕ) where
     Done y = SetLeaves k W H p n y × ((j : ℕ) → 8 * W .length ≤ j → y j ≡ x j)
 
     -- at the last level all bands are fed
-    last-done : ((c : Band) → Got x c) → Outcome (FitAllBy nineSevenFilter k W H p) Done (setWorked true k W H n x)
+    last-done : ((c : Band) → Got x c) → Outcome (SetFitsBy nineSevenFilter 2 k W H p n) Done (setWorked true k W H n x)
     unfolding setWorked stretch.lowTaken
     last-done got = set-made k W H p x n x some (set-row′ H n some there) (λ j _. refl) (needs-of x before got)
 
@@ -99,18 +99,17 @@ module _ (W H : Side) (p : Band → Grid) (n : ℕ) where
         unfolding rowOfSet
         before-taken = before-only lo x taken (only-taken eight W H n x) before
 
-        taken-done : Outcome (FitAllBy nineSevenFilter k W H p) Done (setMade k W H n taken)
-        taken-done =
-            set-made k W H p x n taken some (set-row′ H n some there) (only-taken eight W H n x .past)
+        taken-done : Outcome (SetFitsBy nineSevenFilter 2 k W H p n) Done (setMade k W H n taken)
+        taken-done = set-made k W H p x n taken some (set-row′ H n some there) (only-taken eight W H n x .past)
             (needs-of taken before-taken (got-taken many W H p n x got low))
 
       on-done : (firstSet H lo ≤ n → (i : ℕ) → i < count lo W →
           rowMade (next W) (next H .start) (n - firstSet H lo) (λ j. x (8 * W .length + j)) i ≡ p LL (n - firstSet H lo) i) →
-          Outcome (FitAllBy nineSevenFilter k W H p) Done (setWorked false k W H n x)
+          Outcome (SetFitsBy nineSevenFilter 2 k W H p n) Done (setWorked false k W H n x)
       unfolding setWorked stretch.lowTaken hasLow
       on-done low = go (decLt n (firstSet H lo))
         where
-          go : Dec (n < firstSet H lo) → Outcome (FitAllBy nineSevenFilter k W H p) Done (setMade k W H n (pick (leb (firstSet H lo) n) taken x))
+          go : Dec (n < firstSet H lo) → Outcome (SetFitsBy nineSevenFilter 2 k W H p n) Done (setMade k W H n (pick (leb (firstSet H lo) n) taken x))
           go (yes b) = rw (lt-leb (firstSet H lo) n b)
               (set-made k W H p x n x some (set-row′ H n some there) (λ j _. refl) (needs-of x before (no-low many W H p n x got b)))
           go (no b) = rw (le-leb (firstSet H lo) n (omega arith)) (taken-done (low (omega arith)))

@@ -6,14 +6,14 @@ use native.Mathlib.Decide.{ℕ-discrete}
 use native.Mathlib.Omega.{arith}
 use lib.IntN.{ℤ}
 use lib.Dec.{T}
-use borrow.Author.Tests.{eq-eqb, ne-eqb, lt-ltb, le-ltb, lt-leb, le-leb}
+use borrow.Author.Tests.{eq-eqb, lt-ltb, le-ltb, lt-leb, le-leb}
 use Rattle.lifting.specs.Grid.{Side, loneHigh}
 use Rattle.lifting.proofs.LoneLaws.{lone-odd}
 use Rattle.nine_seven.specs.NineSevenFilter.{nineSevenFilter}
 use Rattle.level.specs.Tried.{failed, passed, outcome, bind}
 use Rattle.level.specs.Stretch.{endOf}
 use Rattle.level.proofs.WorkLaws.{told-no, told-yes, bind-failed, bind-passed, low-first, low-there, told}
-use Rattle.nine_seven_rebuilding.specs.Work.{setUnlifted, evenRow, oddRow, evenDone, rowFits, admitted, pairMade}
+use Rattle.nine_seven_rebuilding.specs.Work.{setUnlifted, evenRow, oddRow, evenDone, rowFits, admitted, pairMade, ownEven}
 use Rattle.nine_seven_rebuilding.specs.Work.{firstMade, earlierPair, earlierMade, ownMade, loneMade, lastMade, restMade, rowsMade, setMade}
 use Rattle.nine_seven_rebuilding.specs.Work.{lowTaken, setWorked}
 
@@ -41,13 +41,13 @@ module _ (k w : ℕ) (H : Side) (m : ℕ) (x z : ℕ → ℤ) (ez : z ≡ oddRow
 
 -- ---- the rows of a set
 module _ (k w : ℕ) (H : Side) (n : ℕ) (x : ℕ → ℤ) where
-  pub first-none : (H .start % 2 + n ≡ 0 → ⊥) → passed x ≡ firstMade k w H n x
+  pub first-none : (t : Bool) → t ≡ ownEven H n → t ≡ false → passed x ≡ firstMade k w H n x
   unfolding firstMade
-  first-none b = rw (ne-eqb (H .start % 2 + n) 0 b) refl
+  first-none t e b = rw (sym e ∙ b) refl
 
-  pub first-made : (ok : Bool) → H .start % 2 + n ≡ 0 → ok ≡ rowFits k w 0 x → outcome ok x ≡ firstMade k w H n x
+  pub first-made : (t ok : Bool) → t ≡ ownEven H n → t ≡ true → ok ≡ rowFits k w (2 * n) x → outcome ok x ≡ firstMade k w H n x
   unfolding firstMade
-  first-made ok e eo = rw (eq-eqb (H .start % 2 + n) 0 e) (told 8 nineSevenFilter k w 0 ok x x refl eo)
+  first-made t ok e b eo = rw (sym e ∙ b) (told 8 nineSevenFilter k w (2 * n) ok x x refl eo)
 
   pub earlier-none : n < 2 → passed x ≡ earlierMade k w H n x
   unfolding earlierMade

@@ -1,16 +1,16 @@
 -- A set worked out leaves every place past its level's stretch as it was, whatever stands in it. Assumes nothing.
 use mathlib.Core.Bool.{Bool}
-use Prim.Native.Nat.{ℕ, _+_, _-_, _*_, _%_}
+use Prim.Native.Nat.{ℕ, _+_, _-_, _*_}
 use lib.IntN.{ℤ}
-use lib.Dec.{ltb, leb, eqb}
+use lib.Dec.{ltb, leb}
 use Rattle.lifting.specs.Grid.{Side, loneHigh}
 use Rattle.nine_seven.specs.Memory.{unliftedInPlace}
 use Rattle.nine_seven.specs.NineSevenFilter.{nineSevenFilter}
 use Rattle.level.specs.Stretch.{endOf}
 use Rattle.level.proofs.KeptLaws.{kept-none}
 use Rattle.level.proofs.WorkedPast.{Keeps, admits, either, after, bound, stays, rows-past, lone-past, taken-past}
-use Rattle.nine_seven_rebuilding.specs.Work.{evenDone, oddRow, pairMade, firstMade, earlierPair, earlierMade, ownMade, lastMade, restMade, rowsMade}
-use Rattle.nine_seven_rebuilding.specs.Work.{setMade, setWorked}
+use Rattle.nine_seven_rebuilding.specs.Work.{evenDone, oddRow, pairMade, ownEven, firstMade, earlierPair, earlierMade, ownMade, lastMade, restMade}
+use Rattle.nine_seven_rebuilding.specs.Work.{rowsMade, setMade, setWorked}
 use Rattle.nine_seven_rebuilding.proofs.EightRows.{eight}
 use Rattle.nine_seven_rebuilding.proofs.KeptLaws.{odd-kept, done-kept}
 
@@ -30,7 +30,7 @@ module _ (k : ℕ) (W H : Side) where
 
   first-past : (n : ℕ) (x : ℕ → ℤ) → Keeps room x (firstMade k w H n x)
   unfolding firstMade
-  first-past n x = either room x _ _ (admits room 8 nineSevenFilter k w 0 x x (kept-none room x)) (stays eight W H x) (eqb (H .start % 2 + n) 0)
+  first-past n x = either room x _ _ (admits room 8 nineSevenFilter k w (2 * n) x x (kept-none room x)) (stays eight W H x) (ownEven H n)
 
   earlier-past : (n : ℕ) (x : ℕ → ℤ) → Keeps room x (earlierMade k w H n x)
   unfolding earlierMade
@@ -58,8 +58,7 @@ module _ (k : ℕ) (W H : Side) where
 
   set-past : (n : ℕ) (x : ℕ → ℤ) → Keeps room x (setMade k W H n x)
   unfolding setMade
-  set-past n x =
-      bound room x _ _ (rows-past eight W H unliftedInPlace n x)
+  set-past n x = bound room x _ _ (rows-past eight W H unliftedInPlace n x)
       (λ y. after room y (evenDone w H n y) _ (done-kept w H n y) (made-past n (evenDone w H n y)))
 
   pub worked-past : (last : Bool) (n : ℕ) (x : ℕ → ℤ) → Keeps room x (setWorked last k W H n x)

@@ -41,7 +41,7 @@ pub fn widths(width: usize, x: usize, levels: usize) -> usize
     added(width, x, levels)
 }
 
-// The widths of so many columns add up to no more, wherever they start, at any number of levels within the limits: so they are seldom added up. 0 past the limit.
+// The widths of so many columns add up to no more, wherever they start, at any number of levels: so they are seldom added up. 0 past the limit.
 pub fn any_widths(width: usize) -> usize
     ensures { λ r. ⌜ r ≡ pick (leb width maxWidth) (anyWidths width) 0 ⌝ }
 {
