@@ -1,4 +1,4 @@
-/* Another library in the same table: `bench/run FILE.so ...`.
+/* Another library in the table of the 5/3: `bench/run FILE.so ...`.
  *
  * A plug-in is a shared object with one symbol, `bench_plugin`. Each of its two calls does a whole map at once, as terrain_map_forward and
  * terrain_map_backward do: `heights`, `plane` and `work` have width * height numbers each, `work` may be used or not. A call answers 0, or

@@ -72,6 +72,7 @@ impl Question {
             (12, Call::ReaderDraw) => "the output is shorter than a height row, which is as long as the map is wide",
             (12, _) => "the output is shorter than the band row that waits",
             (13, _) => "the run has not exactly the length of the band row that is wanted",
+            (14, Call::Line) => "no line has this value: alone at an odd coordinate, it is odd",
             (14, Call::MapBackward) => "no map has this plane",
             (14, _) => "no map has the rows that were fed: the reader has ended",
             (18, _) => "there is no such filter: 0 is the 5/3, 1 the 9/7",

@@ -211,7 +211,7 @@ fn a_question_prints_a_sentence() {
 #[test]
 fn every_question_of_every_call_has_a_sentence() {
     let questions: [(Call, &[u32]); 15] = [
-        (Call::Line, &[5]),
+        (Call::Line, &[5, 14]),
         (Call::Profile, &[2, 5]),
         (Call::Picture, &[2, 3]),
         (Call::MapForward, &[2, 3, 18, 4, 5]),

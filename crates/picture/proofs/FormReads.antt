@@ -1,4 +1,4 @@
--- The fixed form is read back: its header gives width and height (`head-read`), its bytes the heights (`heights-read`). Assumes nothing.
+-- The fixed form is read back: its header gives width and height (`head-read`), its bytes the heights (`samples-back`). Assumes nothing.
 use mathlib.Core.Path.{_≡_, refl, sym, ap, ap₂, _∙_}
 use mathlib.Core.Bool.{Bool, true, false}
 use mathlib.Core.List.{List, [], _∷_, _++_, append-assoc}
