@@ -186,8 +186,8 @@ module _ (k : ℕ) (W H : Side) (p : Band → Grid) where
 
     before-old : (n t : ℕ) (x y : ℕ → ℤ) → 2 * n ≤ t → t < 2 * n + 2 → Only 8 (W .length) t x y → SetBefore W H p n x → SetBefore W H p n y
     before-old n t x y a b o s = record {
-      even = λ m c d e. is-old eight W t x y (2 * m) _ o (apart t (2 * m) (λ z. omega arith) (omega arith) (omega arith)) (s .even m c d e);
-      high = λ m c d. is-old eight W t x y (2 * m + 1) _ o (apart t (2 * m + 1) (λ z. omega arith) (omega arith) (omega arith)) (s .high m c d);
+      even = λ m c d e. is-old eight W t x y (2 * m) _ o (apart 8 t (2 * m) (λ z. omega arith) (omega arith) (omega arith)) (s .even m c d e);
+      high = λ m c d. is-old eight W t x y (2 * m + 1) _ o (apart 8 t (2 * m + 1) (λ z. omega arith) (omega arith) (omega arith)) (s .high m c d);
     }
 
     low-tried : (n : ℕ) (x : ℕ → ℤ) → 2 * n < endOf H → Past x → Needs n x → Outcome (FitSet k W H p n) (Low n) (lowTried W H n x)
