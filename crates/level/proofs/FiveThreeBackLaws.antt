@@ -26,7 +26,7 @@ use Rattle.wavelet.proofs.StepLaws.{set-one}
 use Rattle.level.proofs.RowsIn.{apart, parity, row-end, Is, Only, is-old, only-fed, fed-here, fed-beside, only-taken, taken-is, taken-beside}
 use Rattle.level.proofs.RowsIn.{half-inside}
 use Rattle.level.proofs.RowsIn.{row-halves, half-reads, joined-reads}
-use Rattle.level.proofs.SetMade.{Outcome, FitAll, Needs, set-made}
+use Rattle.level.proofs.SetMade.{Outcome, FitSet, Needs, set-made}
 use Rattle.level.proofs.ReaderLaws.{ReaderLaws}
 
 -- ---- two memories that agree in a level's four rows
@@ -158,7 +158,7 @@ module _ (W H : Side) (p : Band → Grid) (n : ℕ) where
     Done y = SetLeaves k W H p n y × ((j : ℕ) → 4 * W .length ≤ j → y j ≡ x j)
 
     -- at the last level all bands are fed
-    last-done : ((c : Band) → Got x c) → Outcome (FitAll k W H p) Done (setWorked admitted true k W H n x)
+    last-done : ((c : Band) → Got x c) → Outcome (FitSet k W H p n) Done (setWorked admitted true k W H n x)
     unfolding setWorked
     last-done got = set-made k W H p x n x some there (λ j _. refl) (needs-of x before got)
 
@@ -200,16 +200,16 @@ module _ (W H : Side) (p : Band → Grid) (n : ℕ) where
         unfolding rowOfSet
         before-taken = before-only lo x taken (only-taken W H n x) before
 
-        taken-done : Outcome (FitAll k W H p) Done (setMade admitted k W H n taken)
+        taken-done : Outcome (FitSet k W H p n) Done (setMade admitted k W H n taken)
         taken-done = set-made k W H p x n taken some there (only-taken W H n x .past) (needs-of taken before-taken got-taken)
 
       on-done : (firstSet H lo ≤ n → (i : ℕ) → i < count lo W →
           rowMade (next W) (next H .start) (n - firstSet H lo) (λ j. x (4 * W .length + j)) i ≡ p LL (n - firstSet H lo) i) →
-          Outcome (FitAll k W H p) Done (setWorked admitted false k W H n x)
+          Outcome (FitSet k W H p n) Done (setWorked admitted false k W H n x)
       unfolding setWorked hasLow
       on-done low = go (decLt n (firstSet H lo))
         where
-          go : Dec (n < firstSet H lo) → Outcome (FitAll k W H p) Done (setMade admitted k W H n (pick (leb (firstSet H lo) n) taken x))
+          go : Dec (n < firstSet H lo) → Outcome (FitSet k W H p n) Done (setMade admitted k W H n (pick (leb (firstSet H lo) n) taken x))
           go (yes b) = rw (lt-leb (firstSet H lo) n b) (set-made k W H p x n x some there (λ j _. refl) (needs-of x before (no-low b)))
           go (no b) = rw (le-leb (firstSet H lo) n (omega arith)) (taken-done (low (omega arith)))
 

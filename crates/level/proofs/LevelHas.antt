@@ -1,11 +1,13 @@
--- Where no set of a level halves an odd number, the level has none, by any filter: `sets-have`. Assumes nothing.
+-- Where no set of a level halves an odd number, the level has none, by any filter, and the other way: `sets-have`, `have-sets`. Assumes nothing.
 use mathlib.Core.Path.{_≡_, refl, subst}
 use mathlib.Core.Bool.{Bool, true, false}
 use Prim.Native.Nat.{ℕ, _+_, _-_, _≤_, _<_}
 use native.Mathlib.Omega.{arith}
 use Rattle.numbers.specs.Word.{wrap32}
-use Rattle.numbers.proofs.TestLaws.{each-every}
-use Rattle.lifting.specs.Line.{lo, hi}
+use Rattle.numbers.specs.Tests.{every}
+use Rattle.numbers.proofs.Sweep.{both}
+use Rattle.numbers.proofs.TestLaws.{each-every, every-each}
+use Rattle.lifting.specs.Line.{Half, lo, hi}
 use Rattle.lifting.specs.Grid.{Side, count, loneHigh, hasLine}
 use Rattle.lifting.proofs.LoneLaws.{lone-high, has-other}
 use Rattle.lifting.specs.Filter.{Filter}
@@ -39,3 +41,21 @@ sets-have F a W H p s = rw (each-every (count lo H) _ low, each-every (count hi 
     column : (c : ℕ) → c < W .length → (t : Bool) → loneHigh H ≡ t → hasLine H (λ h i. rowsUnlifted F wrap32 W p h i c) ≡ true
     column c b true e = let one = lone-high H e .0 in s (setOf a H 0) (set-there a H 0) .columns 0 (omega arith) refl c b
     column c b false e = has-other H _ e
+
+low-there : (H : Side) (n : ℕ) → 0 < H .length → n ≤ lastSet H → firstSet H lo ≤ n → n - firstSet H lo < count lo H
+unfolding firstSet lastSet count
+low-there H n g l b = omega arith
+
+pub have-sets : (F : Filter) (a : ℕ) (W H : Side) (p : Band → Grid) → levelHas F W H p ≡ true → 0 < H .length → (n : ℕ) → n ≤ lastSet H → SetHasBy F a W H p n
+unfolding levelHas rowsHave columnsHave
+have-sets F a W H p e g n l = record {
+  low = λ b. every-each (count lo H) (lines lo) (rows .0) (n - firstSet H lo) (low-there H n g l b);
+  high = λ b. every-each (count hi H) (lines hi) (rows .1) n b;
+  columns = λ _ _ _ c b. every-each (W .length) _ (both (rowsHave W H p) (columnsHave F W H p) e .1) c b;
+}
+  where
+    lines : Half → ℕ → Bool
+    lines h r = hasLine W (λ y. p (bandOf y h) r)
+
+    rows : (every (count lo H) (lines lo) ≡ true) × (every (count hi H) (lines hi) ≡ true)
+    rows = both (every (count lo H) (lines lo)) (every (count hi H) (lines hi)) (both (rowsHave W H p) (columnsHave F W H p) e .0)

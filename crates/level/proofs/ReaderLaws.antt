@@ -15,8 +15,8 @@ use Rattle.wavelet.specs.Levels.{next}
 use Rattle.wavelet.specs.Order.{firstSet, lastSet, setRow, setHas}
 use Rattle.wavelet.specs.Steps.{setOf}
 use Rattle.level.specs.ReaderLevel.{ReaderLevel}
-use Rattle.level.specs.Stands.{SetHasBy, BackMeaning}
-use Rattle.level.proofs.SetMade.{Outcome, FitAllBy}
+use Rattle.level.specs.Stands.{SetHasBy, SetFitsBy, BackMeaning}
+use Rattle.level.proofs.SetMade.{Outcome}
 
 pub record ReaderLawsBy (F : Filter) (K : ReaderLevel) (M : BackMeaning) : Type 0 where
   -- all this is in the level's stretch
@@ -39,15 +39,16 @@ pub record ReaderLawsBy (F : Filter) (K : ReaderLevel) (M : BackMeaning) : Type 
   -- the first set needs nothing, and each has what it needs of those before it once the one before it is worked out
   pub before-first : (W H : Side) (p : Band → Grid) (x : ℕ → ℤ) → M .Before W H p 0 x
   pub before-next : (k : ℕ) (W H : Side) (p : Band → Grid) (n : ℕ) (x : ℕ → ℤ) → suc n ≤ lastSet H → M .Leaves k W H p n x → M .Before W H p (suc n) x
-  -- Set n worked out: it makes the rows of the way back. If a number is refused, a row does not fit, or one that is halved is odd.
+  -- Set n worked out: it makes the rows of the way back. If a number is refused, a row that it makes
+  -- does not fit, or a number that it halves is odd: it asks no other row 14.
   pub work-last : (k : ℕ) (W H : Side) (p : Band → Grid) (n : ℕ) (x : ℕ → ℤ) → 0 < H .length → n ≤ lastSet H → M .Before W H p n x →
       ((c : Band) → M .Got W H p n x c) →
-      Outcome (FitAllBy F k W H p) (λ y. M .Leaves k W H p n y × ((j : ℕ) → K .stretch W ≤ j → y j ≡ x j)) (K .work true k W H n x)
+      Outcome (SetFitsBy F (K .ahead) k W H p n) (λ y. M .Leaves k W H p n y × ((j : ℕ) → K .stretch W ≤ j → y j ≡ x j)) (K .work true k W H n x)
   pub work-on : (k : ℕ) (W H : Side) (p : Band → Grid) (n : ℕ) (x : ℕ → ℤ) → 0 < H .length → n ≤ lastSet H → M .Before W H p n x →
       ((c : Band) → (c ≡ LL → ⊥) → M .Got W H p n x c) →
       (firstSet H lo ≤ n → (i : ℕ) → i < count lo W →
       K .made (next W) (next H .start) (n - firstSet H lo) (λ j. x (K .stretch W + j)) i ≡ p LL (n - firstSet H lo) i) →
-      Outcome (FitAllBy F k W H p) (λ y. M .Leaves k W H p n y × ((j : ℕ) → K .stretch W ≤ j → y j ≡ x j)) (K .work false k W H n x)
+      Outcome (SetFitsBy F (K .ahead) k W H p n) (λ y. M .Leaves k W H p n y × ((j : ℕ) → K .stretch W ≤ j → y j ≡ x j)) (K .work false k W H n x)
   -- the rows that it makes, and that no number that it halved is odd
   pub made-is : (k : ℕ) (W H : Side) (p : Band → Grid) (n : ℕ) (x : ℕ → ℤ) → M .Leaves k W H p n x → (r : ℕ) → r < H .length → setOf (K .ahead) H r ≡ n →
       (c : ℕ) → c < W .length → K .made W (H .start) r x c ≡ levelBack F wrap32 W H p r c

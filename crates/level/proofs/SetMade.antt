@@ -1,5 +1,5 @@
 -- Working out a set. If the level's memory holds the set's rows, and of the set before it the even row and the high row of the columns, then what is made are
--- the rows of the way back; and if a number is refused, a row does not fit, or one that is halved is odd.
+-- the rows of the way back; and if a number is refused, a row that this set makes does not fit, or a number that it halves is odd.
 -- Over words, for any bands: nothing is asked of their numbers. Assumes nothing.
 use mathlib.Core.Bool.{Bool, true, false}
 use mathlib.Core.Path.{_≡_, refl, sym, ap, subst, _∙_}
@@ -13,23 +13,21 @@ use borrow.Author.Tests.{lt-ltb, le-ltb, le-leb, lt-leb, eq-eqb, ne-eqb}
 use Rattle.numbers.specs.Signal.{pick}
 use Rattle.numbers.specs.Tests.{every}
 use Rattle.numbers.specs.Word.{wrap32}
-use Rattle.numbers.proofs.Sweep.{both as both-hold}
 use Rattle.numbers.proofs.TestLaws.{every-each, each-every}
 use Rattle.lifting.specs.Line.{Half, lo, hi, unupdated, unpredicted}
 use Rattle.lifting.specs.Grid.{Side, place, count, parted, lineHalvesBack, lineBack, loneHigh, isEven, hasLine}
 use Rattle.lifting.specs.Passes.{near}
 use Rattle.lifting.proofs.GridLaws.{place-in, in-place, by-place, joined-place, even-near, odd-near, even-one, odd-one}
 use Rattle.lifting.proofs.LoneLaws.{lone-high, lone-odd, has-lone, has-other}
-use Rattle.lifting.specs.Filter.{Filter}
 use Rattle.lifting.specs.FiveThree.{fiveThreeFilter}
-use Rattle.wavelet.specs.Bands.{Grid, Band, bandOf, rowsUnlifted, levelBack, rowsHave, columnsHave, levelHas}
+use Rattle.wavelet.specs.Bands.{Grid, Band, bandOf, rowsUnlifted, levelBack}
 use Rattle.wavelet.specs.Maps.{valueFits}
 use Rattle.wavelet.specs.Order.{firstSet, lastSet}
 use Rattle.wavelet.specs.Steps.{setOf}
 use Rattle.wavelet.proofs.StepLaws.{set-one}
 use Rattle.level.specs.Tried.{Tried, failed, passed, bind}
 use Rattle.level.specs.Slots.{rowPlace, local, rowUnlifted, rowHasLine, rowBy, rowHalved, rowIsEven, halfPlace}
-use Rattle.level.specs.Stands.{SetHas, SetLeaves}
+use Rattle.level.specs.Stands.{SetHas, SetFitsBy, SetLeaves}
 use Rattle.level.specs.Work.{endOf, hasLow, lowNear, highNear, lineTried, lowTried, highTried, setUnlifted, evenRow, oddRow, rowFits, admitted}
 use Rattle.level.specs.Work.{evenMade, oddMade, loneMade, lastMade, rowsMade, setMade}
 use Rattle.level.proofs.RowsIn.{apart, parity, Is, Only, only-by, is-old, only-unlifted, unlifted-is, line-is, by-is, only-halved, halved-is}
@@ -49,33 +47,8 @@ bind-outcome _ f (goes y p) g = g y p
 not-false : (t : Bool) → t ≡ true → t ≡ false → ⊥
 not-false t e f = subst T (sym e ∙ f) tt
 
--- every value of the way back fits as a low-low value of level k, and none that is halved is odd
-pub record FitAllBy (F : Filter) (k : ℕ) (W H : Side) (p : Band → Grid) : Type 0 where
-  pub has : levelHas F W H p ≡ true
-  pub fit : (r c : ℕ) → r < H .length → c < W .length → valueFits F k (levelBack F wrap32 W H p r c) ≡ true
-
-abbrev pub FitAll : ℕ → Side → Side → (Band → Grid) → Type 0
-FitAll = FitAllBy fiveThreeFilter
-
-pub has-row : (W H : Side) (p : Band → Grid) → levelHas fiveThreeFilter W H p ≡ true → (h : Half) (r : ℕ) → r < count h H
-    → hasLine W (λ a. p (bandOf a h) r) ≡ true
-unfolding levelHas rowsHave
-has-row W H p e = go
-  where
-    lines : (h : Half) → ℕ → Bool
-    lines h r = hasLine W (λ a. p (bandOf a h) r)
-
-    rows : (every (count lo H) (lines lo) ≡ true) × (every (count hi H) (lines hi) ≡ true)
-    rows = both-hold (every (count lo H) (lines lo)) (every (count hi H) (lines hi)) (both-hold (rowsHave W H p) (columnsHave fiveThreeFilter W H p) e .0)
-
-    go : (h : Half) (r : ℕ) → r < count h H → lines h r ≡ true
-    go lo r b = every-each (count lo H) (lines lo) (rows .0) r b
-    go hi r b = every-each (count hi H) (lines hi) (rows .1) r b
-
-pub has-column : (W H : Side) (p : Band → Grid) → levelHas fiveThreeFilter W H p ≡ true → (c : ℕ) → c < W .length →
-    hasLine H (λ h i. rowsUnlifted fiveThreeFilter wrap32 W p h i c) ≡ true
-unfolding levelHas columnsHave
-has-column W H p e c b = every-each (W .length) _ (both-hold (rowsHave W H p) (columnsHave fiveThreeFilter W H p) e .1) c b
+abbrev pub FitSet : ℕ → Side → Side → (Band → Grid) → ℕ → Type 0
+FitSet = SetFitsBy fiveThreeFilter 1
 
 -- ---- one level: the bands p of the columns W and the rows H, whose rows are low-low values of level k
 module _ (k : ℕ) (W H : Side) (p : Band → Grid) where
@@ -190,15 +163,15 @@ module _ (k : ℕ) (W H : Side) (p : Band → Grid) where
       (λ a i b. subst (λ v. P v ≡ true) (sym (s a i b)) (f (place W a i) (place-in W a i b)))
 
   -- ---- the test of 14
-  admit : (P : (ℕ → ℤ) → Type 0) (q r : ℕ) (x : ℕ → ℤ) → r < H .length → Is W x q (parted W (G r)) → (FitRow r → P x) →
-      Outcome (FitAll k W H p) P (admitted k (W .length) q x)
+  admit : (P : (ℕ → ℤ) → Type 0) (n q r : ℕ) (x : ℕ → ℤ) → r < H .length → setOf 1 H r ≡ n → Is W x q (parted W (G r)) → (FitRow r → P x) →
+      Outcome (FitSet k W H p n) P (admitted k (W .length) q x)
   unfolding admitted rowFits
-  admit P q r x b s f = go (rowFits k (W .length) q x) refl
+  admit P n q r x b m s f = go (rowFits k (W .length) q x) refl
     where
-      go : (t : Bool) → rowFits k (W .length) q x ≡ t → Outcome (FitAll k W H p) P (pick t (passed x) failed)
+      go : (t : Bool) → rowFits k (W .length) q x ≡ t → Outcome (FitSet k W H p n) P (pick t (passed x) failed)
       go true e = goes x (f (each-stands (valueFits fiveThreeFilter k) q x (G r) s (every-each (W .length) _ e)))
       go false e = stops (λ all. not-false (rowFits k (W .length) q x)
-          (each-every (W .length) _ (stands-each (valueFits fiveThreeFilter k) q x (G r) s (λ c u. all .fit r c b u))) e)
+          (each-every (W .length) _ (stands-each (valueFits fiveThreeFilter k) q x (G r) s (λ c u. all .fit r c b m u))) e)
 
   -- ---- what a set needs
   pub record Needs (n : ℕ) (x : ℕ → ℤ) : Type 0 where
@@ -235,15 +208,16 @@ module _ (k : ℕ) (W H : Side) (p : Band → Grid) where
 
     -- ---- along the rows
     -- a row tried: what stands in the other slots still does
-    line-tried : (P : (ℕ → ℤ) → Type 0) (h : Half) (r q : ℕ) (x : ℕ → ℤ) → r < count h H → Is W x q (λ a. p (bandOf a h) r) →
+    line-tried : (P : (ℕ → ℤ) → Type 0) (n : ℕ) (h : Half) (r q : ℕ) (x : ℕ → ℤ) → (SetHas 1 W H p n → hasLine W (λ a. p (bandOf a h) r) ≡ true) →
+        Is W x q (λ a. p (bandOf a h) r) →
         (hasLine W (λ a. p (bandOf a h) r) ≡ true → Is W (rowUnlifted W q x) q (parted W (cols h r)) → P (rowUnlifted W q x)) →
-        Outcome (FitAll k W H p) P (lineTried W q x)
+        Outcome (FitSet k W H p n) P (lineTried W q x)
     unfolding lineTried rowsUnlifted lineBack
-    line-tried P h r q x b s f = go (rowHasLine W q x) refl
+    line-tried P n h r q x m s f = go (rowHasLine W q x) refl
       where
-        go : (t : Bool) → rowHasLine W q x ≡ t → Outcome (FitAll k W H p) P (pick t (passed (rowUnlifted W q x)) failed)
+        go : (t : Bool) → rowHasLine W q x ≡ t → Outcome (FitSet k W H p n) P (pick t (passed (rowUnlifted W q x)) failed)
         go true e = goes (rowUnlifted W q x) (f (sym (line-is W q x _ s) ∙ e) (unlifted-is W q x _ s))
-        go false e = stops (λ all. not-false (rowHasLine W q x) (line-is W q x _ s ∙ has-row W H p (all .has) h r b) e)
+        go false e = stops (λ all. not-false (rowHasLine W q x) (line-is W q x _ s ∙ m (all .has)) e)
 
     -- the low row lifted back
     record Low (n : ℕ) (x : ℕ → ℤ) : Type 0 where
@@ -254,11 +228,11 @@ module _ (k : ℕ) (W H : Side) (p : Band → Grid) where
       high-before : (m : ℕ) → n ≡ suc m → Is W x (2 * m + 1) (parted W (cols hi m))
       past : Past x
 
-    low-tried : (n : ℕ) (x : ℕ → ℤ) → 0 < H .length → n ≤ lastSet H → Past x → Needs n x → Outcome (FitAll k W H p) (Low n) (lowTried W H n x)
+    low-tried : (n : ℕ) (x : ℕ → ℤ) → 0 < H .length → n ≤ lastSet H → Past x → Needs n x → Outcome (FitSet k W H p n) (Low n) (lowTried W H n x)
     unfolding lowTried hasLow
     low-tried n x g l z s = go (decLt n b₀)
       where
-        go : Dec (n < b₀) → Outcome (FitAll k W H p) (Low n) (pick (leb b₀ n) (lineTried W (2 * n) x) (passed x))
+        go : Dec (n < b₀) → Outcome (FitSet k W H p n) (Low n) (pick (leb b₀ n) (lineTried W (2 * n) x) (passed x))
         go (yes u) = rw (lt-leb b₀ n u) (goes x (record {
           line = λ v. absurd (omega arith);
           low = λ v. absurd (omega arith);
@@ -270,7 +244,7 @@ module _ (k : ℕ) (W H : Side) (p : Band → Grid) where
         go (no u) =
             let o = only-unlifted W (2 * n) x in
             rw (le-leb b₀ n (omega arith))
-            (line-tried (Low n) lo (n - b₀) (2 * n) x (in-lows n g l (omega arith)) (s .low (omega arith)) (λ e m. record {
+            (line-tried (Low n) n lo (n - b₀) (2 * n) x (λ h. h .low (omega arith)) (s .low (omega arith)) (λ e m. record {
               line = λ _. e;
               low = λ _. m;
               high = λ v. is-old W (2 * n) x _ (2 * n + 1) _ o (parity (2 * n) (2 * n + 1) n n (omega arith) (omega arith)) (s .high v);
@@ -287,16 +261,16 @@ module _ (k : ℕ) (W H : Side) (p : Band → Grid) where
       even-before : (m : ℕ) → n ≡ suc m → b₀ ≤ m → Is W x (2 * m) (parted W (G (2 * m - b₀)))
       past : Past x
 
-    high-tried : (n : ℕ) (x : ℕ → ℤ) → Low n x → Outcome (FitAll k W H p) (Rows n) (highTried W H n x)
+    high-tried : (n : ℕ) (x : ℕ → ℤ) → Low n x → Outcome (FitSet k W H p n) (Rows n) (highTried W H n x)
     unfolding highTried
     high-tried n x s = go (decLt (2 * n + 1) (endOf H))
       where
-        go : Dec (2 * n + 1 < endOf H) → Outcome (FitAll k W H p) (Rows n) (pick (ltb (2 * n + 1) (endOf H)) (lineTried W (2 * n + 1) x) (passed x))
+        go : Dec (2 * n + 1 < endOf H) → Outcome (FitSet k W H p n) (Rows n) (pick (ltb (2 * n + 1) (endOf H)) (lineTried W (2 * n + 1) x) (passed x))
         go (yes u) =
             let o = only-unlifted W (2 * n + 1) x in
             let v = in-highs n u in
             rw (lt-ltb (2 * n + 1) (endOf H) u)
-            (line-tried (Rows n) hi n (2 * n + 1) x v (s .high v) (λ e m. record {
+            (line-tried (Rows n) n hi n (2 * n + 1) x (λ h. h .high v) (s .high v) (λ e m. record {
               lines = record { low = s .line; high = λ _. e };
               low = λ b. is-old W (2 * n + 1) x _ (2 * n) _ o (λ y. parity (2 * n) (2 * n + 1) n n (omega arith) (omega arith) (sym y)) (s .low b);
               high = λ i b c d. elim (ℕ-discrete i n) [
@@ -316,7 +290,7 @@ module _ (k : ℕ) (W H : Side) (p : Band → Grid) where
           past = s .past;
         }))
 
-    unlifted : (n : ℕ) (x : ℕ → ℤ) → 0 < H .length → n ≤ lastSet H → Past x → Needs n x → Outcome (FitAll k W H p) (Rows n) (setUnlifted W H n x)
+    unlifted : (n : ℕ) (x : ℕ → ℤ) → 0 < H .length → n ≤ lastSet H → Past x → Needs n x → Outcome (FitSet k W H p n) (Rows n) (setUnlifted W H n x)
     unfolding setUnlifted
     unlifted n x g l z s = bind-outcome (lowTried W H n x) _ (low-tried n x g l z s) (high-tried n)
 
@@ -379,15 +353,19 @@ module _ (k : ℕ) (W H : Side) (p : Band → Grid) where
     unfolding lastSet firstSet
     low-in n g l b = omega arith
 
+    even-set : (n : ℕ) → n ≤ lastSet H → b₀ ≤ n → setOf 1 H (2 * n - b₀) ≡ n
+    unfolding firstSet
+    even-set n l b = omega (arith, set-one H (2 * n - b₀))
+
     no-low : (n : ℕ) → n < b₀ → n ≡ 0
     unfolding firstSet
     no-low n u = omega arith
 
-    even-made : (n : ℕ) (x : ℕ → ℤ) → 0 < H .length → n ≤ lastSet H → Rows n x → Outcome (FitAll k W H p) (Even n) (evenMade admitted k (W .length) H n x)
+    even-made : (n : ℕ) (x : ℕ → ℤ) → 0 < H .length → n ≤ lastSet H → Rows n x → Outcome (FitSet k W H p n) (Even n) (evenMade admitted k (W .length) H n x)
     unfolding evenMade hasLow
     even-made n x g l s = go (decLt n b₀)
       where
-        go : Dec (n < b₀) → Outcome (FitAll k W H p) (Even n) (pick (leb b₀ n) (admitted k (W .length) (2 * n) (evenRow (W .length) H n x)) (passed x))
+        go : Dec (n < b₀) → Outcome (FitSet k W H p n) (Even n) (pick (leb b₀ n) (admitted k (W .length) (2 * n) (evenRow (W .length) H n x)) (passed x))
         go (yes u) = rw (lt-leb b₀ n u) (goes x (record {
           lines = s .lines;
           rows = record { even = λ i b c d. absurd (omega arith); high = s .high; past = s .past };
@@ -397,7 +375,7 @@ module _ (k : ℕ) (W H : Side) (p : Band → Grid) where
             let b : b₀ ≤ n = omega arith in
             let e = evened n x g l b s in
             rw (le-leb b₀ n b)
-            (admit (Even n) (2 * n) (2 * n - b₀) _ (low-in n g l b) (e .even n b (omega arith) (omega arith)) (λ f. record {
+            (admit (Even n) n (2 * n) (2 * n - b₀) _ (low-in n g l b) (even-set n l b) (e .even n b (omega arith) (omega arith)) (λ f. record {
               lines = s .lines;
               rows = e;
               fit = λ _. f;
@@ -440,7 +418,11 @@ module _ (k : ℕ) (W H : Side) (p : Band → Grid) where
     unfolding lowNear lastSet count firstSet
     near-right m g l = (omega arith, omega arith)
 
-    odd-made : (n : ℕ) (x : ℕ → ℤ) → 0 < H .length → n ≤ lastSet H → Even n x → Outcome (FitAll k W H p) (Most n) (oddMade admitted k (W .length) H n x)
+    odd-set : (m : ℕ) → suc m ≤ lastSet H → setOf 1 H (2 * m + 1 - b₀) ≡ suc m
+    unfolding firstSet
+    odd-set m l = omega (arith, set-one H (2 * m + 1 - b₀))
+
+    odd-made : (n : ℕ) (x : ℕ → ℤ) → 0 < H .length → n ≤ lastSet H → Even n x → Outcome (FitSet k W H p n) (Most n) (oddMade admitted k (W .length) H n x)
     unfolding oddMade
     odd-made zero x g l s = goes x (record {
       lines = s .lines;
@@ -453,7 +435,7 @@ module _ (k : ℕ) (W H : Side) (p : Band → Grid) where
     })
     odd-made (suc m) x g l s =
         let o = only-odd m x in
-        admit (Most (suc m)) (2 * m + 1) (2 * m + 1 - b₀) (oddRow (W .length) H m x) (near-two m g l .2) made (λ f. record {
+        admit (Most (suc m)) (suc m) (2 * m + 1) (2 * m + 1 - b₀) (oddRow (W .length) H m x) (near-two m g l .2) (odd-set m l) made (λ f. record {
           lines = s .lines;
           even = λ b. is-old W (2 * m + 1) x _ (2 * suc m) _ o (λ z. parity (2 * suc m) (2 * m + 1) (suc m) m (omega arith) (omega arith) (sym z))
               (s .rows .even (suc m) b (omega arith) (omega arith));
@@ -540,6 +522,10 @@ module _ (k : ℕ) (W H : Side) (p : Band → Grid) where
     unfolding endOf count firstSet
     last-in n g e = (omega arith, omega arith)
 
+    last-set : (n : ℕ) → 0 < H .length → 2 * n + 2 ≡ endOf H → setOf 1 H (2 * n + 1 - b₀) ≡ n
+    unfolding endOf firstSet lastSet
+    last-set n g e = omega (arith, set-one H (2 * n + 1 - b₀))
+
     not-lone : (n : ℕ) → 2 * n + 2 ≡ endOf H → loneHigh H ≡ false → (1 < H .length) × (b₀ ≤ n)
     unfolding endOf firstSet
     not-lone n e f = elim (ℕ-discrete (H .start % 2) 1) [
@@ -560,9 +546,9 @@ module _ (k : ℕ) (W H : Side) (p : Band → Grid) where
 
     -- a row beside others
     beside-made : (n : ℕ) (x : ℕ → ℤ) → 0 < H .length → 2 * n + 2 ≡ endOf H → loneHigh H ≡ false → Most n x →
-        Outcome (FitAll k W H p) (Worked n) (admitted k (W .length) (2 * n + 1) (oddRow (W .length) H n x))
+        Outcome (FitSet k W H p n) (Worked n) (admitted k (W .length) (2 * n + 1) (oddRow (W .length) H n x))
     beside-made n x g e f s =
-        admit (Worked n) (2 * n + 1) (2 * n + 1 - b₀) y (last-in n g e .1) last (λ t. (
+        admit (Worked n) n (2 * n + 1) (2 * n + 1 - b₀) y (last-in n g e .1) (last-set n g e) last (λ t. (
           record {
             made = made-by n y
                 (λ b. is-old W (2 * n + 1) x y (2 * n) _ o (λ z. parity (2 * n) (2 * n + 1) n n (omega arith) (omega arith) (sym z)) (s .even b))
@@ -589,7 +575,7 @@ module _ (k : ℕ) (W H : Side) (p : Band → Grid) where
 
     -- an only row, at an odd coordinate
     lone-made : (n : ℕ) (x : ℕ → ℤ) → 0 < H .length → 2 * n + 2 ≡ endOf H → loneHigh H ≡ true → Most n x →
-        Outcome (FitAll k W H p) (Worked n) (loneMade admitted k (W .length) (2 * n + 1) x)
+        Outcome (FitSet k W H p n) (Worked n) (loneMade admitted k (W .length) (2 * n + 1) x)
     unfolding loneMade rowIsEven
     lone-made n x g e f s = go (rowIsEven (W .length) (2 * n + 1) x) refl
       where
@@ -617,9 +603,9 @@ module _ (k : ℕ) (W H : Side) (p : Band → Grid) where
         column c = has-lone H _ f ∙ ap (λ (i : ℕ). isEven (cols hi i c)) (sym first)
 
         go : (t : Bool) → rowIsEven (W .length) (2 * n + 1) x ≡ t →
-            Outcome (FitAll k W H p) (Worked n) (pick t (admitted k (W .length) (2 * n + 1) y) failed)
+            Outcome (FitSet k W H p n) (Worked n) (pick t (admitted k (W .length) (2 * n + 1) y) failed)
         go true even =
-            admit (Worked n) (2 * n + 1) (2 * n + 1 - b₀) y (last-in n g e .1) last (λ t. (
+            admit (Worked n) n (2 * n + 1) (2 * n + 1 - b₀) y (last-in n g e .1) (last-set n g e) last (λ t. (
               record {
                 made = made-by n y
                     (λ b. is-old W (2 * n + 1) x y (2 * n) _ o (λ z. parity (2 * n) (2 * n + 1) n n (omega arith) (omega arith) (sym z)) (s .even b))
@@ -632,20 +618,21 @@ module _ (k : ℕ) (W H : Side) (p : Band → Grid) where
               λ j q. o .past j q ∙ s .past j q,
             ))
         go false odd = stops (λ all. not-false (rowIsEven (W .length) (2 * n + 1) x)
-            (each-every (W .length) _ (stands-each isEven (2 * n + 1) x (cols hi n) high (λ c v. sym (column c) ∙ has-column W H p (all .has) c v))) odd)
+            (each-every (W .length) _ (stands-each isEven (2 * n + 1) x (cols hi n) high (λ c v.
+            sym (column c) ∙ all .has .columns (2 * n + 1 - b₀) (last-in n g e .1) (last-set n g e) c v))) odd)
 
     none-lone : (n : ℕ) → n ≤ lastSet H → (2 * n + 2 ≡ endOf H → ⊥) → loneHigh H ≡ true → ⊥
     unfolding lastSet endOf count
     none-lone n l e f = let a = lone-high H f .0 in let b = lone-high H f .2 in e (omega arith)
 
-    last-made : (n : ℕ) (x : ℕ → ℤ) → 0 < H .length → n ≤ lastSet H → Most n x → Outcome (FitAll k W H p) (Worked n) (lastMade admitted k (W .length) H n x)
+    last-made : (n : ℕ) (x : ℕ → ℤ) → 0 < H .length → n ≤ lastSet H → Most n x → Outcome (FitSet k W H p n) (Worked n) (lastMade admitted k (W .length) H n x)
     unfolding lastMade
     last-made n x g l s = go (ℕ-discrete (2 * n + 2) (endOf H))
       where
         high-in : 2 * n + 2 < endOf H → n < count hi H
         high-in b = in-highs n (omega arith)
 
-        lone : (t : Bool) → loneHigh H ≡ t → 2 * n + 2 ≡ endOf H → Outcome (FitAll k W H p) (Worked n)
+        lone : (t : Bool) → loneHigh H ≡ t → 2 * n + 2 ≡ endOf H → Outcome (FitSet k W H p n) (Worked n)
             (pick t (loneMade admitted k (W .length) (2 * n + 1) x) (admitted k (W .length) (2 * n + 1) (oddRow (W .length) H n x)))
         lone true f e = lone-made n x g e f s
         lone false f e = beside-made n x g e f s
@@ -654,7 +641,7 @@ module _ (k : ℕ) (W H : Side) (p : Band → Grid) where
         has-none true f e = absurd (none-lone n l e f)
         has-none false f e = has-of n (s .lines) (λ c _. has-other H _ f)
 
-        go : Dec (2 * n + 2 ≡ endOf H) → Outcome (FitAll k W H p) (Worked n)
+        go : Dec (2 * n + 2 ≡ endOf H) → Outcome (FitSet k W H p n) (Worked n)
             (pick (eqb (2 * n + 2) (endOf H))
             (pick (loneHigh H) (loneMade admitted k (W .length) (2 * n + 1) x) (admitted k (W .length) (2 * n + 1) (oddRow (W .length) H n x)))
             (passed x))
@@ -670,11 +657,11 @@ module _ (k : ℕ) (W H : Side) (p : Band → Grid) where
         ))
 
     -- ---- a set worked out makes rows of the way back
-    rows-made : (n : ℕ) (x : ℕ → ℤ) → 0 < H .length → n ≤ lastSet H → Rows n x → Outcome (FitAll k W H p) (Worked n) (rowsMade admitted k (W .length) H n x)
+    rows-made : (n : ℕ) (x : ℕ → ℤ) → 0 < H .length → n ≤ lastSet H → Rows n x → Outcome (FitSet k W H p n) (Worked n) (rowsMade admitted k (W .length) H n x)
     unfolding rowsMade
     rows-made n x g l s = bind-outcome (evenMade admitted k (W .length) H n x) _ (even-made n x g l s)
         (λ y e. bind-outcome (oddMade admitted k (W .length) H n y) _ (odd-made n y g l e) (λ u m. last-made n u g l m))
 
-    pub set-made : (n : ℕ) (x : ℕ → ℤ) → 0 < H .length → n ≤ lastSet H → Past x → Needs n x → Outcome (FitAll k W H p) (Worked n) (setMade admitted k W H n x)
+    pub set-made : (n : ℕ) (x : ℕ → ℤ) → 0 < H .length → n ≤ lastSet H → Past x → Needs n x → Outcome (FitSet k W H p n) (Worked n) (setMade admitted k W H n x)
     unfolding setMade
     set-made n x g l z s = bind-outcome (setUnlifted W H n x) _ (unlifted n x g l z s) (λ y r. rows-made n y g l r)

@@ -26,6 +26,11 @@ pub record SetHasBy (F : Filter) (a : ℕ) (W H : Side) (p : Band → Grid) (n :
   pub high : n < count hi H → hasLine W (λ h. p (bandOf h hi) n) ≡ true
   pub columns : (r : ℕ) → r < H .length → setOf a H r ≡ n → (c : ℕ) → c < W .length → hasLine H (λ h i. rowsUnlifted F wrap32 W p h i c) ≡ true
 
+-- set n fits: no such number is odd, and the rows that it makes fit as low-low values of level k
+pub record SetFitsBy (F : Filter) (a k : ℕ) (W H : Side) (p : Band → Grid) (n : ℕ) : Type 0 where
+  pub fit : (r c : ℕ) → r < H .length → setOf a H r ≡ n → c < W .length → valueFits F k (levelBack F wrap32 W H p r c) ≡ true
+  pub has : SetHasBy F a W H p n
+
 abbrev pub SetHas : ℕ → Side → Side → (Band → Grid) → ℕ → Type 0
 SetHas = SetHasBy fiveThreeFilter
 

@@ -18,8 +18,9 @@ use Rattle.wavelet.specs.Levels.{next}
 use Rattle.wavelet.specs.Order.{firstSet, lastSet, setRow, setHas}
 use Rattle.level.specs.Slots.{local, rowOfSet, halfPlace}
 use Rattle.level.specs.Work.{endOf, hasLow}
+use Rattle.level.specs.Stands.{SetFitsBy}
 use Rattle.level.proofs.RowsIn.{half-inside, joined-reads}
-use Rattle.level.proofs.SetMade.{Outcome, FitAllBy}
+use Rattle.level.proofs.SetMade.{Outcome}
 use Rattle.level.proofs.ReaderLaws.{ReaderLawsBy}
 use Rattle.wavelet.specs.Maps.{valueFits}
 use Rattle.wavelet.specs.Steps.{setOf}
@@ -161,7 +162,7 @@ module _ (W H : Side) (p : Band → Grid) (n : ℕ) where
     Done y = SetLeaves k W H p n y × ((j : ℕ) → 8 * W .length ≤ j → y j ≡ x j)
 
     -- at the last level all bands are fed
-    last-done : ((c : Band) → Got x c) → Outcome (FitAllBy nineSevenFilter k W H p) Done (setWorked true k W H n x)
+    last-done : ((c : Band) → Got x c) → Outcome (SetFitsBy nineSevenFilter 2 k W H p n) Done (setWorked true k W H n x)
     unfolding setWorked lowTaken
     last-done got = set-made k W H p x n x some (set-row′ H n some there) (λ j _. refl) (needs-of x before got)
 
@@ -203,16 +204,16 @@ module _ (W H : Side) (p : Band → Grid) (n : ℕ) where
         unfolding rowOfSet
         before-taken = before-only lo x taken (only-taken W H n x) before
 
-        taken-done : Outcome (FitAllBy nineSevenFilter k W H p) Done (setMade k W H n taken)
+        taken-done : Outcome (SetFitsBy nineSevenFilter 2 k W H p n) Done (setMade k W H n taken)
         taken-done = set-made k W H p x n taken some (set-row′ H n some there) (only-taken W H n x .past) (needs-of taken before-taken got-taken)
 
       on-done : (firstSet H lo ≤ n → (i : ℕ) → i < count lo W →
           rowMade (next W) (next H .start) (n - firstSet H lo) (λ j. x (8 * W .length + j)) i ≡ p LL (n - firstSet H lo) i) →
-          Outcome (FitAllBy nineSevenFilter k W H p) Done (setWorked false k W H n x)
+          Outcome (SetFitsBy nineSevenFilter 2 k W H p n) Done (setWorked false k W H n x)
       unfolding setWorked lowTaken hasLow
       on-done low = go (decLt n (firstSet H lo))
         where
-          go : Dec (n < firstSet H lo) → Outcome (FitAllBy nineSevenFilter k W H p) Done (setMade k W H n (pick (leb (firstSet H lo) n) taken x))
+          go : Dec (n < firstSet H lo) → Outcome (SetFitsBy nineSevenFilter 2 k W H p n) Done (setMade k W H n (pick (leb (firstSet H lo) n) taken x))
           go (yes b) = rw (lt-leb (firstSet H lo) n b) (set-made k W H p x n x some (set-row′ H n some there) (λ j _. refl) (needs-of x before (no-low b)))
           go (no b) = rw (le-leb (firstSet H lo) n (omega arith)) (taken-done (low (omega arith)))
 

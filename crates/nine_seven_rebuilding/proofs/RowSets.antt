@@ -180,6 +180,20 @@ module _ (H : Side) (n r : ℕ) where
   unfolding local
   set-first s l = let z = set-zero (omega arith) s in (omega arith, omega arith)
 
+  -- the rows at 2m + 1 and 2m + 2 are of set m + 2, or of the last before it
+  pub set-pair : (m : ℕ) → 2 * m < at → at ≤ 2 * m + 2 → 2 * n < endOf H → n ≤ m + 2 → ((n ≡ m + 2 → ⊥) → endOf H ≤ 2 * n + 2) → setOf 2 H r ≡ n
+  unfolding setOf lastSet endOf
+  set-pair m a b l c f =
+      let z = later-to at (λ e. omega arith) in
+      elim (ℕ-discrete n (m + 2)) [
+        | yes e ↦ omega arith
+        | no e ↦ let y = f e in omega arith
+      ]
+
+pub set-start : (H : Side) (n : ℕ) → H .start % 2 + n ≡ 0 → setOf 2 H 0 ≡ n
+unfolding setOf
+set-start H n e = let z = first-to (H .start % 2 + 0) (omega arith) in omega arith
+
 pub set-there : (H : Side) (r : ℕ) → setOf 2 H r ≤ lastSet H
 unfolding setOf
 set-there H r = omega arith

@@ -1,15 +1,15 @@
 -- Working out a set. If the level's memory holds the set's rows, and of the sets before it the rebuilt even rows and the high rows of the columns that it
--- needs, then what is made are the rows of the way back; and if a number is refused, a row does not fit, or one that is halved is odd.
+-- needs, then what is made are the rows of the way back; and if a number is refused, a row that this set makes does not fit, or a number that it halves is odd.
 -- Over words, for any bands: nothing is asked of their numbers. Assumes nothing.
 use mathlib.Core.Bool.{Bool, true, false}
 use mathlib.Core.Path.{_≡_, refl, sym, ap, subst, _∙_}
-use Prim.Native.Nat.{ℕ, suc, _+_, _-_, _*_, _/_, _%_, min, _≤_, _<_}
+use Prim.Native.Nat.{ℕ, suc, _+_, _-_, _*_, _/_, _%_, _≤_, _<_}
 use native.Mathlib.Decide.{ℕ-discrete, decLt}
 use native.Mathlib.Omega.{arith}
 use lib.IntN.{ℤ}
 use lib.Signed.{shrZ}
-use lib.Dec.{T, ltb, leb, eqb}
-use borrow.Author.Tests.{lt-ltb, le-ltb, le-leb, lt-leb, eq-eqb, ne-eqb}
+use lib.Dec.{T, ltb, leb}
+use borrow.Author.Tests.{lt-ltb, le-ltb, le-leb, lt-leb, leb-true, ltb-true}
 use Rattle.numbers.specs.Signal.{pick}
 use Rattle.numbers.specs.Tests.{every}
 use Rattle.numbers.specs.Word.{wrap32}
@@ -23,55 +23,36 @@ use Rattle.lifting.proofs.Neighbours.{left, right}
 use Rattle.nine_seven.specs.NineSeven.{unupdated, unpredicted, lineHalvesBack, lineBack}
 use Rattle.nine_seven.proofs.MirrorLaws.{farBefore, farAfter}
 use Rattle.nine_seven.proofs.NineSevenLaws.{even-near, odd-near, even-one, odd-one}
-use Rattle.wavelet.specs.Bands.{Grid, Band, bandOf, rowsHave, rowsUnlifted, levelBack, columnsHave, levelHas}
+use Rattle.wavelet.specs.Bands.{Grid, Band, bandOf, rowsUnlifted, levelBack}
 use Rattle.wavelet.specs.Order.{firstSet, lastSet}
 use Rattle.level.specs.Tried.{Tried, failed, passed, bind}
 use Rattle.level.specs.Slots.{local, halfPlace}
 use Rattle.level.specs.Work.{endOf, hasLow}
-use Rattle.level.specs.Stands.{SetHasBy}
+use Rattle.level.specs.Stands.{SetHasBy, SetFitsBy}
 use Rattle.level.proofs.RowsIn.{half-inside, by-halves}
-use Rattle.level.proofs.SetMade.{Outcome, FitAllBy, stops, goes, bind-outcome}
+use Rattle.level.proofs.SetMade.{Outcome, stops, goes, bind-outcome}
 use Rattle.wavelet.specs.Maps.{valueFits}
 use Rattle.wavelet.specs.Steps.{setOf}
 use Rattle.nine_seven.specs.NineSevenFilter.{nineSevenFilter}
 use Rattle.nine_seven_rebuilding.specs.Slots.{rowPlace, rowUnlifted, rowHasLine, rowByTwo, rowHalved, rowIsEven}
 use Rattle.nine_seven_rebuilding.specs.Work.{rowBefore, rowAfter, lineTried, lowTried, highTried, setUnlifted, evenRow, oddRow, evenDone, rowFits}
-use Rattle.nine_seven_rebuilding.specs.Work.{admitted, pairMade, firstMade, earlierPair, earlierMade, ownMade, loneMade, lastMade, restMade}
+use Rattle.nine_seven_rebuilding.specs.Work.{admitted, pairMade, ownEven, firstMade, earlierPair, earlierMade, ownMade, loneMade, lastMade, restMade}
 use Rattle.nine_seven_rebuilding.specs.Work.{rowsMade, setMade}
 use Rattle.nine_seven_rebuilding.specs.Stands.{SetBefore, SetLeaves}
 use Rattle.nine_seven_rebuilding.proofs.WorkLaws.{others}
 use Rattle.nine_seven_rebuilding.proofs.RowSets.{low-before, low-after, high-before, high-after, high-far-before, high-far-after}
-use Rattle.nine_seven_rebuilding.proofs.RowSets.{before-in, after-in, evens-in, set-low, set-high, set-first}
+use Rattle.nine_seven_rebuilding.proofs.RowSets.{before-in, after-in, evens-in, set-low, set-high, set-first, set-start, set-pair}
 use Rattle.nine_seven_rebuilding.proofs.RowsIn.{apart, Is, Only, only-two, only-four, is-old, only-unlifted, unlifted-is, line-is, two-is, four-is}
 use Rattle.nine_seven_rebuilding.proofs.RowsIn.{only-halved, halved-is}
 
 not-false : (t : Bool) → t ≡ true → t ≡ false → ⊥
 not-false t e f = subst T (sym e ∙ f) tt
 
-abbrev FitAll : ℕ → Side → Side → (Band → Grid) → Type 0
-FitAll = FitAllBy nineSevenFilter
-
 abbrev SetHas : Side → Side → (Band → Grid) → ℕ → Type 0
 SetHas = SetHasBy nineSevenFilter 2
 
-has-row : (W H : Side) (p : Band → Grid) → levelHas nineSevenFilter W H p ≡ true → (h : Half) (r : ℕ) → r < count h H → hasLine W (λ a. p (bandOf a h) r) ≡ true
-unfolding levelHas rowsHave
-has-row W H p e = go
-  where
-    lines : (h : Half) → ℕ → Bool
-    lines h r = hasLine W (λ a. p (bandOf a h) r)
-
-    rows : (every (count lo H) (lines lo) ≡ true) × (every (count hi H) (lines hi) ≡ true)
-    rows = both-hold (every (count lo H) (lines lo)) (every (count hi H) (lines hi)) (both-hold (rowsHave W H p) (columnsHave nineSevenFilter W H p) e .0)
-
-    go : (h : Half) (r : ℕ) → r < count h H → lines h r ≡ true
-    go lo r b = every-each (count lo H) (lines lo) (rows .0) r b
-    go hi r b = every-each (count hi H) (lines hi) (rows .1) r b
-
-has-column : (W H : Side) (p : Band → Grid) → levelHas nineSevenFilter W H p ≡ true → (c : ℕ) → c < W .length →
-    hasLine H (λ h i. rowsUnlifted nineSevenFilter wrap32 W p h i c) ≡ true
-unfolding levelHas columnsHave
-has-column W H p e c b = every-each (W .length) _ (both-hold (rowsHave W H p) (columnsHave nineSevenFilter W H p) e .1) c b
+abbrev FitSet : ℕ → Side → Side → (Band → Grid) → ℕ → Type 0
+FitSet = SetFitsBy nineSevenFilter 2
 
 -- ---- one level: the bands p of the columns W and the rows H, whose rows are low-low values of level k
 module _ (k : ℕ) (W H : Side) (p : Band → Grid) where
@@ -168,15 +149,15 @@ module _ (k : ℕ) (W H : Side) (p : Band → Grid) where
       (λ a i b. subst (λ v. P v ≡ true) (sym (s a i b)) (f (place W a i) (place-in W a i b)))
 
   -- ---- the test of 14
-  admit : (P : (ℕ → ℤ) → Type 0) (q r : ℕ) (x : ℕ → ℤ) → r < H .length → Is W x q (parted W (G r)) → (FitRow r → P x) →
-      Outcome (FitAll k W H p) P (admitted k (W .length) q x)
+  admit : (P : (ℕ → ℤ) → Type 0) (n q r : ℕ) (x : ℕ → ℤ) → r < H .length → setOf 2 H r ≡ n → Is W x q (parted W (G r)) → (FitRow r → P x) →
+      Outcome (FitSet k W H p n) P (admitted k (W .length) q x)
   unfolding admitted rowFits
-  admit P q r x b s f = go (rowFits k (W .length) q x) refl
+  admit P n q r x b m s f = go (rowFits k (W .length) q x) refl
     where
-      go : (t : Bool) → rowFits k (W .length) q x ≡ t → Outcome (FitAll k W H p) P (pick t (passed x) failed)
+      go : (t : Bool) → rowFits k (W .length) q x ≡ t → Outcome (FitSet k W H p n) P (pick t (passed x) failed)
       go true e = goes x (f (each-stands (valueFits nineSevenFilter k) q x (G r) s (every-each (W .length) _ e)))
       go false e = stops (λ all. not-false (rowFits k (W .length) q x)
-          (each-every (W .length) _ (stands-each (valueFits nineSevenFilter k) q x (G r) s (λ c u. all .fit r c b u))) e)
+          (each-every (W .length) _ (stands-each (valueFits nineSevenFilter k) q x (G r) s (λ c u. all .fit r c b m u))) e)
 
   -- ---- what a set needs
   pub record Needs (n : ℕ) (x : ℕ → ℤ) : Type 0 where
@@ -217,15 +198,16 @@ module _ (k : ℕ) (W H : Side) (p : Band → Grid) where
 
     -- ---- along the rows
     -- a row tried: what stands in the other slots still does
-    line-tried : (P : (ℕ → ℤ) → Type 0) (h : Half) (r q : ℕ) (x : ℕ → ℤ) → r < count h H → Is W x q (λ a. p (bandOf a h) r) →
+    line-tried : (P : (ℕ → ℤ) → Type 0) (n : ℕ) (h : Half) (r q : ℕ) (x : ℕ → ℤ) → (SetHas W H p n → hasLine W (λ a. p (bandOf a h) r) ≡ true) →
+        Is W x q (λ a. p (bandOf a h) r) →
         (hasLine W (λ a. p (bandOf a h) r) ≡ true → Is W (rowUnlifted W q x) q (parted W (cols h r)) → P (rowUnlifted W q x)) →
-        Outcome (FitAll k W H p) P (lineTried W q x)
+        Outcome (FitSet k W H p n) P (lineTried W q x)
     unfolding lineTried rowsUnlifted lineBack
-    line-tried P h r q x b s f = go (rowHasLine W q x) refl
+    line-tried P n h r q x m s f = go (rowHasLine W q x) refl
       where
-        go : (t : Bool) → rowHasLine W q x ≡ t → Outcome (FitAll k W H p) P (pick t (passed (rowUnlifted W q x)) failed)
+        go : (t : Bool) → rowHasLine W q x ≡ t → Outcome (FitSet k W H p n) P (pick t (passed (rowUnlifted W q x)) failed)
         go true e = goes (rowUnlifted W q x) (f (sym (line-is W q x _ s) ∙ e) (unlifted-is W q x _ s))
-        go false e = stops (λ all. not-false (rowHasLine W q x) (line-is W q x _ s ∙ has-row W H p (all .has) h r b) e)
+        go false e = stops (λ all. not-false (rowHasLine W q x) (line-is W q x _ s ∙ m (all .has)) e)
 
     -- the low row lifted back
     record Low (n : ℕ) (x : ℕ → ℤ) : Type 0 where
@@ -241,11 +223,11 @@ module _ (k : ℕ) (W H : Side) (p : Band → Grid) where
       high = λ m c d. is-old W t x y (2 * m + 1) _ o (apart t (2 * m + 1) (λ z. omega arith) (omega arith) (omega arith)) (s .high m c d);
     }
 
-    low-tried : (n : ℕ) (x : ℕ → ℤ) → 2 * n < endOf H → Past x → Needs n x → Outcome (FitAll k W H p) (Low n) (lowTried W H n x)
+    low-tried : (n : ℕ) (x : ℕ → ℤ) → 2 * n < endOf H → Past x → Needs n x → Outcome (FitSet k W H p n) (Low n) (lowTried W H n x)
     unfolding lowTried hasLow
     low-tried n x l z s = go (decLt n b₀)
       where
-        go : Dec (n < b₀) → Outcome (FitAll k W H p) (Low n) (pick (leb b₀ n) (lineTried W (2 * n) x) (passed x))
+        go : Dec (n < b₀) → Outcome (FitSet k W H p n) (Low n) (pick (leb b₀ n) (lineTried W (2 * n) x) (passed x))
         go (yes u) = rw (lt-leb b₀ n u) (goes x (record {
           line = λ v. absurd (omega arith);
           low = λ v. absurd (omega arith);
@@ -256,7 +238,7 @@ module _ (k : ℕ) (W H : Side) (p : Band → Grid) where
         go (no u) =
             let o = only-unlifted W (2 * n) x in
             rw (le-leb b₀ n (omega arith))
-            (line-tried (Low n) lo (n - b₀) (2 * n) x (in-lows n l (omega arith)) (s .low (omega arith)) (λ e m. record {
+            (line-tried (Low n) n lo (n - b₀) (2 * n) x (λ h. h .low (omega arith)) (s .low (omega arith)) (λ e m. record {
               line = λ _. e;
               low = λ _. m;
               high = λ v. is-old W (2 * n) x _ (2 * n + 1) _ o (apart (2 * n) (2 * n + 1) (λ y. omega arith) (omega arith) (omega arith)) (s .high v);
@@ -272,17 +254,17 @@ module _ (k : ℕ) (W H : Side) (p : Band → Grid) where
       even : (m : ℕ) → m < n → n ≤ m + 3 → b₀ ≤ m → Is W x (2 * m) (parted W (G (row (2 * m))))
       past : Past x
 
-    high-tried : (n : ℕ) (x : ℕ → ℤ) → Low n x → Outcome (FitAll k W H p) (Rows n) (highTried W H n x)
+    high-tried : (n : ℕ) (x : ℕ → ℤ) → Low n x → Outcome (FitSet k W H p n) (Rows n) (highTried W H n x)
     unfolding highTried
     high-tried n x s = go (decLt (2 * n + 1) (endOf H))
       where
-        go : Dec (2 * n + 1 < endOf H) → Outcome (FitAll k W H p) (Rows n) (pick (ltb (2 * n + 1) (endOf H)) (lineTried W (2 * n + 1) x) (passed x))
+        go : Dec (2 * n + 1 < endOf H) → Outcome (FitSet k W H p n) (Rows n) (pick (ltb (2 * n + 1) (endOf H)) (lineTried W (2 * n + 1) x) (passed x))
         go (yes u) =
             let o = only-unlifted W (2 * n + 1) x in
             let v = in-highs n u in
             let t = before-old n (2 * n + 1) x _ (omega arith) (omega arith) o (s .before) in
             rw (lt-ltb (2 * n + 1) (endOf H) u)
-            (line-tried (Rows n) hi n (2 * n + 1) x v (s .high v) (λ e m. record {
+            (line-tried (Rows n) n hi n (2 * n + 1) x (λ h. h .high v) (s .high v) (λ e m. record {
               lines = record { low = s .line; high = λ _. e };
               low = λ b. is-old W (2 * n + 1) x _ (2 * n) _ o (apart (2 * n + 1) (2 * n) (λ y. omega arith) (omega arith) (omega arith)) (s .low b);
               high = λ i b c d. elim (ℕ-discrete i n) [
@@ -300,7 +282,7 @@ module _ (k : ℕ) (W H : Side) (p : Band → Grid) where
           past = s .past;
         }))
 
-    unlifted : (n : ℕ) (x : ℕ → ℤ) → 2 * n < endOf H → Past x → Needs n x → Outcome (FitAll k W H p) (Rows n) (setUnlifted W H n x)
+    unlifted : (n : ℕ) (x : ℕ → ℤ) → 2 * n < endOf H → Past x → Needs n x → Outcome (FitSet k W H p n) (Rows n) (setUnlifted W H n x)
     unfolding setUnlifted
     unlifted n x l z s = bind-outcome (lowTried W H n x) _ (low-tried n x l z s) (high-tried n)
 
@@ -432,20 +414,26 @@ module _ (k : ℕ) (W H : Side) (p : Band → Grid) where
       ]
     ]
 
+    -- the row at 2m + 1, and that at 2m + 2, is made by set n
+    made-in : (n m q : ℕ) → 2 * m < q → q ≤ 2 * m + 2 → 2 * n < endOf H → n ≤ m + 2 → ((n ≡ m + 2 → ⊥) → endOf H ≤ 2 * n + 2) → setOf 2 H (row q) ≡ n
+    unfolding firstSet
+    made-in n m q a b = set-pair H n (row q) m (omega arith) (omega arith)
+
     -- two rows made
     twice : (m : ℕ) → 2 * m + 2 ≡ 2 * suc m
     twice m = omega arith
 
     pair-made : (n f m : ℕ) (x : ℕ → ℤ) → Near n m → suc m ≤ n →
         ((r : ℕ) → r < H .length → setOf 2 H r ≡ n → local (H .start) r < 2 * m + 1 → local (H .start) r < f) → Stage n m f x →
-        Outcome (FitAll k W H p) (Stage n (suc m) (2 * m + 3)) (pairMade k (W .length) H m x)
+        Outcome (FitSet k W H p n) (Stage n (suc m) (2 * m + 3)) (pairMade k (W .length) H m x)
     unfolding pairMade
     pair-made n f m x g u more s =
         bind-outcome (admitted k (W .length) (2 * m + 1) (oddRow (W .length) H (2 * m + 1) x)) _
-        (admit (λ y. Held n (suc m) y × FitRow (row (2 * m + 1))) (2 * m + 1) (row (2 * m + 1)) _
-        (row-in (2 * m + 1) (omega (arith, g .3)) (omega (arith, few)))
+        (admit (λ y. Held n (suc m) y × FitRow (row (2 * m + 1))) n (2 * m + 1) (row (2 * m + 1)) _
+        (row-in (2 * m + 1) (omega (arith, g .3)) (omega (arith, few))) (made-in n m (2 * m + 1) (omega arith) (omega arith) (g .3) (g .4) (g .5))
         (h .odd m (g .0) (omega arith) (g .4)) (λ t. (h, t)))
-        (λ y e. admit (Stage n (suc m) (2 * m + 3)) (2 * m + 2) (row (2 * m + 2)) y (row-in (2 * m + 2) (omega (arith, g .3)) (omega (arith, few)))
+        (λ y e. admit (Stage n (suc m) (2 * m + 3)) n (2 * m + 2) (row (2 * m + 2)) y (row-in (2 * m + 2) (omega (arith, g .3)) (omega (arith, few)))
+        (made-in n m (2 * m + 2) (omega arith) (omega arith) (g .3) (g .4) (g .5))
         (rw twice (e .0 .even (suc m) (omega (arith, few)) u (omega (arith, g .4))))
         (λ t. record { held = e .0; fit = fit-pair n f m (s .fit) more (e .1) t }))
       where
@@ -456,25 +444,37 @@ module _ (k : ℕ) (W H : Side) (p : Band → Grid) where
     at-zero : (n r : ℕ) → setOf 2 H r ≡ n → local (H .start) r < 1 → (H .start % 2 + n ≡ 0) × (r ≡ 0)
     at-zero n r s l = set-first H n r s l
 
-    zero-row : 0 < endOf H → H .start % 2 ≡ 0 → (row 0 < H .length) × (b₀ ≤ 0) × (row 0 ≡ 0)
-    unfolding endOf firstSet
-    zero-row l e = (omega arith, omega arith, omega arith)
+    -- an even row that its own set makes
+    own-low : (n : ℕ) → ownEven H n ≡ true → b₀ ≤ n
+    unfolding ownEven hasLow
+    own-low n e = leb-true b₀ n (both-hold (leb b₀ n) _ e .0)
+
+    own-set : (n : ℕ) → ownEven H n ≡ true → setOf 2 H (row (2 * n)) ≡ n
+    unfolding ownEven hasLow firstSet
+    own-set n e =
+        let t = both-hold (leb b₀ n) _ e in
+        let a = leb-true b₀ n (t .0) in
+        let b = ltb-true n _ (t .1) in
+        ap (setOf 2 H) (omega arith) ∙ set-start H n (omega arith)
+
+    own-there : (n : ℕ) → H .start % 2 + n ≡ 0 → ownEven H n ≡ true
+    unfolding ownEven hasLow firstSet
+    own-there n e = let z : n ≡ 0 = omega arith in rw z (rw (le-leb (H .start % 2) 0 (omega arith)) refl)
 
     first-made : (n : ℕ) (x : ℕ → ℤ) → 2 * n < endOf H → Held n (n - 2) x →
-        Outcome (FitAll k W H p) (Stage n (n - 2) 1) (firstMade k (W .length) H n x)
+        Outcome (FitSet k W H p n) (Stage n (n - 2) 1) (firstMade k (W .length) H n x)
     unfolding firstMade
-    first-made n x l s = go (ℕ-discrete (H .start % 2 + n) 0)
+    first-made n x l s = go (ownEven H n) refl
       where
-        go : Dec (H .start % 2 + n ≡ 0) →
-            Outcome (FitAll k W H p) (Stage n (n - 2) 1) (pick (eqb (H .start % 2 + n) 0) (admitted k (W .length) 0 x) (passed x))
-        go (yes e) =
-            let z = zero-row (omega arith) (omega arith) in
-            rw (eq-eqb (H .start % 2 + n) 0 e)
-            (admit (Stage n (n - 2) 1) 0 (row 0) x (z .0) (s .even 0 (z .1) (omega arith) (omega arith)) (λ t. record {
+        go : (t : Bool) → ownEven H n ≡ t → Outcome (FitSet k W H p n) (Stage n (n - 2) 1) (pick t (admitted k (W .length) (2 * n) x) (passed x))
+        go true e =
+            let b = own-low n e in
+            admit (Stage n (n - 2) 1) n (2 * n) (row (2 * n)) x (row-in (2 * n) l (omega arith)) (own-set n e)
+            (s .even n b (omega arith) (omega arith)) (λ t. record {
               held = s;
-              fit = λ r b q u. subst FitRow (z .2 ∙ sym (at-zero n r q u .1)) t;
-            }))
-        go (no e) = rw (ne-eqb (H .start % 2 + n) 0 e) (goes x (record { held = s; fit = λ r b q u. absurd (e (at-zero n r q u .0)) }))
+              fit = λ r _ q u. let z = at-zero n r q u in subst FitRow (at-row (2 * n) r (omega arith)) t;
+            })
+        go false e = goes x (record { held = s; fit = λ r b q u. absurd (not-false (ownEven H n) (own-there n (at-zero n r q u .0)) e) })
 
     -- ---- the earlier rows
     near-earlier : (n : ℕ) → 2 * n < endOf H → 2 ≤ n → Near n (earlierPair n)
@@ -484,16 +484,17 @@ module _ (k : ℕ) (W H : Side) (p : Band → Grid) where
     stage-is : (n d e f g : ℕ) (x : ℕ → ℤ) → d ≡ e → g ≤ f → Stage n d f x → Stage n e g x
     stage-is n d e f g x z b s = record { held = subst (λ (i : ℕ). Held n i x) z (s .held); fit = λ r u q v. s .fit r u q (omega arith) }
 
-    weaken : {P Q : (ℕ → ℤ) → Type 0} (t : Tried) → ((y : ℕ → ℤ) → P y → Q y) → Outcome (FitAll k W H p) P t → Outcome (FitAll k W H p) Q t
+    weaken : {N : Type 0} {P Q : (ℕ → ℤ) → Type 0} (t : Tried) → ((y : ℕ → ℤ) → P y → Q y) → Outcome N P t → Outcome N Q t
     weaken _ f (stops n) = stops n
     weaken _ f (goes y q) = goes y (f y q)
 
     earlier-made : (n : ℕ) (x : ℕ → ℤ) → 2 * n < endOf H → Stage n (n - 2) 1 x →
-        Outcome (FitAll k W H p) (Stage n (n - 1) (suc (2 * n - 2))) (earlierMade k (W .length) H n x)
+        Outcome (FitSet k W H p n) (Stage n (n - 1) (suc (2 * n - 2))) (earlierMade k (W .length) H n x)
     unfolding earlierMade earlierPair
     earlier-made n x l s = go (decLt n 2)
       where
-        go : Dec (n < 2) → Outcome (FitAll k W H p) (Stage n (n - 1) (suc (2 * n - 2))) (pick (ltb n 2) (passed x) (pairMade k (W .length) H (earlierPair n) x))
+        go : Dec (n < 2) → Outcome (FitSet k W H p n) (Stage n (n - 1) (suc (2 * n - 2)))
+            (pick (ltb n 2) (passed x) (pairMade k (W .length) H (earlierPair n) x))
         go (yes u) = rw (lt-ltb n 2 u) (goes x (stage-is n (n - 2) (n - 1) 1 (suc (2 * n - 2)) x (omega arith) (omega arith) s))
         go (no u) = rw (le-ltb n 2 (omega arith))
             (weaken _ (λ y t. stage-is n (suc (earlierPair n)) (n - 1) (2 * earlierPair n + 3) (suc (2 * n - 2)) y (omega arith) (omega arith) t)
@@ -508,11 +509,11 @@ module _ (k : ℕ) (W H : Side) (p : Band → Grid) where
     near-own n l e b = (omega arith, omega arith, omega arith, l, omega arith, λ z. e)
 
     own-made : (n : ℕ) (x : ℕ → ℤ) → 2 * n < endOf H → endOf H ≤ 2 * n + 2 → Stage n (n - 1) (suc (2 * n - 2)) x →
-        Outcome (FitAll k W H p) (Stage n n (2 * n + 1)) (ownMade k (W .length) H n x)
+        Outcome (FitSet k W H p n) (Stage n n (2 * n + 1)) (ownMade k (W .length) H n x)
     unfolding ownMade
     own-made n x l e s = go (decLt n 1)
       where
-        go : Dec (n < 1) → Outcome (FitAll k W H p) (Stage n n (2 * n + 1)) (pick (ltb n 1) (passed x) (pairMade k (W .length) H (n - 1) x))
+        go : Dec (n < 1) → Outcome (FitSet k W H p n) (Stage n n (2 * n + 1)) (pick (ltb n 1) (passed x) (pairMade k (W .length) H (n - 1) x))
         go (yes u) = rw (lt-ltb n 1 u) (goes x (stage-is n (n - 1) n (suc (2 * n - 2)) (2 * n + 1) x (omega arith) (omega arith) s))
         go (no u) = rw (le-ltb n 1 (omega arith))
             (weaken _ (λ y t. stage-is n (suc (n - 1)) n (2 * (n - 1) + 3) (2 * n + 1) y (omega arith) (omega arith) t)
@@ -582,11 +583,15 @@ module _ (k : ℕ) (W H : Side) (p : Band → Grid) where
       | no u ↦ subst FitRow (at-row (2 * n + 1) r (omega arith)) one
     ]
 
+    last-by : (n : ℕ) → 2 * n + 1 < endOf H → endOf H ≤ 2 * n + 2 → setOf 2 H (row (2 * n + 1)) ≡ n
+    last-by n l e = made-in n n (2 * n + 1) (omega arith) (omega arith) (omega arith) (omega arith) (λ _. e)
+
     beside-made : (n : ℕ) (x : ℕ → ℤ) → 0 < H .length → 2 * n + 1 < endOf H → endOf H ≤ 2 * n + 2 → loneHigh H ≡ false → Stage n n (2 * n + 1) x →
-        Outcome (FitAll k W H p) (Worked n) (admitted k (W .length) (2 * n + 1) (oddRow (W .length) H (2 * n + 1) x))
+        Outcome (FitSet k W H p n) (Worked n) (admitted k (W .length) (2 * n + 1) (oddRow (W .length) H (2 * n + 1) x))
     unfolding endOf
     beside-made n x g l e f s =
-        admit (Worked n) (2 * n + 1) (row (2 * n + 1)) _ (row-in (2 * n + 1) l (omega (arith, few))) (h .odd n (in-highs n l) (omega arith) (omega arith))
+        admit (Worked n) n (2 * n + 1) (row (2 * n + 1)) _ (row-in (2 * n + 1) l (omega (arith, few))) (last-by n l e)
+        (h .odd n (in-highs n l) (omega arith) (omega arith))
         (λ t. last-leaves n _ g e (record { held = h; fit = fit-last n 0 (s .fit) t }) (λ c _. has-other H _ f))
       where
         near : Near n n
@@ -601,7 +606,7 @@ module _ (k : ℕ) (W H : Side) (p : Band → Grid) where
     only-first n l e = omega arith
 
     lone-made : (n : ℕ) (x : ℕ → ℤ) → 0 < H .length → 2 * n + 1 < endOf H → endOf H ≤ 2 * n + 2 → loneHigh H ≡ true → Stage n n (2 * n + 1) x →
-        Outcome (FitAll k W H p) (Worked n) (loneMade k (W .length) (2 * n + 1) x)
+        Outcome (FitSet k W H p n) (Worked n) (loneMade k (W .length) (2 * n + 1) x)
     unfolding loneMade rowIsEven
     lone-made n x g l e f s = go (rowIsEven (W .length) (2 * n + 1) x) refl
       where
@@ -640,13 +645,14 @@ module _ (k : ℕ) (W H : Side) (p : Band → Grid) where
         }
 
         go : (t : Bool) → rowIsEven (W .length) (2 * n + 1) x ≡ t →
-            Outcome (FitAll k W H p) (Worked n) (pick t (admitted k (W .length) (2 * n + 1) y) failed)
+            Outcome (FitSet k W H p n) (Worked n) (pick t (admitted k (W .length) (2 * n + 1) y) failed)
         go true even =
-            admit (Worked n) (2 * n + 1) (row (2 * n + 1)) y (row-in (2 * n + 1) l (omega (arith, few))) last
+            admit (Worked n) n (2 * n + 1) (row (2 * n + 1)) y (row-in (2 * n + 1) l (omega (arith, few))) (last-by n l e) last
             (λ t. last-leaves n y g e (record { held = held; fit = fit-last n 0 (s .fit) t })
             (λ c v. column c ∙ each-stands isEven (2 * n + 1) x (cols hi n) high (every-each (W .length) _ even) c v))
         go false odd = stops (λ all. not-false (rowIsEven (W .length) (2 * n + 1) x)
-            (each-every (W .length) _ (stands-each isEven (2 * n + 1) x (cols hi n) high (λ c v. sym (column c) ∙ has-column W H p (all .has) c v))) odd)
+            (each-every (W .length) _ (stands-each isEven (2 * n + 1) x (cols hi n) high (λ c v.
+            sym (column c) ∙ all .has .columns (row (2 * n + 1)) (row-in (2 * n + 1) l (omega (arith, few))) (last-by n l e) c v))) odd)
 
     -- no last row: the level ends with an even one
     no-lone : (n : ℕ) → endOf H ≤ 2 * n + 1 → 2 * n < endOf H → loneHigh H ≡ true → ⊥
@@ -663,11 +669,11 @@ module _ (k : ℕ) (W H : Side) (p : Band → Grid) where
     }
 
     last-made : (n : ℕ) (x : ℕ → ℤ) → 0 < H .length → 2 * n < endOf H → endOf H ≤ 2 * n + 2 → Stage n n (2 * n + 1) x →
-        Outcome (FitAll k W H p) (Worked n) (lastMade k (W .length) H n x)
+        Outcome (FitSet k W H p n) (Worked n) (lastMade k (W .length) H n x)
     unfolding lastMade
     last-made n x g l e s = go (decLt (2 * n + 1) (endOf H))
       where
-        lone : (t : Bool) → loneHigh H ≡ t → 2 * n + 1 < endOf H → Outcome (FitAll k W H p) (Worked n)
+        lone : (t : Bool) → loneHigh H ≡ t → 2 * n + 1 < endOf H → Outcome (FitSet k W H p n) (Worked n)
             (pick t (loneMade k (W .length) (2 * n + 1) x) (admitted k (W .length) (2 * n + 1) (oddRow (W .length) H (2 * n + 1) x)))
         lone true f u = lone-made n x g u e f s
         lone false f u = beside-made n x g u e f s
@@ -676,7 +682,7 @@ module _ (k : ℕ) (W H : Side) (p : Band → Grid) where
         none true f u c b = absurd (no-lone n u l f)
         none false f u c b = has-other H _ f
 
-        go : Dec (2 * n + 1 < endOf H) → Outcome (FitAll k W H p) (Worked n)
+        go : Dec (2 * n + 1 < endOf H) → Outcome (FitSet k W H p n) (Worked n)
             (pick (ltb (2 * n + 1) (endOf H))
             (pick (loneHigh H) (loneMade k (W .length) (2 * n + 1) x) (admitted k (W .length) (2 * n + 1) (oddRow (W .length) H (2 * n + 1) x)))
             (passed x))
@@ -715,11 +721,11 @@ module _ (k : ℕ) (W H : Side) (p : Band → Grid) where
         has false f c = has-other H _ f
 
     rest-made : (n : ℕ) (x : ℕ → ℤ) → 0 < H .length → 2 * n < endOf H → Stage n (n - 1) (suc (2 * n - 2)) x →
-        Outcome (FitAll k W H p) (Worked n) (restMade k (W .length) H n x)
+        Outcome (FitSet k W H p n) (Worked n) (restMade k (W .length) H n x)
     unfolding restMade
     rest-made n x g l s = go (decLt (2 * n + 2) (endOf H))
       where
-        go : Dec (2 * n + 2 < endOf H) → Outcome (FitAll k W H p) (Worked n)
+        go : Dec (2 * n + 2 < endOf H) → Outcome (FitSet k W H p n) (Worked n)
             (pick (leb (endOf H) (2 * n + 2)) (bind (ownMade k (W .length) H n x) (lastMade k (W .length) H n)) (passed x))
         go (yes u) = rw (lt-leb (endOf H) (2 * n + 2) u) (goes x (inner-leaves n x u s))
         go (no u) = rw (le-leb (endOf H) (2 * n + 2) (omega arith))
@@ -727,11 +733,11 @@ module _ (k : ℕ) (W H : Side) (p : Band → Grid) where
 
     -- ---- a set worked out makes rows of the way back
     rows-made : (n : ℕ) (x : ℕ → ℤ) → 0 < H .length → 2 * n < endOf H → Held n (n - 2) x →
-        Outcome (FitAll k W H p) (Worked n) (rowsMade k (W .length) H n x)
+        Outcome (FitSet k W H p n) (Worked n) (rowsMade k (W .length) H n x)
     unfolding rowsMade
     rows-made n x g l s = bind-outcome (firstMade k (W .length) H n x) _ (first-made n x l s)
         (λ y a. bind-outcome (earlierMade k (W .length) H n y) _ (earlier-made n y l a) (λ z b. rest-made n z g l b))
 
-    pub set-made : (n : ℕ) (x : ℕ → ℤ) → 0 < H .length → 2 * n < endOf H → Past x → Needs n x → Outcome (FitAll k W H p) (Worked n) (setMade k W H n x)
+    pub set-made : (n : ℕ) (x : ℕ → ℤ) → 0 < H .length → 2 * n < endOf H → Past x → Needs n x → Outcome (FitSet k W H p n) (Worked n) (setMade k W H n x)
     unfolding setMade
     set-made n x g l z s = bind-outcome (setUnlifted W H n x) _ (unlifted n x l z s) (λ y r. rows-made n _ g l (even-done n y l r))

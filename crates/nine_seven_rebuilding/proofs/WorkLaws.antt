@@ -6,7 +6,7 @@ use native.Mathlib.Decide.{ℕ-discrete}
 use native.Mathlib.Omega.{arith}
 use lib.IntN.{ℤ}
 use lib.Dec.{T}
-use borrow.Author.Tests.{eq-eqb, ne-eqb, lt-ltb, le-ltb, lt-leb, le-leb}
+use borrow.Author.Tests.{eq-eqb, lt-ltb, le-ltb, lt-leb, le-leb}
 use Rattle.numbers.specs.Signal.{windowed, spliced}
 use Rattle.lifting.specs.Line.{lo}
 use Rattle.lifting.specs.Grid.{Side, side, count, joined, loneHigh}
@@ -20,7 +20,7 @@ use Rattle.level.specs.Work.{endOf, hasLow}
 use Rattle.level.proofs.WorkLaws.{told-no, told-yes, bind-failed, bind-passed, low-first, low-there}
 use Rattle.nine_seven_rebuilding.specs.Slots.{rowPlace, rowHalved, rowIsEven, lowRowTaken}
 use Rattle.nine_seven_rebuilding.specs.Work.{lineTried, lowTried, highTried, setUnlifted, evenRow, oddRow, evenDone, rowFits, admitted, pairMade}
-use Rattle.nine_seven_rebuilding.specs.Work.{firstMade, earlierPair, earlierMade, ownMade, loneMade, lastMade, restMade, rowsMade, setMade}
+use Rattle.nine_seven_rebuilding.specs.Work.{ownEven, firstMade, earlierPair, earlierMade, ownMade, loneMade, lastMade, restMade, rowsMade, setMade}
 use Rattle.nine_seven_rebuilding.specs.Work.{lowTaken, setWorked}
 
 -- ---- along the rows, and the even row
@@ -76,13 +76,13 @@ module _ (k w : ℕ) (H : Side) (m : ℕ) (x z : ℕ → ℤ) (ez : z ≡ oddRow
 
 -- ---- the rows of a set
 module _ (k w : ℕ) (H : Side) (n : ℕ) (x : ℕ → ℤ) where
-  pub first-none : (H .start % 2 + n ≡ 0 → ⊥) → passed x ≡ firstMade k w H n x
+  pub first-none : (t : Bool) → t ≡ ownEven H n → t ≡ false → passed x ≡ firstMade k w H n x
   unfolding firstMade
-  first-none b = rw (ne-eqb (H .start % 2 + n) 0 b) refl
+  first-none t e b = rw (sym e ∙ b) refl
 
-  pub first-made : (ok : Bool) → H .start % 2 + n ≡ 0 → ok ≡ rowFits k w 0 x → outcome ok x ≡ firstMade k w H n x
+  pub first-made : (t ok : Bool) → t ≡ ownEven H n → t ≡ true → ok ≡ rowFits k w (2 * n) x → outcome ok x ≡ firstMade k w H n x
   unfolding firstMade
-  first-made ok e eo = rw (eq-eqb (H .start % 2 + n) 0 e) (told k w 0 ok x x refl eo)
+  first-made t ok e b eo = rw (sym e ∙ b) (told k w (2 * n) ok x x refl eo)
 
   pub earlier-none : n < 2 → passed x ≡ earlierMade k w H n x
   unfolding earlierMade

@@ -1,8 +1,8 @@
 -- A set worked out leaves every place past its level's stretch as it was, whatever stands in it. Assumes nothing.
 use mathlib.Core.Bool.{Bool, true, false}
-use Prim.Native.Nat.{ℕ, _+_, _-_, _*_, _%_}
+use Prim.Native.Nat.{ℕ, _+_, _-_, _*_}
 use lib.IntN.{ℤ}
-use lib.Dec.{ltb, leb, eqb}
+use lib.Dec.{ltb, leb}
 use Rattle.numbers.specs.Signal.{pick}
 use Rattle.lifting.specs.Grid.{Side, loneHigh}
 use Rattle.level.specs.Tried.{Tried, failed, passed}
@@ -11,8 +11,9 @@ use Rattle.level.specs.Rebuilding.{Kept}
 use Rattle.level.proofs.KeptLaws.{kept-none}
 use Rattle.level.proofs.WorkedPast.{Keeps, stops, goes, after, bound}
 use Rattle.nine_seven_rebuilding.specs.Slots.{rowUnlifted, rowHasLine, rowHalved, rowIsEven, lowRowTaken}
-use Rattle.nine_seven_rebuilding.specs.Work.{lineTried, lowTried, highTried, setUnlifted, evenDone, oddRow, rowFits, admitted, pairMade, firstMade}
-use Rattle.nine_seven_rebuilding.specs.Work.{earlierPair, earlierMade, ownMade, loneMade, lastMade, restMade, rowsMade, setMade, lowTaken, setWorked}
+use Rattle.nine_seven_rebuilding.specs.Work.{lineTried, lowTried, highTried, setUnlifted, evenDone, oddRow, rowFits, admitted, pairMade}
+use Rattle.nine_seven_rebuilding.specs.Work.{ownEven, firstMade, earlierPair, earlierMade, ownMade, loneMade, lastMade, restMade, rowsMade, setMade}
+use Rattle.nine_seven_rebuilding.specs.Work.{lowTaken, setWorked}
 use Rattle.nine_seven_rebuilding.proofs.KeptLaws.{unlifted-kept, low-kept, halved-kept, odd-kept, done-kept}
 
 module _ (n : ℕ) where
@@ -64,7 +65,7 @@ module _ (k : ℕ) (W H : Side) where
 
   first-past : (n : ℕ) (x : ℕ → ℤ) → Keeps room x (firstMade k w H n x)
   unfolding firstMade
-  first-past n x = either room x _ _ (admits room k w 0 x x (kept-none room x)) (none x) (eqb (H .start % 2 + n) 0)
+  first-past n x = either room x _ _ (admits room k w (2 * n) x x (kept-none room x)) (none x) (ownEven H n)
 
   earlier-past : (n : ℕ) (x : ℕ → ℤ) → Keeps room x (earlierMade k w H n x)
   unfolding earlierMade

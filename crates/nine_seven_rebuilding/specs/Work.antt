@@ -6,8 +6,8 @@
 use mathlib.Core.Bool.{Bool}
 use Prim.Native.Nat.{ℕ, _+_, _-_, _*_, _%_}
 use lib.IntN.{ℤ}
-use lib.Dec.{ltb, leb, eqb}
-use Rattle.numbers.specs.Signal.{pick}
+use lib.Dec.{ltb, leb}
+use Rattle.numbers.specs.Signal.{pick, both}
 use Rattle.numbers.specs.Tests.{every}
 use Rattle.numbers.specs.Word.{wrap32}
 use Rattle.lifting.specs.Grid.{Side, loneHigh}
@@ -62,9 +62,12 @@ unfoldable pub pairMade : ℕ → ℕ → Side → ℕ → (ℕ → ℤ) → Tri
 pairMade k w H m x = bind (admitted k w (2 * m + 1) (oddRow w H (2 * m + 1) x)) (admitted k w (2 * m + 2))
 
 -- ---- the rows that set n makes
--- a first row at an even coordinate, if it is of this set
+-- does it make its own even row? A first row at an even coordinate alone is made by its own set,
+unfoldable pub ownEven : Side → ℕ → Bool
+ownEven H n = both (hasLow H n) (ltb n 1)
+
 unfoldable pub firstMade : ℕ → ℕ → Side → ℕ → (ℕ → ℤ) → Tried
-firstMade k w H n x = pick (eqb (H .start % 2 + n) 0) (admitted k w 0 x) (passed x)
+firstMade k w H n x = pick (ownEven H n) (admitted k w (2 * n) x) (passed x)
 
 -- the rows at 2n − 3 and 2n − 2, if there are such: those at 2m + 1 and 2m + 2 for this m
 unfoldable pub earlierPair : ℕ → ℕ

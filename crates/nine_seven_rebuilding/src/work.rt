@@ -11,8 +11,8 @@ ghost use Rattle.lifting.specs.Grid.{side, count};
 ghost use Rattle.level.specs.Tried.{outcome};
 ghost use Rattle.level.specs.Rebuilding.{Kept};
 ghost use Rattle.nine_seven_rebuilding.specs.Rebuilding.{maxLevels};
-ghost use Rattle.nine_seven_rebuilding.specs.Work.{lowTried, highTried, setUnlifted, evenDone, pairMade, firstMade, earlierMade, ownMade, lastMade};
-ghost use Rattle.nine_seven_rebuilding.specs.Work.{restMade, rowsMade, setMade, lowTaken, setWorked};
+ghost use Rattle.nine_seven_rebuilding.specs.Work.{lowTried, highTried, setUnlifted, evenDone, pairMade, ownEven, firstMade, earlierMade, ownMade};
+ghost use Rattle.nine_seven_rebuilding.specs.Work.{lastMade, restMade, rowsMade, setMade, lowTaken, setWorked};
 
 // ---- along the rows
 
@@ -80,13 +80,22 @@ fn make_pair(stretch: &mut [i32], k: usize, w: usize, h: usize, y: usize, m: usi
 
 // ---- the rows that set n makes
 
-// A first row at an even coordinate, if it is of this set,
+// Whether set n makes its own even row: a first row at an even coordinate alone is made by its own set,
+fn own_even(h: usize, y: usize, n: usize) -> bool
+    ensures { λ r. ⌜ r ≡ ownEven (side y h) n ⌝ }
+{
+    if n < y % 2 {
+        return false;
+    }
+    n < 1
+}
+
 fn make_first(stretch: &[i32], k: usize, w: usize, h: usize, y: usize, n: usize) -> bool
     requires { ⌜ (w ≤ 2 ^ 16) × (8 * w ≤ length (now stretch)) × (n < 2 ^ 32) × (k ≤ maxLevels) ⌝ }
     ensures { λ ok. ⌜ outcome ok (at (now (stretch .entry))) ≡ firstMade k w (side y h) n (at (now (stretch .entry))) ⌝ }
 {
-    if y % 2 + n == 0 {
-        return rows::admit_row(stretch, k, w, 0);
+    if own_even(h, y, n) {
+        return rows::admit_row(stretch, k, w, 2 * n);
     }
     true
 }

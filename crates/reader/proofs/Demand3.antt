@@ -6,10 +6,10 @@ use Prim.Native.Nat.{ℕ, zero, suc, _+_, _-_, _≤_, _<_}
 use native.Mathlib.Omega.{arith}
 use lib.IntN.{ℤ}
 use lib.ListN.{length}
-use lib.Dec.{T, eqb, leb}
+use lib.Dec.{T, eqb}
 use mir.Syntax.{w32}
 use mir.Val.{SFits}
-use borrow.Author.Tests.{le-ltb, lt-ltb, eq-eqb, leb-false}
+use borrow.Author.Tests.{le-ltb}
 use Rattle.numbers.specs.Signal.{pick}
 use Rattle.numbers.specs.Word.{wrap32, whole}
 use Rattle.lifting.specs.Grid.{Side, count}
@@ -18,7 +18,7 @@ use Rattle.wavelet.specs.Limits.{maxWidth, maxHeight, maxOrigin}
 use Rattle.wavelet.specs.Bands.{Grid, Band, code, across, down, levelHas}
 use Rattle.wavelet.specs.Maps.{IsMap, valueFits}
 use Rattle.wavelet.specs.Questions.{ask, within}
-use Rattle.wavelet.specs.Order.{RowName, rowName, times, setRow}
+use Rattle.wavelet.specs.Order.{RowName, rowName, times}
 use Rattle.wavelet.specs.Steps.{Step, bandRowsOf, steps}
 use Rattle.wavelet.specs.Steps as step
 use Rattle.wavelet.proofs.MapTheorems.{height-fits, low-fits}
@@ -36,33 +36,33 @@ use Rattle.calls.proofs.QuestionLaws.{asked-yes}
 use Rattle.nine_seven.specs.Filters.{filterOf, isFilter}
 use Rattle.nine_seven.proofs.Filters.{filter-laws}
 use Rattle.reader.specs.declared.Reader.{Reader}
-use Rattle.reader.specs.Asked.{asked}
-use Rattle.reader.specs.Rebuilt.{Rows, rebuilt, bandsAt, partAt, SetFits}
+use Rattle.reader.specs.Rebuilt.{Rows, rebuilt, bandsAt, partAt, SetFits, SetsFit}
 use Rattle.reader.specs.Store.{hasCells}
-use Rattle.reader.specs.Holds.{Ready}
+use Rattle.reader.specs.Holds.{Ready, FeedDue}
 use Rattle.reader.specs.Answers.{done}
 use Rattle.reader.specs.Sets.{ahead, hasRow, needed}
 use Rattle.level.specs.Tried.{Tried, failed, passed, fits}
-use Rattle.reader.specs.Machine.{Spot, spot, Place, placeOf, bandAt, lastOfSet, nextUp, past, beyond, enter}
+use Rattle.reader.specs.Machine.{spot, Place, placeOf, lastOfSet, past, beyond, enter}
 use Rattle.reader.specs.State.{drawDue, feeds, settles}
 use Rattle.reader.specs.Questions.{countsFit, setUpQuestion, feedQuestion, drawQuestion}
 use Rattle.reader.specs.Calls.{fresh, feedReply, drawReply, drawArea}
 use Rattle.reader.specs.Demand3.{Call, want, feed, draw, Given, heights, nothing, Event, wanted, fed, drew, said, given}
 use Rattle.reader.specs.Demand3.{World, event, events, final, freshWorld, leftBy, left, ends, endedBy, FedRow, fedBy, fedRows, drawnBy, drawnRows}
-use Rattle.reader.specs.Demand3.{HasRow, FirstRows, HasFedRow, SetsFit, FeedFits, setNumber, goesOnSet, wantSays, feedTurned, drawSays}
+use Rattle.reader.specs.Demand3.{HasRow, FirstRows, HasFedRow, FeedFits, setNumber, wantSays, feedTurned, drawSays}
 use Rattle.reader.specs.Demand3.{OneOf, this, that, written, Draws, Demand3, OfCalls}
 use Rattle.reader.specs.Demand3 as demand
-use Rattle.reader.proofs.ReadyLaws.{ready-still, ready-enter, ready-back}
-use Rattle.reader.proofs.StepsLeft.{stepsLeft, tailAt, Ahead, height, row, ahead-is, left-first, left-row}
+use Rattle.reader.proofs.ReadyLaws.{ready-enter, ready-back}
+use Rattle.reader.proofs.StepsLeft.{stepsLeft, left-first}
 use Rattle.level.proofs.SetMade.{Outcome}
-use Rattle.reader.proofs.Outcomes.{outcome-passed, settles-outcome, feeds-worked, kept-last}
-use Rattle.reader.proofs.Holds.{Fits, LeavesAt, Held, HeldAt, Worked, FedHeld, first-holds, set-fits, set-has}
-use Rattle.reader.proofs.CallViews.{Limits, limits, here, at, nameOf, Due, View, at-end, at-height, at-row, view, counts, want-says}
+use Rattle.reader.proofs.Outcomes.{outcome-failed, outcome-passed, settles-outcome, feeds-worked, kept-last}
+use Rattle.reader.proofs.Holds.{by-outcome, Fits, LeavesAt, Held, HeldAt, Worked, first-holds, set-fits, set-has}
+use Rattle.reader.proofs.CallViews.{Limits, limits, here, at, nextOf, nameOf, Due, View, at-end, at-height, at-row, view, counts, want-says}
 use Rattle.reader.proofs.CallViews.{FeedView, feed-away, feed-onward, feed-view, DrawView, draw-away, draw-idle, draw-onward, draw-view}
 use Rattle.reader.proofs.Reached.{namesOf, Good, enter-le, Agrees, Kept, Reached, reached, world, call-reached}
+use Rattle.reader.proofs.SetSteps.{set-of-row, set-goes-on, set-ends}
 use Rattle.reader.proofs.Rebuilt.{lookup, lookup-words, found, back, back-has, rowsOf, part-same, bands-have}
-use Rattle.reader.proofs.CellLaws.{cells-are, asked-has, has-row}
-use Rattle.level.proofs.LevelHas.{sets-have}
+use Rattle.reader.proofs.CellLaws.{cells-are}
+use Rattle.level.proofs.LevelHas.{sets-have, have-sets}
 use Rattle.reader.proofs.OpenedSets.{looks, last-needed}
 
 -- ---- the steps left and the rows fed, one list of events after another
@@ -198,9 +198,10 @@ module _ (f : ℕ) (W H : Side) (l n : ℕ) (lim : Limits f W H l n) where
       (map-approximation-range (filterOf f) (filter-laws f) W H g m (suc k) r c p q))
 
   map-fitting : (g : Grid) (m : Map g) → Fits f W H l (own g m)
-  map-fitting g m k live = record {
-    fit = λ r c p q. subst (λ v. valueFits (filterOf f) k v ≡ true) (sym (part-same f W H g m l few k (live .0) r c p q)) (map-value g m k r c (live .0) p q);
-    has = bands-have f W H g m l few k (live .0);
+  map-fitting g m k live i there = record {
+    fit = λ r c p _ q. subst (λ v. valueFits (filterOf f) k v ≡ true) (sym (part-same f W H g m l few k (live .0) r c p q)) (map-value g m k r c (live .0) p q);
+    has = have-sets (filterOf f) (ahead f) (sideAt k W) (sideAt k H) _ (bands-have f W H g m l few k (live .0))
+        (cells-are (sideAt k W) (sideAt k H) (live .1) .1) i there;
   }
 
   -- ---- each part of the claim, for a world that is reached
@@ -342,47 +343,7 @@ module _ (f : ℕ) (W H : Side) (l n : ℕ) (lim : Limits f W H l n) where
     none-has : e ≡ true → (g : Grid) → Map g → All (HasRow f W H g) fs → ⊥
     none-has z g m has = agrees g m has .refuses z (map-fitting g m)
 
-    -- ---- what a call that goes on has worked out
-    -- the set of a row that is asked for
-    set-of-row : (k n : ℕ) (c : Band) → asked (eqb (suc k) (suc l)) (sideAt k W) (sideAt k H) n c ≡ true → setNumber H (nameOf f W H l k n c) ≡ n
-    unfolding setNumber setRow
-    set-of-row k n c asks =
-        let z : suc k - 1 ≡ k = omega arith in
-        let a = has-row (sideAt k W) (sideAt k H) c n (asked-has _ _ _ _ _ asks .1) .first in
-        rw z (omega (arith, a))
-
-    -- where row c does not complete its set, the next step is a row of it
-    set-goes-on : (k n : ℕ) (c : Band) → Due f W H l d p k n c → lastOfSet W H (suc l) k n (code c) ≡ false →
-        goesOnSet H (nameOf f W H l k n c) (stepsLeft f W H l d (spot (suc k) n (code c + 1))) ≡ true
-    unfolding goesOnSet
-    set-goes-on k n c o more = first (nextUp f W H (suc l) (suc k) n (code c + 1)) next-is
-        (ahead-is f W H l d (suc k) n (code c + 1) (omega (arith, o .below, kept .level-le)) after)
-      where
-        under : (m i : ℕ) → m ≤ 4 → leb m i ≡ false → i < 4
-        under m i b z = omega (arith, leb-false m i z)
-
-        small : bandAt W H (suc l) k n (code c + 1) < 4
-        small = unfold lastOfSet in under _ _ (omega arith) more
-
-        next-is : nextUp f W H (suc l) (suc k) n (code c + 1) ≡ spot (suc k) n (bandAt W H (suc l) k n (code c + 1))
-        next-is = unfold nextUp in rw (lt-ltb (bandAt W H (suc l) k n (code c + 1)) 4 small) refl
-
-        after : Ready f W H (suc l) d (spot (suc k) n (code c + 1))
-        after = ready-still f W H l d k n (code c) (o .ready) more
-
-        first : (q : Spot) → q ≡ spot (suc k) n (bandAt W H (suc l) k n (code c + 1)) →
-            Ahead f W H l d (suc k) (tailAt f W H l (spot (suc k) n (code c + 1))) q →
-            goesOnSet H (nameOf f W H l k n c) (stepsLeft f W H l d (spot (suc k) n (code c + 1))) ≡ true
-        first _ e (height fr) = let z : 0 ≡ suc k = ap (λ r. r .level) e in absurd (omega arith)
-        first _ e (row j i b h r asks fr) =
-            let z : suc j ≡ suc k = ap (λ r. r .level) e in
-            let y : i ≡ n = ap (λ r. r .set) e in
-            rw (left-row f W H l d (spot (suc k) n (code c + 1)) j i b (o .due) fr)
-            (rw (
-              eq-eqb (suc j) (suc k) z,
-              eq-eqb (setNumber H (nameOf f W H l j i b)) (setNumber H (nameOf f W H l k n c)) (set-of-row j i b asks ∙ y ∙ sym (set-of-row k n c (o .asks))),
-            ) refl)
-
+    -- ---- what a call that goes on has worked out, and one that gives 14
     -- the set that a level has left
     leaves-fit : (P : Rows) (k i : ℕ) (y : ℕ → ℤ) → LeavesAt f W H l P k i y → SetFits f W H P (suc l) k i
     leaves-fit P k i y s = record {
@@ -407,7 +368,7 @@ module _ (f : ℕ) (W H : Side) (l n : ℕ) (lim : Limits f W H l n) where
         name = nameOf f W H l k n c
 
         number : setNumber H name ≡ n
-        number = set-of-row k n c (o .asks)
+        number = set-of-row f W H l k n c (o .asks)
 
         differ : true ≡ false → ⊥
         differ z = subst T z tt
@@ -423,82 +384,183 @@ module _ (f : ℕ) (W H : Side) (l n : ℕ) (lim : Limits f W H l n) where
           above = λ q. rw number (worked-fits (worked z) (subst (λ i. hasRow H (suc k) i ≡ true) number q));
         }
         go false z held = record {
-          own = λ q. absurd (differ (sym (set-goes-on k n c o z) ∙ q));
+          own = λ q. absurd (differ (sym (set-goes-on f W H l d p (kept .level-le) k n c o z) ∙ q));
           above = λ q. rw number (sets-fit P (suc k) n (code c + 1) y (subst (λ i. hasRow H (suc k) i ≡ true) number q) held);
         }
 
-    fits-no : (v : Tried) → failed ≡ v → 14 ≡ ask (fits v) 14 0
+    -- and the other way: what fits by the steps left is what is due
+    fits-due : (P : Rows) (k n : ℕ) (c : Band) → Due f W H l d p k n c →
+        FeedFits f W H (suc l) P (nameOf f W H l k n c) (stepsLeft f W H l d (beyond f W H (suc l) k n (code c))) → FeedDue f W H (suc l) P k n (code c)
+    fits-due P k n c o fit = record {
+      own = λ z. subst (SetFits f W H P (suc l) k) number
+          (subst (λ i. SetFits f W H P (suc l) i (setNumber H (nameOf f W H l k n c))) back-one
+          (fit .own (set-ends f W H l d p (kept .level-le) k n c o z)));
+      above = λ q. subst (SetsFit f W H (suc l) P (suc k)) number (fit .above (subst (λ i. hasRow H (suc k) i ≡ true) (sym number) q));
+    }
+      where
+        back-one : suc k - 1 ≡ k
+        back-one = omega arith
+
+        number : setNumber H (nameOf f W H l k n c) ≡ n
+        number = set-of-row f W H l k n c (o .asks)
+
+    fits-no : (v : Tried) → v ≡ failed → ask (fits v) 14 0 ≡ 14
     unfolding fits
     fits-no v z = ap (λ (w : Tried). ask (fits w) 14 0) z
 
-    feed-works-here : (a : Area) (y : RowName) (t′ : List Step) → t ≡ step.feed y ∷ t′ → event (feed a) (world f W H l n lim d p e x) ≡ fed a (gives tt) →
-        (P : Rows) → All (HasFedRow W P) (fs ++ (record { row = y; run = a } ∷ [])) → FeedFits f W H (suc l) P y t′
-    unfolding event
-    feed-works-here a y t′ first passes P has =
-        go (feed-view f W H l n lim d p (kept .drawn-le) (kept .level-le) (kept .band-le) (kept .back-le) e t x a viewed)
-      where
-        s′ : Reader
-        s′ = here f W H l d p e
+    fits-yes : (v : Tried) (m : ℕ → ℤ) → v ≡ passed m → ask (fits v) 14 0 ≡ 0
+    unfolding fits
+    fits-yes v m z = ap (λ (w : Tried). ask (fits w) 14 0) z
 
-        differ : (q : ℕ) → _≡_ {A = Event} (fed a (refused q)) (fed a (gives tt)) → ⊥
-        differ q z = let b : _≡_ {A = ℕ} 0 1 = cc in omega arith
+    -- a feed of the row wanted goes on or gives 14, by whether what is due fits
+    module _ (a : Area) (y : RowName) (t′ : List Step) (first : t ≡ step.feed y ∷ t′) (P : Rows)
+        (has : All (HasFedRow W P) (fs ++ (record { row = y; run = a } ∷ []))) where
+      abbrev s′ : Reader
+      s′ = here f W H l d p e
 
-        go : FeedView f W H l n lim d p (kept .drawn-le) (kept .level-le) (kept .band-le) (kept .back-le) e t x a → FeedFits f W H (suc l) P y t′
-        go (feed-away q fr z z′ at) = absurd (differ q (sym (ap (seenFeed a) at ∙ seen-away a q z z′) ∙ passes))
-        go (feed-onward k u c live o head long in-range fr at) = tried (feeds s′ (a .numbers) x) refl
-          where
-            to : Spot
-            to = beyond f W H (suc l) k u (code c)
+      abbrev Fitting : Type 0
+      Fitting = FeedFits f W H (suc l) P y t′
 
-            named-same : _≡_ {A = List Step} (step.feed (nameOf f W H l k u c) ∷ stepsLeft f W H l d to) (step.feed y ∷ t′)
-            named-same = sym head ∙ first
+      abbrev Seen : Type 0
+      Seen = FeedView f W H l n lim d p (kept .drawn-le) (kept .level-le) (kept .band-le) (kept .back-le) e t x a
 
-            name-is : nameOf f W H l k u c ≡ y
-            name-is = cc
+      seen : Seen
+      seen = feed-view f W H l n lim d p (kept .drawn-le) (kept .level-le) (kept .band-le) (kept .back-le) e t x a viewed
 
-            rest-is : stepsLeft f W H l d to ≡ t′
-            rest-is = cc
+      feed-decides : (k u : ℕ) (c : Band) → e ≡ false → Due f W H l d p k u c →
+          t ≡ step.feed (nameOf f W H l k u c) ∷ stepsLeft f W H l d (beyond f W H (suc l) k u (code c)) →
+          Outcome Fitting (λ _. Fitting) (feeds s′ (a .numbers) x)
+      feed-decides k u c live o head =
+          by-outcome _ _ _ _ _ (λ fit. fits-due P k u c o (subst (λ v. FeedFits f W H (suc l) P v left-then) (sym name-is)
+          (subst (FeedFits f W H (suc l) P y) (sym rest-is) fit)))
+          (λ m q. subst (λ v. FeedFits f W H (suc l) P v t′) name-is
+          (subst (FeedFits f W H (suc l) P (nameOf f W H l k u c)) rest-is (fed-fits P k u c o m (q .0) (q .1))))
+          (feeds-worked f W H l d p (kept .level-le) (kept .ready (o .due)) P x (kept .rows P (all-left fs _ has) .holds live (o .due))
+          e k u c o (a .numbers)
+          (subst (λ v. HasFedRow W P (record { row = v; run = a })) (sym name-is) (all-last fs _ has)))
+        where
+          left-then : List Step
+          left-then = stepsLeft f W H l d (beyond f W H (suc l) k u (code c))
 
-            held : Outcome (Fits f W H l P) (FedHeld f W H l P k u (code c)) (feeds s′ (a .numbers) x)
-            held =
-                feeds-worked f W H l d p (kept .level-le) (kept .ready (o .due)) P x (kept .rows P (all-left fs _ has) .holds live (o .due))
-                e k u c o (a .numbers)
-                (subst (λ v. HasFedRow W P (record { row = v; run = a })) (sym name-is) (all-last fs _ has))
+          named-same : _≡_ {A = List Step} (step.feed (nameOf f W H l k u c) ∷ left-then) (step.feed y ∷ t′)
+          named-same = sym head ∙ first
 
-            tried : (v : Tried) → feeds s′ (a .numbers) x ≡ v → FeedFits f W H (suc l) P y t′
-            tried failed z = absurd (differ 14 (sym (ap (seenFeed a) (at ∙ sym (fits-no _ (sym z))) ∙ seen-stops a) ∙ passes))
-            tried (passed m) z =
-                subst (λ v. FeedFits f W H (suc l) P v t′) name-is
-                (subst (FeedFits f W H (suc l) P (nameOf f W H l k u c)) rest-is
-                (let q : FedHeld f W H l P k u (code c) m = outcome-passed m (subst (Outcome (Fits f W H l P) _) z held) in fed-fits P k u c o m (q .0) (q .1)))
+          name-is : nameOf f W H l k u c ≡ y
+          name-is = cc
 
-    draw-works-here : (a z : Area) → event (draw a) (world f W H l n lim d p e x) ≡ drew a (gives (heights (W .length))) z →
-        (P : Rows) → All (HasFedRow W P) fs → SetsFit f W H (suc l) P 0 d
-    unfolding event
-    draw-works-here a after passes P has = go (draw-view f W H l n lim d p (kept .drawn-le) (kept .level-le) (kept .band-le) (kept .back-le) e t x a viewed)
-      where
-        s′ : Reader
-        s′ = here f W H l d p e
+          rest-is : left-then ≡ t′
+          rest-is = cc
 
-        given-is : (q : ℕ) → drawQuestion s′ n x (a .size) ≡ q → said given (drawReply s′ q) ≡ gives (heights (W .length))
-        given-is q at = let z : seenDraw a q ≡ drew a (gives (heights (W .length))) after = sym (ap (seenDraw a) at) ∙ passes in cc
+      feed-works-here : event (feed a) (world f W H l n lim d p e x) ≡ fed a (gives tt) → Fitting
+      unfolding event
+      feed-works-here passes = go seen
+        where
+          differ : (q : ℕ) → _≡_ {A = Event} (fed a (refused q)) (fed a (gives tt)) → ⊥
+          differ q z = let b : _≡_ {A = ℕ} 0 1 = cc in omega arith
 
-        no-row : (v : Reply Given) → ((v ≡ gives (heights (W .length))) → ⊥) → (q : ℕ) → said given (drawReply s′ q) ≡ v →
-            drawQuestion s′ n x (a .size) ≡ q → ⊥
-        no-row v not-this q says at = not-this (sym says ∙ given-is q at)
+          go : Seen → Fitting
+          go (feed-away q fr z z′ at) = absurd (differ q (sym (ap (seenFeed a) at ∙ seen-away a q z z′) ∙ passes))
+          go (feed-onward k u c live o head long in-range fr at) = tried (feeds s′ (a .numbers) x) refl
+            where
+              tried : (v : Tried) → feeds s′ (a .numbers) x ≡ v → Fitting
+              tried failed z = absurd (differ 14 (sym (ap (seenFeed a) (at ∙ fits-no _ z) ∙ seen-stops a) ∙ passes))
+              tried (passed m) z = outcome-passed m (subst (Outcome Fitting _) z (feed-decides k u c live o head))
 
-        go : DrawView f W H l n lim d p (kept .drawn-le) (kept .level-le) (kept .band-le) (kept .back-le) e t x a → SetsFit f W H (suc l) P 0 d
-        go (draw-away q z u says at) = absurd (no-row (refused q) (λ r. let b : _≡_ {A = ℕ} 0 1 = cc in omega arith) q (unfold drawReply in rw (z, u) refl) at)
-        go (draw-idle live z says at) = absurd (no-row (gives nothing) (λ r. let b : _≡_ {A = ℕ} 0 1 = cc in omega arith) 0 (unfold drawReply in rw z refl) at)
-        go (draw-onward live due is-height head to-draw says at) = tried (settles s′ x) refl
-          where
-            held : Outcome (Fits f W H l P) (Held f W H l P 0 d 4) (settles s′ x)
-            held = settles-outcome f W H l d p (kept .level-le) (kept .ready due) P x (kept .rows P has .holds live due) e (spot 0 0 4) is-height
+      feed-ends-here : event (feed a) (world f W H l n lim d p e x) ≡ fed a (refused 14) → Fitting → ⊥
+      unfolding event
+      feed-ends-here ends fit = go seen
+        where
+          other : (q : ℕ) → eqb q 14 ≡ false → _≡_ {A = Event} (fed a (refused q)) (fed a (refused 14)) → ⊥
+          other q z w = let b : q ≡ 14 = cc in subst T (ap (λ i. eqb i 14) (sym b) ∙ z) tt
 
-            tried : (v : Tried) → settles s′ x ≡ v → SetsFit f W H (suc l) P 0 d
-            tried failed z = absurd (no-row (refused 14) (λ r. let b : _≡_ {A = ℕ} 0 1 = cc in omega arith) 14 (unfold drawReply in
-                refl) (at ∙ sym (fits-no _ (sym z))))
-            tried (passed m) z = sets-fit P 0 d 4 m (unfold hasRow in refl) (outcome-passed m (subst (Outcome (Fits f W H l P) _) z held))
+          differ : _≡_ {A = Event} (fed a (gives tt)) (fed a (refused 14)) → ⊥
+          differ z = let b : _≡_ {A = ℕ} 0 1 = cc in omega arith
+
+          go : Seen → ⊥
+          go (feed-away q fr z z′ at) = other q z′ (sym (ap (seenFeed a) at ∙ seen-away a q z z′) ∙ ends)
+          go (feed-onward k u c live o head long in-range fr at) = tried (feeds s′ (a .numbers) x) refl
+            where
+              tried : (v : Tried) → feeds s′ (a .numbers) x ≡ v → ⊥
+              tried failed z = outcome-failed (subst (Outcome Fitting _) z (feed-decides k u c live o head)) fit
+              tried (passed m) z = differ (sym (ap (seenFeed a) (at ∙ fits-yes _ m z) ∙ seen-goes a) ∙ ends)
+
+    -- a draw of a row likewise
+    module _ (a after : Area) (P : Rows) (has : All (HasFedRow W P) fs) where
+      abbrev r′ : Reader
+      r′ = here f W H l d p e
+
+      abbrev Shown : Type 0
+      Shown = DrawView f W H l n lim d p (kept .drawn-le) (kept .level-le) (kept .band-le) (kept .back-le) e t x a
+
+      shown : Shown
+      shown = draw-view f W H l n lim d p (kept .drawn-le) (kept .level-le) (kept .band-le) (kept .back-le) e t x a viewed
+
+      draw-decides : e ≡ false → d < H .length → nextOf f W H l d p ≡ spot 0 0 4 →
+          Outcome (SetsFit f W H (suc l) P 0 d) (λ _. SetsFit f W H (suc l) P 0 d) (settles r′ x)
+      draw-decides live due is-height =
+          by-outcome _ _ _ _ _ (λ fit _. fit) (λ m q. sets-fit P 0 d 4 m (unfold hasRow in refl) q)
+          (settles-outcome f W H l d p (kept .level-le) (kept .ready due) P x (kept .rows P has .holds live due) e (spot 0 0 4) is-height)
+
+      -- another answer than v is not what was seen
+      not-said : (v u : Reply Given) → event (draw a) (world f W H l n lim d p e x) ≡ drew a v after → (u ≡ v → ⊥) → (q : ℕ) →
+          said given (drawReply r′ q) ≡ u → drawQuestion r′ n x (a .size) ≡ q → ⊥
+      unfolding event
+      not-said v u is differ q says at =
+          let z : seenDraw a q ≡ drew a v after = sym (ap (seenDraw a) at) ∙ is in
+          let y : said given (drawReply r′ q) ≡ v = cc in
+          differ (sym says ∙ y)
+
+      away-says : (q : ℕ) → eqb q 0 ≡ false → eqb q 14 ≡ false → said given (drawReply r′ q) ≡ refused q
+      unfolding drawReply
+      away-says q z fr = rw (z, fr) refl
+
+      idle-says : drawDue r′ ≡ false → said given (drawReply r′ 0) ≡ gives nothing
+      unfolding drawReply
+      idle-says z = rw z refl
+
+      row-says : drawDue r′ ≡ true → said given (drawReply r′ 0) ≡ gives (heights (W .length))
+      unfolding drawReply
+      row-says z = rw z refl
+
+      stop-says : said given (drawReply r′ 14) ≡ refused 14
+      unfolding drawReply
+      stop-says = refl
+
+      draw-works-here : event (draw a) (world f W H l n lim d p e x) ≡ drew a (gives (heights (W .length))) after → SetsFit f W H (suc l) P 0 d
+      draw-works-here passes = go shown
+        where
+          no-row : (q : ℕ) → _≡_ {A = Reply Given} (refused q) (gives (heights (W .length))) → ⊥
+          no-row q z = let b : _≡_ {A = ℕ} 0 1 = cc in omega arith
+
+          no-heights : _≡_ {A = Reply Given} (gives nothing) (gives (heights (W .length))) → ⊥
+          no-heights z = let b : _≡_ {A = ℕ} 0 1 = cc in omega arith
+
+          go : Shown → SetsFit f W H (suc l) P 0 d
+          go (draw-away q z fr says at) = absurd (not-said _ (refused q) passes (no-row q) q (away-says q z fr) at)
+          go (draw-idle live z says at) = absurd (not-said _ (gives nothing) passes no-heights 0 (idle-says z) at)
+          go (draw-onward live due is-height head to-draw says at) = tried (settles r′ x) refl
+            where
+              tried : (v : Tried) → settles r′ x ≡ v → SetsFit f W H (suc l) P 0 d
+              tried failed z = absurd (not-said _ (refused 14) passes (no-row 14) 14 stop-says (at ∙ fits-no _ z))
+              tried (passed m) z = outcome-passed m (subst (Outcome (SetsFit f W H (suc l) P 0 d) _) z (draw-decides live due is-height))
+
+      draw-ends-here : event (draw a) (world f W H l n lim d p e x) ≡ drew a (refused 14) after → SetsFit f W H (suc l) P 0 d → ⊥
+      draw-ends-here ends fit = go shown
+        where
+          other : (q : ℕ) → eqb q 14 ≡ false → _≡_ {A = Reply Given} (refused q) (refused 14) → ⊥
+          other q z w = let b : q ≡ 14 = cc in subst T (ap (λ i. eqb i 14) (sym b) ∙ z) tt
+
+          no-answer : (v : Given) → _≡_ {A = Reply Given} (gives v) (refused 14) → ⊥
+          no-answer v z = let b : _≡_ {A = ℕ} 0 1 = cc in omega arith
+
+          go : Shown → ⊥
+          go (draw-away q z fr says at) = not-said _ (refused q) ends (other q fr) q (away-says q z fr) at
+          go (draw-idle live z says at) = not-said _ (gives nothing) ends (no-answer nothing) 0 (idle-says z) at
+          go (draw-onward live due is-height head to-draw says at) = tried (settles r′ x) refl
+            where
+              tried : (v : Tried) → settles r′ x ≡ v → ⊥
+              tried failed z = outcome-failed (subst (Outcome (SetsFit f W H (suc l) P 0 d) _) z (draw-decides live due is-height)) fit
+              tried (passed m) z = not-said _ (gives (heights (W .length))) ends (no-answer (heights (W .length))) 0 (row-says to-draw) (at ∙ fits-yes _ m z)
 
     -- ---- Done
     all-drawn : View f W H l d p [] → H .length ≤ d
@@ -611,9 +673,12 @@ module _ (f : ℕ) (W H : Side) (l n : ℕ) (lim : Limits f W H l n) where
       feeds-on = feed-on d p e x t fs ds kept;
       draws = draw-is d p e x t fs ds kept;
       first = λ g has. first-rows d p e x t fs ds kept g (has .map) (has .rows);
-      feed-works = λ a y t′ goes P has. feed-works-here d p e x t fs ds kept a y t′ (goes .next) (goes .passes) P has;
+      feed-works = λ a y t′ goes P has. feed-works-here d p e x t fs ds kept a y t′ (goes .next) P has (goes .passes);
       draw-works = λ a z passes P has.
-          subst (λ i. SetsFit f W H (suc l) P 0 i) (sym (kept .drawn)) (draw-works-here d p e x t fs ds kept a z passes P has);
+          subst (λ i. SetsFit f W H (suc l) P 0 i) (sym (kept .drawn)) (draw-works-here d p e x t fs ds kept a z P has passes);
+      feed-ends = λ a y t′ first ends P has. feed-ends-here d p e x t fs ds kept a y t′ first P has ends;
+      draw-ends = λ a z ends P has fit.
+          draw-ends-here d p e x t fs ds kept a z P has ends (subst (λ i. SetsFit f W H (suc l) P 0 i) (kept .drawn) fit);
       impossible = λ z g has. none-has d p e x t fs ds kept z g (has .map) (has .rows);
       finished = (
         λ z. let fr = finished-then d p e x t fs ds kept z in record { map = fr .0; has = record { map = fr .1; rows = fr .2 }; all = fr .3; first = fr .4 },

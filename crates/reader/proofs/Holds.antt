@@ -1,6 +1,7 @@
 -- What the store holds of band rows P, by their names, while the reader is at a place, and that each thing the machine does keeps it: rows of P fed, sets
 -- worked out, height rows passed.
--- Over words, no range is asked. Where the machine refuses a number, the way back from P has a value that does not fit, or halves an odd number.
+-- Over words, no range is asked. Where the machine refuses a number, the way back from P has a value in the rows that are due that does not fit, or halves an
+-- odd number for them.
 -- Assumes nothing.
 use mathlib.Core.Bool.{Bool, true, false}
 use mathlib.Core.Path.{_≡_, refl, sym, ap, subst, _∙_, fun-ext}
@@ -24,19 +25,20 @@ use Rattle.filters.specs.Back.{backOf, standsOf}
 use Rattle.filters.proofs.BackLaws.{back-ahead, back-laws}
 use Rattle.reader.specs.Sets.{ahead, hasRow, rowOf, taking, needed, firstRow, makes, waiting, waitsAt}
 use Rattle.reader.specs.Asked.{keptAt, asked, bandsFrom, those, look, firstCode, nextBand, named}
-use Rattle.reader.specs.Rebuilt.{Rows, bandsBy, rebuilt, bandsAt, partAt, LevelFits}
-use Rattle.reader.specs.Holds.{Tested, M, Ready}
+use Rattle.reader.specs.Rebuilt.{Rows, bandsBy, rebuilt, bandsAt, partAt, SetFits, SetsFit}
+use Rattle.reader.specs.Holds.{Tested, M, Ready, FeedDue}
 use Rattle.level.specs.Tried.{Tried, passed, bind, onto}
-use Rattle.level.specs.Stands.{SetHasBy}
+use Rattle.level.specs.Stands.{SetHasBy, SetFitsBy}
 use Rattle.reader.specs.Store.{stretchAt, from, behind, hasCells, fedAt, workedAt, hasSet}
 use Rattle.reader.specs.Machine.{Spot, spot, bandAt, lastOfSet, nextUp, settled, finished, past, beyond, fedOn, dive, begins, enter}
 use Rattle.reader.proofs.Looks.{named-code, code-lt, first-le}
 use Rattle.reader.proofs.OpenedSets.{last-is, first-low, low-is, side-long, odd-first, makes-yes, makes-not, row-makes, row-next, opens-yes}
-use Rattle.reader.proofs.OpenedSets.{opened-row, row-taking, taking-row, taking-has, needed-on, needed-from, waits-here, waits-finer, waiting-row}
+use Rattle.reader.proofs.OpenedSets.{opened-row, row-taking, taking-row, taking-has, needed-next, needed-on, needed-from}
+use Rattle.reader.proofs.OpenedSets.{waits-here, waits-finer, waiting-row}
 use Rattle.reader.proofs.CellLaws.{cells-yes, cells-are, cells-before, no-low}
 use Rattle.reader.proofs.ReadyLaws.{ready-up}
 use Rattle.reader.proofs.StepsLeft.{last-none, begins-is}
-use Rattle.level.proofs.SetMade.{Outcome, stops, goes, bind-outcome, FitAllBy}
+use Rattle.level.proofs.SetMade.{Outcome, stops, goes, bind-outcome}
 use Rattle.wavelet.proofs.StepLaws.{set-there, before-zero, before-suc}
 use Rattle.wavelet.specs.Steps.{setOf, setsBefore}
 use Rattle.level.specs.Sets.{opens}
@@ -49,10 +51,14 @@ module _ (f : ℕ) (W H : Side) (p : Band → Grid) (n : ℕ) (tested : Tested f
   tested-next : SetHasBy (filterOf f) (ahead f) W H p n → Tested f W H p (suc n)
   tested-next h m b = elim (ℕ-discrete m n) [ yes e ↦ subst (SetHasBy (filterOf f) (ahead f) W H p) (sym e) h | no e ↦ tested m (omega (arith, e)) ]
 
+-- an outcome under a stronger N, with a weaker P
+pub by-outcome : (N N′ : Type 0) (P Q : (ℕ → ℤ) → Type 0) (t : Tried) → (N → N′) → ((y : ℕ → ℤ) → P y → Q y) → Outcome N′ P t → Outcome N Q t
+by-outcome N N′ P Q _ g f (stops z) = stops (λ n. z (g n))
+by-outcome N N′ P Q _ g f (goes y q) = goes y (f y q)
+
 -- what is left by a set worked out, with what was tested before
 with-tested : (N : Type 0) (P Q : (ℕ → ℤ) → Type 0) (t : Tried) → ((y : ℕ → ℤ) → P y → Q y) → Outcome N P t → Outcome N Q t
-with-tested N P Q _ f (stops z) = stops z
-with-tested N P Q _ f (goes y q) = goes y (f y q)
+with-tested N P Q t = by-outcome N N P Q t (λ n. n)
 
 -- a set worked out: its rows are those of the way back and fit, and it halved no odd number
 set-made : (f k : ℕ) (W H : Side) (p : Band → Grid) (n : ℕ) (x : ℕ → ℤ) → standsOf f .Leaves k W H p n x → (r : ℕ) → r < H .length →
@@ -165,9 +171,9 @@ module _ (f : ℕ) (W H : Side) (l : ℕ) (P : Rows) where
   abbrev pub Live : ℕ → Type 0
   Live k = (k ≤ l) × (hasCells (sideAt k W) (sideAt k H) ≡ true)
 
-  -- every value of the way back fits, and no number that is halved is odd
+  -- every set fits
   abbrev pub Fits : Type 0
-  Fits = (k : ℕ) → Live k → LevelFits f W H P (suc l) k
+  Fits = (k : ℕ) → Live k → (n : ℕ) → n ≤ lastSet (sideAt k H) → SetFits f W H P (suc l) k n
 
   abbrev pub LeavesAt : ℕ → ℕ → (ℕ → ℤ) → Type 0
   LeavesAt k n m = M f .Leaves k (sideAt k W) (sideAt k H) (B k) n m
@@ -354,16 +360,17 @@ module _ (f : ℕ) (W H : Side) (l : ℕ) (P : Rows) where
       before = λ j h e. before-same j _ _ _ (finer f W k x y (q .1) j (omega arith)) (s .before j h (omega arith));
     }
 
-    work-made : Outcome Fits (Worked k n) (workedAt f W H (suc l) k n x)
+    work-made : Outcome (SetFits f W H P (suc l) k n) (Worked k n) (workedAt f W H (suc l) k n x)
     unfolding workedAt hasSet
     work-made = rw (live .1, le-leb n (lastSet (sideAt k H)) there)
-        (onto-outcome _ _ _ _ (behind (stretchAt f W k) x) _ (λ g. record { has = g k live .has; fit = g k live .fit })
+        (onto-outcome _ _ _ _ (behind (stretchAt f W k) x) _
+        (subst (λ a. SetFitsBy (filterOf f) a k (sideAt k W) (sideAt k H) (B k) n) (sym (back-ahead f)))
         worked-of (go (ℕ-discrete k l)))
       where
         some : 0 < sideAt k H .length
         some = cells-are (sideAt k W) (sideAt k H) (live .1) .1
 
-        go : Dec (k ≡ l) → Outcome (FitAllBy (filterOf f) k (sideAt k W) (sideAt k H) (B k))
+        go : Dec (k ≡ l) → Outcome (SetFitsBy (filterOf f) (backOf f .ahead) k (sideAt k W) (sideAt k H) (B k) n)
             (λ y. LeavesAt k n y × ((j : ℕ) → backOf f .stretch (sideAt k W) ≤ j → y j ≡ m j))
             (backOf f .work (eqb (suc k) (suc l)) k (sideAt k W) (sideAt k H) n m)
         go (yes e) = rw (eq-eqb (suc k) (suc l) (omega arith)) (laws f .work-last k (sideAt k W) (sideAt k H) (B k) n m some there (before-here k n 4 x live s)
@@ -643,8 +650,51 @@ module _ (f : ℕ) (W H : Side) (l : ℕ) (P : Rows) where
   abbrev pub HeldNext : ℕ → Spot → (ℕ → ℤ) → Type 0
   HeldNext d q = Held (q .level) (numberAt d (q .level) (q .set)) (q .band)
 
+  -- ---- what is due there
+  abbrev pub NextFits : ℕ → Spot → Type 0
+  NextFits d q = hasRow H (q .level) (numberAt d (q .level) (q .set)) ≡ true → SetsFit f W H (suc l) P (q .level) (numberAt d (q .level) (q .set))
+
+  -- it takes a row where the sets on the way do,
+  next-has : (d lev n b : ℕ) → hasRow H lev n ≡ true →
+      (let q = nextUp f W H (suc l) lev n b in hasRow H (q .level) (numberAt d (q .level) (q .set)) ≡ true)
+  unfolding nextUp
+  next-has d zero n b h = unfold hasRow in refl
+  next-has d (suc k) n b h = go (ltb (bandAt W H (suc l) k n b) 4) (next-has d k (waiting f H k n) 1 (unfold waiting in taking-has H k _))
+    where
+      to : Spot
+      to = nextUp f W H (suc l) k (waiting f H k n) 1
+
+      go : (t : Bool) → hasRow H (to .level) (numberAt d (to .level) (to .set)) ≡ true →
+          (let q = pick t (spot (suc k) n (bandAt W H (suc l) k n b)) to in hasRow H (q .level) (numberAt d (q .level) (q .set)) ≡ true)
+      go true ih = h
+      go false ih = ih
+
+  -- and needs what they need
+  abbrev NeedsAs : ℕ → ℕ → ℕ → Spot → Type 0
+  NeedsAs d lev n q = (j : ℕ) → lev ≤ j → needed f H (q .level) (numberAt d (q .level) (q .set)) (suc j) ≡ needed f H lev n (suc j)
+
+  next-needs : (d lev n b : ℕ) → lev ≤ suc l → Ready f W H (suc l) d (spot lev n b) → NeedsAs d lev n (nextUp f W H (suc l) lev n b)
+  unfolding nextUp bandAt nextBand look firstCode
+  next-needs d zero n b h r = λ j q. ap (λ i. needed f H 0 i (suc j)) (sym (unfold waitsAt in r .top))
+  next-needs d (suc k) n b h r = go (those p (bandsFrom b)) refl
+      (λ z. next-needs d k (waiting f H k n) 1 (omega arith) (ready-up f W H l d k n b (omega arith) r z))
+    where
+      p : Band → Bool
+      p = asked (eqb (suc k) (suc l)) (sideAt k W) (sideAt k H) n
+
+      to : Spot
+      to = nextUp f W H (suc l) k (waiting f H k n) 1
+
+      go : (xs : List Band) → those p (bandsFrom b) ≡ xs → (firstCode (those p (bandsFrom b)) ≡ 4 → NeedsAs d k (waiting f H k n) to) →
+          NeedsAs d (suc k) n (pick (ltb (firstCode xs) 4) (spot (suc k) n (firstCode xs)) to)
+      go [] e ih = λ j q.
+          ih (ap firstCode e) j (omega arith)
+          ∙ needed-on f H k (waiting f H k n) n (makes-set k n (r .there k refl) (r .asks k refl (ap firstCode e))) (suc j) (omega arith)
+      go (c ∷ cs) e ih = rw (lt-ltb (code c) 4 (code-lt c)) (λ j q. refl)
+
   pub settle-holds : (d lev n b : ℕ) (x : ℕ → ℤ) → lev ≤ suc l → Ready f W H (suc l) d (spot lev n b) → Held lev n b x →
-      Outcome Fits (HeldNext d (nextUp f W H (suc l) lev n b)) (settled f W H (suc l) (nextUp f W H (suc l) lev n b .level) lev n x)
+      Outcome (NextFits d (nextUp f W H (suc l) lev n b)) (HeldNext d (nextUp f W H (suc l) lev n b))
+      (settled f W H (suc l) (nextUp f W H (suc l) lev n b .level) lev n x)
   unfolding nextUp settled bandAt nextBand look firstCode
   settle-holds d zero n b x h r s = goes x (subst (λ i. Held 0 i 4 x) (top-is r) (record {
     below = s .below;
@@ -666,19 +716,29 @@ module _ (f : ℕ) (W H : Side) (l : ℕ) (P : Rows) where
       live : Live k
       live = (omega arith, r .cells k refl)
 
+      -- the set is one of those that are due
+      due : those p (bandsFrom b) ≡ [] → NextFits d to → SetFits f W H P (suc l) k n
+      due e fit =
+          let z : firstCode (those p (bandsFrom b)) ≡ 4 = ap firstCode e in
+          subst (λ i. SetFits f W H P (suc l) k i)
+          (next-needs d k (waiting f H k n) 1 (omega arith) (ready-up f W H l d k n b (omega arith) r z) k (omega arith)
+          ∙ makes-set k n (r .there k refl) (r .asks k refl z))
+          (fit (next-has d k (waiting f H k n) 1 (unfold waiting in taking-has H k _)) .fit k (next-le k (waiting f H k n) 1) (omega arith) (live .1))
+
       on : those p (bandsFrom b) ≡ [] →
-          ((y : ℕ → ℤ) → Held k (waiting f H k n) 1 y → Outcome Fits (HeldNext d to) (settled f W H (suc l) (to .level) k (waiting f H k n) y)) →
-          Outcome Fits (HeldNext d to)
+          ((y : ℕ → ℤ) → Held k (waiting f H k n) 1 y → Outcome (NextFits d to) (HeldNext d to) (settled f W H (suc l) (to .level) k (waiting f H k n) y)) →
+          Outcome (NextFits d to) (HeldNext d to)
           (pick (ltb (to .level) (suc k)) (bind (workedAt f W H (suc l) k n x) (settled f W H (suc l) (to .level) k (waiting f H k n))) (passed x))
       on e ih = rw (lt-ltb (to .level) (suc k) (omega (arith, next-le k (waiting f H k n) 1)))
           (bind-outcome (workedAt f W H (suc l) k n x) _
-          (with-tested _ _ _ _ (λ y q. up-holds k n y (omega arith) (r .there k refl) (r .asks k refl (ap firstCode e)) q)
+          (by-outcome _ _ _ _ _ (due e) (λ y q. up-holds k n y (omega arith) (r .there k refl) (r .asks k refl (ap firstCode e)) q)
           (work-made k n x live (r .there k refl) (holds-all k n b x e s))) ih)
 
       go : (xs : List Band) → those p (bandsFrom b) ≡ xs →
           (firstCode (those p (bandsFrom b)) ≡ 4 →
-          (y : ℕ → ℤ) → Held k (waiting f H k n) 1 y → Outcome Fits (HeldNext d to) (settled f W H (suc l) (to .level) k (waiting f H k n) y)) →
-          Outcome Fits (HeldNext d (pick (ltb (firstCode xs) 4) (spot (suc k) n (firstCode xs)) to))
+          (y : ℕ → ℤ) → Held k (waiting f H k n) 1 y → Outcome (NextFits d to) (HeldNext d to) (settled f W H (suc l) (to .level) k (waiting f H k n) y)) →
+          Outcome (NextFits d (pick (ltb (firstCode xs) 4) (spot (suc k) n (firstCode xs)) to))
+          (HeldNext d (pick (ltb (firstCode xs) 4) (spot (suc k) n (firstCode xs)) to))
           (pick (ltb (pick (ltb (firstCode xs) 4) (spot (suc k) n (firstCode xs)) to .level) (suc k))
           (bind (workedAt f W H (suc l) k n x)
           (settled f W H (suc l) (pick (ltb (firstCode xs) 4) (spot (suc k) n (firstCode xs)) to .level) k (waiting f H k n))) (passed x))
@@ -691,7 +751,7 @@ module _ (f : ℕ) (W H : Side) (l : ℕ) (P : Rows) where
 
   pub fed-holds : (d k n : ℕ) (c : Band) (v x : ℕ → ℤ) → k ≤ l → Ready f W H (suc l) d (spot (suc k) n (code c)) →
       ((i : ℕ) → i < count (across c) (sideAt k W) → v i ≡ B k c (setRow (sideAt k H) c n) i) → Held (suc k) n (code c) x →
-      Outcome Fits (FedHeld k n (code c)) (fedOn f W H (suc l) (suc k) n (code c) v x)
+      Outcome (FeedDue f W H (suc l) P k n (code c)) (FedHeld k n (code c)) (fedOn f W H (suc l) (suc k) n (code c) v x)
   unfolding fedOn finished beyond
   fed-holds d k n c v x h r row s = go (lastOfSet W H (suc l) k n (code c)) refl
     where
@@ -702,9 +762,10 @@ module _ (f : ℕ) (W H : Side) (l : ℕ) (P : Rows) where
       y = fedAt f W H k n (code c) v x
 
       go : (t : Bool) → lastOfSet W H (suc l) k n (code c) ≡ t →
-          Outcome Fits (λ z. HeldAt (pick t (past f W H (suc l) k n) (spot (suc k) n (code c + 1))) z × (t ≡ true → Worked k n z))
+          Outcome (FeedDue f W H (suc l) P k n (code c))
+          (λ z. HeldAt (pick t (past f W H (suc l) k n) (spot (suc k) n (code c + 1))) z × (t ≡ true → Worked k n z))
           (pick t (workedAt f W H (suc l) k n y) (passed y))
-      go true e = with-tested _ _ _ _ (λ z q. (past-holds k n z h (r .there k refl) q, λ _. q))
+      go true e = by-outcome _ _ _ _ _ (λ due. due .own e) (λ z q. (past-holds k n z h (r .there k refl) q, λ _. q))
           (work-made k n y live (r .there k refl)
           (holds-all k n (code c + 1) y (last-none f W H l k n (code c) e) (feed-holds k n c v x live row s)))
       go false e = goes y (feed-holds k n c v x live row s, λ z. absurd (not-both (sym z)))
@@ -731,6 +792,19 @@ module _ (f : ℕ) (W H : Side) (l : ℕ) (P : Rows) where
     pub height-fit : (c : ℕ) → c < W .length → valueFits (filterOf f) 0 (partAt f W H P (suc l) 0 d c) ≡ true
     unfolding sideAt
     height-fit = set-fits f 0 W H (B 0) (needed f H 0 d 1) (mem f W 0 x) (top-leaves .0) d due top-set
+
+  -- ---- where every set fits, so does what is due
+  pub sets-fitting : Fits → (k n : ℕ) → SetsFit f W H (suc l) P k n
+  sets-fitting all k n = record {
+    fit = λ j h i cells. all j (omega arith, cells) (needed f H k n (suc j))
+        (omega (arith, needed-next f H k n j h, set-there (ahead f) (sideAt j H) (rowOf H j (needed f H k n j))));
+  }
+
+  pub due-fitting : Fits → (d k n c : ℕ) → k ≤ l → Ready f W H (suc l) d (spot (suc k) n c) → FeedDue f W H (suc l) P k n c
+  due-fitting all d k n c h r = record {
+    own = λ _. all k (h, r .cells k refl) n (r .there k refl);
+    above = λ _. sets-fitting all (suc k) n;
+  }
 
   -- ---- the sets that were worked out
   pub sets-tested : (d b : ℕ) (x : ℕ → ℤ) → Held 0 d b x → (k : ℕ) → Live k → (m : ℕ) → m ≤ needed f H 0 d (suc k) →

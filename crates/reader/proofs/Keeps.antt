@@ -26,11 +26,11 @@ use Rattle.reader.specs.State.{columns, next, nextRow, nextLength, settl
 use Rattle.reader.specs.Questions.{countsFit, storeFits, setUpQuestion, feedQuestion, drawQuestion}
 use Rattle.lifting.specs.Halves.{fronted}
 use Rattle.reader.specs.Calls.{fresh, setUpReply, setUpStore, feedReply, feedStore, storeAfter, drawReply, drawStore, drawArea, heightRow}
-use Rattle.reader.specs.Holds.{Ready, Holds, AllFit, IsWanted, SetUpHolds, FeedKeeps, DrawKeeps}
+use Rattle.reader.specs.Holds.{Ready, Holds, FeedDue, WantedFits, DrawnFits, IsWanted, SetUpHolds, FeedKeeps, DrawKeeps}
 use Rattle.reader.proofs.Looks.{named-code}
 use Rattle.reader.proofs.StepsLeft.{stepsLeft}
 use Rattle.level.proofs.SetMade.{Outcome}
-use Rattle.reader.proofs.Holds.{Fits, Held, HeldAt, first-holds, enter-holds}
+use Rattle.reader.proofs.Holds.{NextFits, Held, HeldAt, first-holds, enter-holds}
 use Rattle.reader.proofs.ReadyLaws.{ready-back, ready-beyond, ready-enter}
 use Rattle.reader.proofs.CallViews.{Limits, here, at, nextOf, nameOf, Due, view, FeedView, feed-away, feed-onward, feed-view}
 use Rattle.reader.proofs.CallViews.{DrawView, draw-away, draw-idle, draw-onward}
@@ -162,10 +162,6 @@ holds-at f W H l d q P x ready h =
     (λ due. subst (Ready f W H (suc l) d) (sym (ready-back f W H (suc l) d q due (ready due) .0)) (ready due))
     (λ due. subst (λ r. HeldAt f W H l P r x) (sym (ready-back f W H (suc l) d q due (ready due) .0)) (h due))
 
--- all levels fit
-all-fits : (f : ℕ) (W H : Side) (l d : ℕ) (p : Place) (e : Bool) (P : Rows) → AllFit P (here f W H l d p e) → Fits f W H l P
-all-fits f W H l d p e P all k i = all k (record { inside = omega (arith, i .0); cells = i .1 })
-
 module _ (f : ℕ) (W H : Side) (l d : ℕ) (p : Place) (e : Bool) (n : ℕ) (x : ℕ → ℤ) where
   limits-of : Inside f W H l d p → storeFits f W (suc l) n ≡ true → Limits f W H l n
   limits-of i r = record { across = i .across; down = i .down; wide = i .wide; high = i .high; known = i .known; deep = i .deep; room = r }
@@ -206,6 +202,11 @@ module _ (f : ℕ) (W H : Side) (l d : ℕ) (p : Place) (e : Bool) (n : ℕ) (x 
     unfolding next nextRow nextLength
     wanted-row P o h = let z : suc (o .k) - 1 ≡ o .k = omega arith in rw (o .row .is, named-code (o .c), z) at h
 
+    -- and what is due is its
+    wanted-due : (P : Rows) (o : Onward) → WantedFits P (s f W H l d p e) → FeedDue f W H (suc l) P (o .k) (o .u) (code (o .c))
+    unfolding next
+    wanted-due P o due = let z : suc (o .k) - 1 ≡ o .k = omega arith in rw (o .row .is, z) at due
+
     -- the store and the reader that a passed feed leaves
     store-is : (y : ℕ → ℤ) → feeds (s f W H l d p e) v x ≡ passed y → feedStore (s f W H l d p e) 0 v x ≡ y
     unfolding feedStore storeAfter memory
@@ -226,8 +227,8 @@ module _ (f : ℕ) (W H : Side) (l d : ℕ) (p : Place) (e : Bool) (n : ℕ) (x 
     feed-at = record { passed = on; ended = stopped }
       where
         outcome-of : (o : Onward) (P : Rows) → IsWanted P (s f W H l d p e) v → Holds P (s f W H l d p e) x → (u : Tried) → feeds (s f W H l d p e) v x ≡ u →
-            Outcome (Fits f W H l P) (HeldAt f W H l P (to o)) u
-        outcome-of o P row h u z = subst (Outcome (Fits f W H l P) _) z
+            Outcome (FeedDue f W H (suc l) P (o .k) (o .u) (code (o .c))) (HeldAt f W H l P (to o)) u
+        outcome-of o P row h u z = subst (Outcome (FeedDue f W H (suc l) P (o .k) (o .u) (code (o .c))) _) z
             (feeds-outcome f W H l d p (o .level-le) (h .ready (o .row .due)) P x (held f W H l d p e P x (o .row .due) h) e (o .k) (o .u) (o .c) (o .row) v
             (wanted-row P o row))
 
@@ -249,16 +250,16 @@ module _ (f : ℕ) (W H : Side) (l d : ℕ) (p : Place) (e : Bool) (n : ℕ) (x 
             tried o (k .0) t (k .1) P row h (feeds (s f W H l d p e) v x) refl
 
         not-fit : (o : Onward) → q ≡ 14 → (P : Rows) → IsWanted P (s f W H l d p e) v → Holds P (s f W H l d p e) x →
-            AllFit P (s f W H l d p e) → (u : Tried) → feeds (s f W H l d p e) v x ≡ u → ⊥
-        not-fit o z P row h all failed g = outcome-failed (outcome-of o P row h failed g) (all-fits f W H l d p e P all)
-        not-fit o z P row h all (passed y) g = omega (arith, no-mix (passed y) 14 z (o .asks) g, ask-passed y)
+            WantedFits P (s f W H l d p e) → (u : Tried) → feeds (s f W H l d p e) v x ≡ u → ⊥
+        not-fit o z P row h due failed g = outcome-failed (outcome-of o P row h failed g) (wanted-due P o due)
+        not-fit o z P row h due (passed y) g = omega (arith, no-mix (passed y) 14 z (o .asks) g, ask-passed y)
 
         stopped : (t : Reader) → feedReply (s f W H l d p e) q ≡ impossible t → (P : Rows) → IsWanted P (s f W H l d p e) v →
-            Holds P (s f W H l d p e) x → AllFit P (s f W H l d p e) → ⊥
-        stopped t r P row h all =
+            Holds P (s f W H l d p e) x → WantedFits P (s f W H l d p e) → ⊥
+        stopped t r P row h due =
             let z = feed-fourteen (s f W H l d p e) q t r in
             let o = onward (h .ready) (λ _ y. subst T (sym (ap (λ j. eqb j 14) z) ∙ y) tt) (λ y. omega (arith, z)) (λ y. omega (arith, z)) in
-            not-fit o z P row h all (feeds (s f W H l d p e) v x) refl
+            not-fit o z P row h due (feeds (s f W H l d p e) v x) refl
 
   -- ---- draw
   module _ (a : Area) where
@@ -313,8 +314,8 @@ module _ (f : ℕ) (W H : Side) (l d : ℕ) (p : Place) (e : Bool) (n : ℕ) (x 
     draw-at = record { passed = on; ended = stopped }
       where
         outcome-of : (o : Drawing) (P : Rows) → Holds P (s f W H l d p e) x → (u : Tried) →
-            settles (s f W H l d p e) x ≡ u → Outcome (Fits f W H l P) (Held f W H l P 0 d 4) u
-        outcome-of o P h u z = subst (Outcome (Fits f W H l P) _) z
+            settles (s f W H l d p e) x ≡ u → Outcome (NextFits f W H l P d (spot 0 0 4)) (Held f W H l P 0 d 4) u
+        outcome-of o P h u z = subst (Outcome (NextFits f W H l P d (spot 0 0 4)) _) z
             (settles-outcome f W H l d p (o .level-le) (h .ready (o .due)) P x (held f W H l d p e P x (o .due) h) e (spot 0 0 4) (o .at-height))
 
         tried : (o : Drawing) → o₀ ≡ 0 → (t : Reader) → t ≡ drawnReader (s f W H l d p e) → (P : Rows) →
@@ -340,18 +341,18 @@ module _ (f : ℕ) (W H : Side) (l d : ℕ) (p : Place) (e : Bool) (n : ℕ) (x 
             (λ z. omega (arith, k .0)) (λ z. omega (arith, k .0)) (λ z _. k .2 z) in
             tried o (k .0) t (k .1) P h (settles (s f W H l d p e) x) refl
 
-        not-fit : (o : Drawing) → o₀ ≡ 14 → (P : Rows) → Holds P (s f W H l d p e) x → AllFit P (s f W H l d p e) →
+        not-fit : (o : Drawing) → o₀ ≡ 14 → (P : Rows) → Holds P (s f W H l d p e) x → DrawnFits P (s f W H l d p e) →
             (u : Tried) → settles (s f W H l d p e) x ≡ u → ⊥
-        not-fit o z P h all failed k = outcome-failed (outcome-of o P h failed k) (all-fits f W H l d p e P all)
-        not-fit o z P h all (passed y) k = omega (arith, same-test (passed y) 14 z (o .asks) k, ask-passed y)
+        not-fit o z P h due failed k = outcome-failed (outcome-of o P h failed k) (λ _. due)
+        not-fit o z P h due (passed y) k = omega (arith, same-test (passed y) 14 z (o .asks) k, ask-passed y)
 
         stopped : (t : Reader) → drawReply (s f W H l d p e) o₀ ≡ impossible t → (P : Rows) → Holds P (s f W H l d p e) x →
-            AllFit P (s f W H l d p e) → ⊥
-        stopped t r P h all =
+            DrawnFits P (s f W H l d p e) → ⊥
+        stopped t r P h due =
             let z = drawn-fourteen (s f W H l d p e) o₀ t r in
             let o = drawing (h .ready) (λ _ y. subst T (sym (ap (λ j. eqb j 14) z) ∙ y) tt)
             (λ y. omega (arith, z)) (λ y. omega (arith, z)) (λ _ y. omega (arith, z, y)) in
-            not-fit o z P h all (settles (s f W H l d p e) x) refl
+            not-fit o z P h due (settles (s f W H l d p e) x) refl
 
 -- ---- every state: one of no levels passes no question 1
 abbrev at-levels : ℕ → Reader → Reader

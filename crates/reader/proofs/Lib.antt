@@ -19,6 +19,7 @@ pub mod CallViews
 pub mod Outcomes
 pub mod Keeps
 pub mod Reached
+pub mod SetSteps
 pub mod Rebuilt
 pub mod Demand3
 pub mod Played

@@ -19,14 +19,14 @@ use Rattle.areas.proofs.HeightLaws.{height-kept}
 use Rattle.nine_seven.specs.Filters.{filterOf}
 use Rattle.reader.specs.Asked.{keptAt}
 use Rattle.reader.specs.Rebuilt.{Rows, bandsBy, rebuilt, bandsAt, partAt}
-use Rattle.level.specs.Tried.{Tried, failed, passed, bind}
+use Rattle.level.specs.Tried.{failed, passed, bind}
 use Rattle.reader.specs.Machine.{Spot, Place, settled, fedOn, beyond}
-use Rattle.reader.specs.Holds.{Ready}
+use Rattle.reader.specs.Holds.{Ready, FeedDue}
 use Rattle.reader.specs.State.{next, settles, feeds}
 use Rattle.reader.specs.Calls.{heightRow}
 use Rattle.level.proofs.SetMade.{Outcome, stops, goes, bind-outcome}
 use Rattle.reader.proofs.CellLaws.{asked-has}
-use Rattle.reader.proofs.Holds.{Fits, Held, HeldAt, HeldNext, FedHeld, settle-holds, fed-holds, height-made, height-fit}
+use Rattle.reader.proofs.Holds.{by-outcome, Held, HeldAt, HeldNext, NextFits, FedHeld, settle-holds, fed-holds, height-made, height-fit}
 use Rattle.reader.proofs.CallViews.{here, at, nextOf, nameOf, Due}
 
 pub outcome-failed : {N : Type 0} {P : (ℕ → ℤ) → Type 0} → Outcome N P failed → N → ⊥
@@ -63,34 +63,33 @@ band-named f W H l P k HH r h = refl
 
 module _ (f : ℕ) (W H : Side) (l d : ℕ) (p : Place) (level-le : p .level ≤ suc l) (ready : Ready f W H (suc l) d (at f W H l d p)) (P : Rows) (x : ℕ → ℤ)
     (held : HeldAt f W H l P (at f W H l d p) x) where
-  pub settles-outcome : (e : Bool) (q : Spot) → nextOf f W H l d p ≡ q → Outcome (Fits f W H l P) (HeldNext f W H l P d q) (settles (here f W H l d p e) x)
+  pub settles-outcome : (e : Bool) (q : Spot) → nextOf f W H l d p ≡ q →
+      Outcome (NextFits f W H l P d q) (HeldNext f W H l P d q) (settles (here f W H l d p e) x)
   unfolding settles next
   settles-outcome e q z =
-      subst (λ u. Outcome (Fits f W H l P) (HeldNext f W H l P d u) (settled f W H (suc l) (nextOf f W H l d p .level) (p .level) (at f W H l d p .set) x)) z
+      subst (λ u. Outcome (NextFits f W H l P d u) (HeldNext f W H l P d u)
+      (settled f W H (suc l) (nextOf f W H l d p .level) (p .level) (at f W H l d p .set) x)) z
       (settle-holds f W H l P d (p .level) (at f W H l d p .set) (p .band) x level-le ready held)
 
   pub feeds-worked : (e : Bool) (k n : ℕ) (c : Band) → Due f W H l d p k n c → (v : ℕ → ℤ) →
       ((i : ℕ) → i < bandColumns W (suc k) c → v i ≡ P (nameOf f W H l k n c) i) →
-      Outcome (Fits f W H l P) (FedHeld f W H l P k n (code c)) (feeds (here f W H l d p e) v x)
+      Outcome (FeedDue f W H (suc l) P k n (code c)) (FedHeld f W H l P k n (code c)) (feeds (here f W H l d p e) v x)
   unfolding feeds settles next bandColumns
   feeds-worked e k n c o v row =
       let z : suc k - 1 ≡ k = omega arith in
       let ask = asked-has (eqb (suc k) (suc l)) (sideAt k W) (sideAt k H) n c (o .asks) in
       let row′ : (i : ℕ) → i < count (across c) (sideAt k W) → v i ≡ P (nameOf f W H l k n c) i = rw z at row in
       let named = band-named f W H l P k c (setRow (sideAt k H) c n) (ask .0) in
-      let set = subst (λ q. Outcome (Fits f W H l P) (HeldNext f W H l P d q) (settled f W H (suc l) (q .level) (p .level) (at f W H l d p .set) x)) (o .is)
+      let set = subst (λ q. Outcome (NextFits f W H l P d q) (HeldNext f W H l P d q)
+      (settled f W H (suc l) (q .level) (p .level) (at f W H l d p .set) x)) (o .is)
       (settle-holds f W H l P d (p .level) (at f W H l d p .set) (p .band) x level-le ready held) in
-      subst (λ q. Outcome (Fits f W H l P) (FedHeld f W H l P k n (code c))
+      subst (λ q. Outcome (FeedDue f W H (suc l) P k n (code c)) (FedHeld f W H l P k n (code c))
       (bind (settled f W H (suc l) (q .level) (p .level) (at f W H l d p .set) x) (fedOn f W H (suc l) (q .level) (q .set) (q .band) v))) (sym (o .is))
-      (bind-outcome (settled f W H (suc l) (suc k) (p .level) (at f W H l d p .set) x) _ set
+      (bind-outcome (settled f W H (suc l) (suc k) (p .level) (at f W H l d p .set) x) _
+      (by-outcome _ _ _ _ _ (λ due. due .above) (λ y h. h) set)
       (λ y h. fed-holds f W H l P d k n c v y (omega (arith, o .below)) (o .ready) (λ i b. row′ i b ∙ ap (λ (w : ℕ → ℤ). w i) (sym named)) h))
 
   pub feeds-outcome : (e : Bool) (k n : ℕ) (c : Band) → Due f W H l d p k n c → (v : ℕ → ℤ) →
       ((i : ℕ) → i < bandColumns W (suc k) c → v i ≡ P (nameOf f W H l k n c) i) →
-      Outcome (Fits f W H l P) (HeldAt f W H l P (beyond f W H (suc l) k n (code c))) (feeds (here f W H l d p e) v x)
-  feeds-outcome e k n c o v row = first _ (feeds-worked e k n c o v row)
-    where
-      first : (t : Tried) → Outcome (Fits f W H l P) (FedHeld f W H l P k n (code c)) t
-          → Outcome (Fits f W H l P) (HeldAt f W H l P (beyond f W H (suc l) k n (code c))) t
-      first _ (stops z) = stops z
-      first _ (goes y q) = goes y (q .0)
+      Outcome (FeedDue f W H (suc l) P k n (code c)) (HeldAt f W H l P (beyond f W H (suc l) k n (code c))) (feeds (here f W H l d p e) v x)
+  feeds-outcome e k n c o v row = by-outcome _ _ _ _ _ (λ due. due) (λ y q. q .0) (feeds-worked e k n c o v row)

@@ -39,7 +39,7 @@ use Rattle.reader.specs.Rebuilt.{Rows, bandsAt, partAt}
 use Rattle.reader.specs.Store.{hasCells}
 use Rattle.level.specs.Tried.{Tried, failed, passed, fits, memory}
 use Rattle.reader.specs.Machine.{Spot, spot, Place, placeOf, lastOfSet, spotFed, past, beyond, dive, begins, enter}
-use Rattle.reader.specs.Holds.{Ready}
+use Rattle.reader.specs.Holds.{Ready, FeedDue}
 use Rattle.reader.specs.State as state
 use Rattle.reader.specs.State.{settles, feeds, drawDue, fedReader, drawnReader, endedReader}
 use Rattle.reader.specs.Questions.{runFits, feedQuestion, drawQuestion}
@@ -52,7 +52,7 @@ use Rattle.reader.proofs.CellLaws.{asked-has, has-row}
 use Rattle.reader.proofs.ReadyLaws.{ready-beyond, ready-enter, ready-back, enter-end}
 use Rattle.reader.proofs.StepsLeft.{stepsLeft, left-done}
 use Rattle.level.proofs.SetMade.{Outcome}
-use Rattle.reader.proofs.Holds.{Live, Fits, Held, HeldAt, enter-holds, height-fit, sets-tested}
+use Rattle.reader.proofs.Holds.{Live, Fits, NextFits, Held, HeldAt, enter-holds, height-fit, sets-fitting, due-fitting, sets-tested}
 use Rattle.reader.proofs.Outcomes.{outcome-failed, outcome-passed, settles-outcome, feeds-outcome, row-out}
 use Rattle.reader.proofs.CallViews.{Limits, here, at, nextOf, nameOf, Due, View, view, FeedView, feed-away, feed-onward, feed-view}
 use Rattle.reader.proofs.CallViews.{DrawView, draw-away, draw-idle, draw-onward}
@@ -200,7 +200,7 @@ module _ (f : ℕ) (W H : Side) (l : ℕ) where
 
           -- what the feed comes to, for a grid that has the row too
           outcome-is : (P : Rows) → All (HasFedRow W P) (fs ++ (fr ∷ [])) →
-              Outcome (Fits f W H l P) (HeldAt f W H l P (beyond f W H (suc l) k u (code c))) (feeds s (a .numbers) x)
+              Outcome (FeedDue f W H (suc l) P k u (code c)) (HeldAt f W H l P (beyond f W H (suc l) k u (code c))) (feeds s (a .numbers) x)
           outcome-is P has =
               feeds-outcome f W H l d p (kept .level-le) (kept .ready (o .due)) P x (kept .rows P (all-left fs (fr ∷ []) has) .holds live (o .due)) e k u c o
               (a .numbers) (all-last fs fr has)
@@ -227,7 +227,8 @@ module _ (f : ℕ) (W H : Side) (l : ℕ) where
                   shows = old .shows;
                   has = old .has;
                   holds = λ z _. absurd (true≢false z);
-                  refuses = λ _. outcome-failed (subst (Outcome (Fits f W H l P) _) z₁ (outcome-is P has));
+                  refuses = λ _ all. outcome-failed (subst (Outcome (FeedDue f W H (suc l) P k u (code c)) _) z₁ (outcome-is P has))
+                      (due-fitting f W H l P all d k u (code c) inside (o .ready));
                 };
           }
 
@@ -271,7 +272,7 @@ module _ (f : ℕ) (W H : Side) (l : ℕ) where
                   shows = old .shows;
                   has = old .has;
                   holds = λ _ _. subst (λ r. HeldAt f W H l P r y) (sym same-spot)
-                      (outcome-passed y (subst (Outcome (Fits f W H l P) _) z₁ (outcome-is P has)));
+                      (outcome-passed y (subst (Outcome (FeedDue f W H (suc l) P k u (code c)) _) z₁ (outcome-is P has)));
                   refuses = λ z. absurd (false≢true z);
                 };
           }
@@ -318,7 +319,7 @@ module _ (f : ℕ) (W H : Side) (l : ℕ) where
 
         module _ (live : e ≡ false) (due : d < H .length) (at-height : nextOf f W H l d p ≡ spot 0 0 4)
             (head : t ≡ step.draw d ∷ stepsLeft f W H l (suc d) (enter f W H (suc l) (suc d))) (to-draw : drawDue s ≡ true) where
-          settles-is : (P : Rows) → All (HasFedRow W P) fs → Outcome (Fits f W H l P) (Held f W H l P 0 d 4) (settles s x)
+          settles-is : (P : Rows) → All (HasFedRow W P) fs → Outcome (NextFits f W H l P d (spot 0 0 4)) (Held f W H l P 0 d 4) (settles s x)
           settles-is P has = settles-outcome f W H l d p (kept .level-le) (kept .ready due) P x (kept .rows P has .holds live due) e (spot 0 0 4) at-height
 
           -- 14
@@ -343,7 +344,8 @@ module _ (f : ℕ) (W H : Side) (l : ℕ) where
                   shows = old .shows;
                   has = old .has;
                   holds = λ z _. absurd (true≢false z);
-                  refuses = λ _. outcome-failed (subst (Outcome (Fits f W H l P) _) z₁ (settles-is P has));
+                  refuses = λ _ all. outcome-failed (subst (Outcome (NextFits f W H l P d (spot 0 0 4)) _) z₁ (settles-is P has))
+                      (λ _. sets-fitting f W H l P all 0 d);
                 };
           }
 
@@ -402,7 +404,7 @@ module _ (f : ℕ) (W H : Side) (l : ℕ) where
               names = λ _. names-same ∙ kept .names live;
               rows = λ P has.
                   let old = kept .rows P has in
-                  let h : Held f W H l P 0 d 4 y = outcome-passed y (subst (Outcome (Fits f W H l P) _) made (settles-is P has)) in
+                  let h : Held f W H l P 0 d 4 y = outcome-passed y (subst (Outcome (NextFits f W H l P d (spot 0 0 4)) _) made (settles-is P has)) in
                   record {
                     fit = λ r c b q. elim (ℕ-discrete r d) [
                       | yes z ↦ rw z (height-fit f W H l P d y due wide h c q)

@@ -25,9 +25,8 @@ use Rattle.wavelet.specs.Steps as step
 use Rattle.calls.specs.Lists.{Reply, gives, refused, Area, All, gathered, ever}
 use Rattle.calls.specs.Lists as lists
 use Rattle.reader.specs.declared.Reader.{Reader}
-use Rattle.reader.specs.Sets.{ahead, hasRow, needed}
-use Rattle.reader.specs.Rebuilt.{Rows, SetFits}
-use Rattle.reader.specs.Store.{hasCells}
+use Rattle.reader.specs.Sets.{ahead, hasRow}
+use Rattle.reader.specs.Rebuilt.{Rows, SetFits, SetsFit}
 use Rattle.reader.specs.Answers.{Want, row, drawNow, done, ended, Handed, aRow}
 use Rattle.reader.specs.Answers as answer
 use Rattle.reader.specs.Questions.{runFits, countsFit, wantQuestion, feedQuestion, drawQuestion}
@@ -270,10 +269,6 @@ goesOnSet H x [] = false
 goesOnSet H x (step.feed y ∷ t) = both (eqb (y .level) (x .level)) (eqb (setNumber H y) (setNumber H x))
 goesOnSet H x (step.draw r ∷ t) = false
 
--- The sets of the levels above level k that number n of level k (level 0: a height row) needs fit, up to the last of each.
-pub record SetsFit (f : ℕ) (W H : Side) (L : ℕ) (P : Rows) (k n : ℕ) : Type 0 where
-  pub fit : (j : ℕ) → k ≤ j → j < L → hasCells (sideAt j W) (sideAt j H) ≡ true → SetFits f W H P L j (needed f H k n (suc j))
-
 -- A feed of row x, with the steps t after it. Its own set fits if x is the last of it; and the sets of the levels above, which made what its set takes, if it
 -- takes a row.
 pub record FeedFits (f : ℕ) (W H : Side) (L : ℕ) (P : Rows) (x : RowName) (t : List Step) : Type 0 where
@@ -308,6 +303,13 @@ pub record Demand3 (f : ℕ) (W H : Side) (L : ℕ) (es : List Event) (then : Ca
       FeedFits f W H L P x t
   pub draw-works : (a b : Area) → then (draw a) ≡ drew a (gives (heights (W .length))) b →
       (P : Rows) → All (HasFedRow W P) (fedRows (steps (ahead f) W H L) es) → SetsFit f W H L P 0 (length (drawnRows es))
+  -- and in a call that gives 14 something due then does not fit: 14 comes no earlier. Document 02, Q-8: a row "counts as made, and is asked 14, with the set
+  -- that brings the last value that it or any row above it needs."
+  pub feed-ends : (a : Area) (x : RowName) (t : List Step) → left (steps (ahead f) W H L) es ≡ step.feed x ∷ t → then (feed a) ≡ fed a (refused 14) →
+      (P : Rows) → All (HasFedRow W P) (fedRows (steps (ahead f) W H L) es ++ (record { row = x; run = a } ∷ [])) →
+      FeedFits f W H L P x t → ⊥
+  pub draw-ends : (a b : Area) → then (draw a) ≡ drew a (refused 14) b →
+      (P : Rows) → All (HasFedRow W P) (fedRows (steps (ahead f) W H L) es) → SetsFit f W H L P 0 (length (drawnRows es)) → ⊥
   -- it says Done exactly when the heights drawn are all of such a map
   pub finished : then want ≡ wanted (gives done) ↔ AllDrawn f W H L es
 

@@ -2,7 +2,7 @@
 -- The numbers are 32-bit words; for the rows of a map they are its transform's whole numbers, and the way back from them is the map.
 use mathlib.Core.Path.{_≡_}
 use mathlib.Core.Bool.{true}
-use Prim.Native.Nat.{ℕ, suc, _≤_, _<_}
+use Prim.Native.Nat.{ℕ, suc, _-_, _≤_, _<_}
 use lib.IntN.{ℤ}
 use lib.Dec.{eqb}
 use Rattle.lifting.specs.Grid.{Side}
@@ -13,11 +13,11 @@ use Rattle.reader.specs.declared.Reader.{Reader}
 use Rattle.reader.specs.Answers.{Reply, gives, impossible, Handed, aRow}
 use Rattle.reader.specs.Sets.{ahead, hasRow, needed, makes, waitsAt}
 use Rattle.reader.specs.Asked.{keptAt, named}
-use Rattle.reader.specs.Machine.{Spot, bandAt}
+use Rattle.reader.specs.Machine.{Spot, bandAt, lastOfSet}
 use Rattle.level.specs.Stands.{SetHasBy, BackMeaning}
 use Rattle.nine_seven.specs.Filters.{filterOf}
 use Rattle.filters.specs.Back.{standsOf}
-use Rattle.reader.specs.Rebuilt.{Rows, bandsAt, partAt, LevelFits}
+use Rattle.reader.specs.Rebuilt.{Rows, bandsAt, partAt, SetFits, SetsFit}
 use Rattle.reader.specs.Store.{stretchAt, from, hasCells}
 use Rattle.reader.specs.State.{columns, rows, spotNow, next, nextRow, nextLength}
 
@@ -60,25 +60,36 @@ module _ (P : Rows) (s : Reader) where
         M (s .filter) .Got (sideAt k (columns s)) (sideAt k (rows s)) (bandsAt (s .filter) (columns s) (rows s) P (s .levels) k) (spotNow s .set)
         (from (stretchAt (s .filter) (columns s) k) x) c
 
-  -- every level's part fits, and no number that is halved is odd
-  abbrev pub AllFit : Type 0
-  AllFit = (k : ℕ) → Level k → LevelFits (s .filter) (columns s) (rows s) P (s .levels) k
-
   -- v is the row of P that is wanted
   abbrev pub IsWanted : (ℕ → ℤ) → Type 0
   IsWanted v = (i : ℕ) → i < nextLength s → v i ≡ P (rowName (next s .level) (named (next s .band)) (nextRow s)) i
+
+-- ---- what is due in a call fits
+-- The row with band code c of set n of level k + 1 fed: its set, if the row completes it; and the sets of the levels above, which made what the set takes, if
+-- it takes a row.
+pub record FeedDue (f : ℕ) (W H : Side) (L : ℕ) (P : Rows) (k n c : ℕ) : Type 0 where
+  pub own : lastOfSet W H L k n c ≡ true → SetFits f W H P L k n
+  pub above : hasRow H (suc k) n ≡ true → SetsFit f W H L P (suc k) n
+
+-- the row that a reader wants fed
+abbrev pub WantedFits : Rows → Reader → Type 0
+WantedFits P s = FeedDue (s .filter) (columns s) (rows s) (s .levels) P (next s .level - 1) (next s .set) (next s .band)
+
+-- its next height row drawn: the sets that the row needs
+abbrev pub DrawnFits : Rows → Reader → Type 0
+DrawnFits P s = SetsFit (s .filter) (columns s) (rows s) (s .levels) P 0 (s .drawn)
 
 -- ---- what each call keeps, by its answer, for all rows P: x and x′ are the store before and after
 pub record SetUpHolds (r : Reply Reader) (x : ℕ → ℤ) : Type 0 where
   pub ready : (s : Reader) → r ≡ gives s → (P : Rows) → Holds P s x
 
--- a feed of P's row goes on to hold P; it gives 14 only if the way back from P has a value that does not fit, or halves an odd number
+-- a feed of P's row goes on to hold P; it gives 14 only if something due then does not fit
 pub record FeedKeeps (s : Reader) (v x : ℕ → ℤ) (r : Reply Reader) (x′ : ℕ → ℤ) : Type 0 where
   pub passed : (t : Reader) → r ≡ gives t → (P : Rows) → IsWanted P s v → Holds P s x → Holds P t x′
-  pub ended : (t : Reader) → r ≡ impossible t → (P : Rows) → IsWanted P s v → Holds P s x → AllFit P s → ⊥
+  pub ended : (t : Reader) → r ≡ impossible t → (P : Rows) → IsWanted P s v → Holds P s x → WantedFits P s → ⊥
 
 -- a draw gives the row of the way back from P in the area z′, and goes on to hold P; 14 likewise
 pub record DrawKeeps (s : Reader) (x : ℕ → ℤ) (r : Reply Handed) (x′ z′ : ℕ → ℤ) : Type 0 where
   pub passed : (n : ℕ) (t : Reader) → r ≡ gives (aRow n t) → (P : Rows) → Holds P s x →
       Holds P t x′ × ((c : ℕ) → c < s .width → z′ c ≡ partAt (s .filter) (columns s) (rows s) P (s .levels) 0 (s .drawn) c)
-  pub ended : (t : Reader) → r ≡ impossible t → (P : Rows) → Holds P s x → AllFit P s → ⊥
+  pub ended : (t : Reader) → r ≡ impossible t → (P : Rows) → Holds P s x → DrawnFits P s → ⊥

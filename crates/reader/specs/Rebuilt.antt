@@ -1,18 +1,17 @@
 -- The way back from band rows by their names, P: the bands of each level, and the low-low parts that the filter f makes of them, over 32-bit words.
 use mathlib.Core.Path.{_≡_}
 use mathlib.Core.Bool.{true}
-use Prim.Native.Nat.{ℕ, zero, suc, _-_, _<_}
+use Prim.Native.Nat.{ℕ, zero, suc, _-_, _≤_, _<_}
 use lib.IntN.{ℤ}
 use Rattle.numbers.specs.Word.{wrap32}
 use Rattle.lifting.specs.Grid.{Side}
 use Rattle.nine_seven.specs.Filters.{filterOf}
-use Rattle.wavelet.specs.Bands.{Grid, Band, LL, HL, LH, HH, levelBack, levelHas}
-use Rattle.wavelet.specs.Maps.{valueFits}
+use Rattle.wavelet.specs.Bands.{Grid, Band, LL, HL, LH, HH, levelBack}
 use Rattle.wavelet.specs.Order.{RowName, rowName}
 use Rattle.wavelet.specs.Levels.{sideAt}
-use Rattle.wavelet.specs.Steps.{setOf}
-use Rattle.level.specs.Stands.{SetHasBy}
-use Rattle.reader.specs.Sets.{ahead}
+use Rattle.level.specs.Stands.{SetFitsBy}
+use Rattle.reader.specs.Sets.{ahead, needed}
+use Rattle.reader.specs.Store.{hasCells}
 
 -- band rows by their names
 abbrev pub Rows : Type 0
@@ -38,13 +37,10 @@ module _ (f : ℕ) (W H : Side) (P : Rows) where
   abbrev pub partAt : ℕ → ℕ → Grid
   partAt L k = levelBack (filterOf f) wrap32 (sideAt k W) (sideAt k H) (bandsAt L k)
 
-  -- the rows that set n of level k + 1 makes fit, and no number that it halves is odd
-  pub record SetFits (L k n : ℕ) : Type 0 where
-    pub fit : (r c : ℕ) → r < sideAt k H .length → setOf (ahead f) (sideAt k H) r ≡ n → c < sideAt k W .length →
-        valueFits (filterOf f) k (partAt L k r c) ≡ true
-    pub has : SetHasBy (filterOf f) (ahead f) (sideAt k W) (sideAt k H) (bandsAt L k) n
+  -- set n of level k + 1 fits: the rows that it makes fit, and no number that it halves is odd
+  abbrev pub SetFits : ℕ → ℕ → ℕ → Type 0
+  SetFits L k n = SetFitsBy (filterOf f) (ahead f) k (sideAt k W) (sideAt k H) (bandsAt L k) n
 
-  -- so of all of level k + 1
-  pub record LevelFits (L k : ℕ) : Type 0 where
-    pub fit : (r c : ℕ) → r < sideAt k H .length → c < sideAt k W .length → valueFits (filterOf f) k (partAt L k r c) ≡ true
-    pub has : levelHas (filterOf f) (sideAt k W) (sideAt k H) (bandsAt L k) ≡ true
+-- The sets of the levels above level k that number n of level k (level 0: a height row) needs fit, up to the last of each.
+pub record SetsFit (f : ℕ) (W H : Side) (L : ℕ) (P : Rows) (k n : ℕ) : Type 0 where
+  pub fit : (j : ℕ) → k ≤ j → j < L → hasCells (sideAt j W) (sideAt j H) ≡ true → SetFits f W H P L j (needed f H k n (suc j))

@@ -1,12 +1,15 @@
--- `nine_seven_rebuilding::work::make_first` meets its contract: the test of row 0, or nothing. Assumes nothing.
+-- `nine_seven_rebuilding::work::make_first` meets its contract: the test of its own even row, or nothing. Assumes nothing.
 use native.Mathlib.Omega.{arith}
 use Rattle.lifting.specs.Grid.{side}
 use Rattle.nine_seven_rebuilding.proofs.WorkLaws.{first-none, first-made}
 use Rattle.nine_seven_rebuilding.proofs.work.make_first.Statement.{statement}
 use Rattle.nine_seven_rebuilding.proofs.work.make_first.Tie as tie
 
-add-if1 : tie.Need-add-if1
-add-if1 c = omega arith
+own-even-requires : tie.Need-own-even-requires
+own-even-requires c κs = tt
+
+mul-admit-row : tie.Need-mul-admit-row
+mul-admit-row c = omega arith
 
 admit-row-requires : tie.Need-admit-row-requires
 admit-row-requires c κs = omega arith
@@ -14,11 +17,15 @@ admit-row-requires c κs = omega arith
 returns : tie.Need-returns
 returns c =
     let some = c .before in
-    let a = some .before .args in
-    first-made (a .k) (a .w) (side (a .y) (a .h)) (a .n) _ _ (some .if1 .taken) (c .admit-row .ensures)
+    let call = some .before in
+    let a = call .before .args in
+    first-made (a .k) (a .w) (side (a .y) (a .h)) (a .n) _ _ _ (call .own-even .ensures) (some .if1 .taken) (c .admit-row .ensures)
 
 returns-2 : tie.Need-returns-2
-returns-2 c = let a = c .before .args in first-none (a .k) (a .w) (side (a .y) (a .h)) (a .n) _ (c .if1 .left)
+returns-2 c =
+    let call = c .before in
+    let a = call .before .args in
+    first-none (a .k) (a .w) (side (a .y) (a .h)) (a .n) _ _ (call .own-even .ensures) (c .if1 .left)
 
 pub make-first-spec : {M : Type 1} → statement M
-make-first-spec = tie.close (tie.spec add-if1 admit-row-requires returns returns-2)
+make-first-spec = tie.close (tie.spec own-even-requires mul-admit-row admit-row-requires returns returns-2)
