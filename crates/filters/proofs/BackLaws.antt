@@ -5,7 +5,6 @@ use Prim.Native.Nat.{ℕ, zero, suc, _+_, _*_, _≤_, _<_, min}
 use native.Mathlib.Omega.{arith}
 use lib.IntN.{ℤ, pos}
 use lib.Dec.{leb, eqb}
-use borrow.Author.Tests.{le-leb, lt-ltb}
 use Rattle.numbers.specs.Signal.{pick, windowed, spliced}
 use Rattle.lifting.specs.Line.{lo}
 use Rattle.lifting.specs.Grid.{Side, count, joined}
@@ -17,18 +16,16 @@ use Rattle.wavelet.specs.Limits.{maxLevels, range}
 use Rattle.wavelet.specs.Bands.{Band, across, down}
 use Rattle.wavelet.specs.Order.{lastSet}
 use Rattle.level.specs.Tried.{failed, outcome}
-use Rattle.level.specs.Slots.{local, rowOfSet, halfPlace}
-use Rattle.level.specs.Slots as slots
+use Rattle.level.specs.Stretch.{local, rowOfSet, halfPlace, rowPlace, bandFed, rowIn}
 use Rattle.level.specs.Work.{admitted, setWorked}
 use Rattle.level.specs.Rebuilding.{widest, tallest, workAnswer, Kept, workable, workLeft}
-use Rattle.nine_seven_rebuilding.specs.Slots as slots97
 use Rattle.nine_seven_rebuilding.specs.Work as work97
 use Rattle.nine_seven_rebuilding.specs.Rebuilding as rebuilding97
 use Rattle.level.proofs.WorkedPast.{Keeps}
 use Rattle.level.proofs.WorkedPast as past
 use Rattle.nine_seven_rebuilding.proofs.WorkedPast as past97
-use Rattle.level.proofs.SlotLaws as laws
-use Rattle.nine_seven_rebuilding.proofs.SlotLaws as laws97
+use Rattle.level.proofs.RowsIn.{row-end}
+use Rattle.level.proofs.RebuildingLaws.{workable-is}
 use Rattle.level.proofs.ReaderLaws.{ReaderLawsBy}
 use Rattle.level.proofs.FiveThreeBackLaws.{five-three-back-laws}
 use Rattle.nine_seven_rebuilding.proofs.NineSevenBackLaws.{nine-seven-back-laws}
@@ -48,20 +45,24 @@ back-stretch (suc f) W = refl
 -- a band row fed, and a row made, in the slots that it keeps; a row's slot lies within the stretch
 pub back-feed : (f : ℕ) (W : Side) (s : ℕ) (b : Band) (n : ℕ) (v x : ℕ → ℤ) → backOf f .feed W s b n v x
     ≡ spliced (rowPlaceOf f (W .length) (rowOfSet (down b) n) + halfPlace (across b) W) (count (across b) W) v x
-unfolding backOf rowPlaceOf slots.bandFed slots97.bandFed
+unfolding backOf filterOf rowPlaceOf bandFed
 back-feed zero W s b n v x = refl
 back-feed (suc f) W s b n v x = refl
 
 pub back-made : (f : ℕ) (W : Side) (s r : ℕ) (x : ℕ → ℤ) → backOf f .made W s r x
     ≡ joined W (halvesOf W (windowed (rowPlaceOf f (W .length) (local s r)) (W .length) x))
-unfolding backOf rowPlaceOf slots.rowIn slots97.rowIn
+unfolding backOf filterOf rowPlaceOf rowIn
 back-made zero W s r x = refl
 back-made (suc f) W s r x = refl
 
+rows-some : (f : ℕ) → 0 < filterOf f .rows
+unfolding filterOf
+rows-some zero = omega arith
+rows-some (suc f) = omega arith
+
 pub place-room : (f w q : ℕ) → rowPlaceOf f w q + w ≤ filterOf f .rows * w
-unfolding rowPlaceOf filterOf
-place-room zero w q = omega (arith, laws.place-is w q, laws.slot-room w q)
-place-room (suc f) w q = omega (arith, laws97.place-is w q, laws97.slot-room w q)
+unfolding rowPlaceOf
+place-room f w q = row-end (rows-some f) w q
 
 -- a set worked out leaves what is past the stretch
 pub back-worked : (f k : ℕ) (W H : Side) (last : Bool) (n : ℕ) (x : ℕ → ℤ) → Keeps (filterOf f .rows * W .length) x (backOf f .work last k W H n x)
@@ -106,12 +107,12 @@ second-ranged (suc f) k z d p = p
 abbrev Placed : ℕ → ℕ → ℕ → ℕ → Type 0
 Placed f w r a = (a ≡ pick (leb w widest) (rowPlaceOf f w r) 0) × (a + w ≤ filterOf f .rows * w)
 
-pub first-placed : (f w r a : ℕ) → f ≡ 0 → (a ≡ pick (leb w widest) (slots.rowPlace w r) 0) × (a + w ≤ 4 * w) → Placed f w r a
+pub first-placed : (f w r a : ℕ) → f ≡ 0 → (a ≡ pick (leb w widest) (rowPlace 4 w r) 0) × (a + w ≤ 4 * w) → Placed f w r a
 unfolding rowPlaceOf filterOf
 first-placed zero w r a e p = p
 first-placed (suc f) w r a e p = absurd (omega arith)
 
-pub second-placed : (f w r a : ℕ) → (f ≡ 0 → ⊥) → (a ≡ pick (leb w widest) (slots97.rowPlace w r) 0) × (a + w ≤ 8 * w) → Placed f w r a
+pub second-placed : (f w r a : ℕ) → (f ≡ 0 → ⊥) → (a ≡ pick (leb w widest) (rowPlace 8 w r) 0) × (a + w ≤ 8 * w) → Placed f w r a
 unfolding rowPlaceOf filterOf
 second-placed zero w r a d p = absurd (d refl)
 second-placed (suc f) w r a d p = p
@@ -119,16 +120,7 @@ second-placed (suc f) w r a d p = p
 -- ---- a set that can be worked out
 pub workable-of : (f : ℕ) (last : Bool) (k : ℕ) (W H : Side) (n m : ℕ) → k ≤ filterOf f .levels → W .length ≤ widest → H .length ≤ tallest → 0 < H .length →
     n ≤ lastSet H → filterOf f .rows * W .length + filterOf f .rows * pick last 0 (count lo W) ≤ m → workableOf f last k W H n m ≡ true
-unfolding workableOf
-workable-of f last k W H n m a b c d e g =
-    rw (
-      le-leb k (filterOf f .levels) a,
-      le-leb (W .length) widest b,
-      le-leb (H .length) tallest c,
-      lt-ltb 0 (H .length) d,
-      le-leb n (lastSet H) e,
-      le-leb (filterOf f .rows * W .length + filterOf f .rows * pick last 0 (count lo W)) m g,
-    ) refl
+workable-of f last k W H n m a b c d e g = workable-is (filterOf f .levels) (filterOf f .rows) last k W H n m (a, b, c, d, e, g)
 
 -- ---- a set worked out
 module _ (last : Bool) (k : ℕ) (W H : Side) (n m r : ℕ) (x y : ℕ → ℤ) where
@@ -144,7 +136,7 @@ module _ (last : Bool) (k : ℕ) (W H : Side) (n m r : ℕ) (x y : ℕ → ℤ) 
       × ((outcome (eqb r 0) y ≡ pick (workable last k W H n m) (setWorked admitted last k W H n x) failed)
       × (Kept (4 * W .length) x y
       × (y ≡ workLeft W (workable last k W H n m) (setWorked admitted last k W H n x) x))) → Worked f
-  unfolding workableOf workLeftOf backOf filterOf workable workLeft maxLevels
+  unfolding backOf filterOf maxLevels
   first-worked zero e p = p
   first-worked (suc f) e p = absurd (omega arith)
 
@@ -153,6 +145,6 @@ module _ (last : Bool) (k : ℕ) (W H : Side) (n m r : ℕ) (x y : ℕ → ℤ) 
       × ((outcome (eqb r 0) y ≡ pick (rebuilding97.workable last k W H n m) (work97.setWorked last k W H n x) failed)
       × (Kept (8 * W .length) x y
       × (y ≡ rebuilding97.workLeft W (rebuilding97.workable last k W H n m) (work97.setWorked last k W H n x) x))) → Worked f
-  unfolding workableOf workLeftOf backOf filterOf rebuilding97.workable rebuilding97.workLeft rebuilding97.maxLevels
+  unfolding backOf filterOf rebuilding97.maxLevels
   second-worked zero d p = absurd (d refl)
   second-worked (suc f) d p = p

@@ -3,6 +3,7 @@ use mathlib.Core.Path.{_≡_, refl, ap, _∙_}
 use mathlib.Core.List.{List}
 use Prim.Native.Nat.{ℕ, zero, suc, _+_, _-_, min, _≤_}
 use native.Mathlib.Decide.{decLt}
+use native.Mathlib.Nat.{pow-zero, mul-one}
 use native.Mathlib.Omega.{arith}
 use lib.IntN.{ℤ, pos, natAbs, _-ℤ_}
 use lib.ListN.{length}
@@ -15,14 +16,12 @@ use Rattle.numbers.specs.Signal.{at, both}
 use Rattle.numbers.proofs.Integers.{each, lin, dif, dif-pos, dif-natAbs, dif-leZ}
 use Rattle.numbers.proofs.Parts.{length-mid, at-mid, window-in}
 use Rattle.lifting.specs.Filter.{Filter}
-use Rattle.lifting.specs.FiveThree.{fiveThreeFilter}
-use Rattle.wavelet.specs.Limits.{maxSample, maxLevels, range}
+use Rattle.wavelet.specs.Limits.{maxSample, range}
 use Rattle.numbers.specs.Tests.{every}
 use Rattle.wavelet.specs.Maps.{valueFits}
-use Rattle.level.specs.Rebuilding.{lowestOf}
+use Rattle.level.specs.Rebuilding.{lowestBy}
 use Rattle.areas.specs.Areas.{between}
-use Rattle.level.specs.Slots.{rowPlace}
-use Rattle.level.specs.Work.{rowFits}
+use Rattle.level.specs.Stretch.{rowPlace, rowFits}
 use Rattle.numbers.proofs.TestLaws.{every-same}
 
 -- one test that is two
@@ -59,14 +58,14 @@ abs-between R =
     )
 
 -- ---- the bounds of 14
-pub low-zero : (k : ℕ) → k ≡ 0 → pos 0 ≡ lowestOf k
-unfolding lowestOf
-low-zero k e = rw e
+pub low-zero : (F : Filter) (k : ℕ) → k ≡ 0 → pos 0 ≡ lowestBy F k
+unfolding lowestBy
+low-zero F k e = rw e
 
-pub low-more : (k : ℕ) → (k ≡ 0 → ⊥) → pos 0 -ℤ pos (range fiveThreeFilter k) ≡ lowestOf k
-unfolding lowestOf
-low-more zero h = absurd (h refl)
-low-more (suc k) h = refl
+pub low-more : (F : Filter) (k : ℕ) → (k ≡ 0 → ⊥) → pos 0 -ℤ pos (range F k) ≡ lowestBy F k
+unfolding lowestBy
+low-more F zero h = absurd (h refl)
+low-more F (suc k) h = refl
 
 pub neg-fits : (z : ℤ) (n : ℕ) → z ≡ pos n → SFits w32 z → SFits w32 (pos 0 -ℤ z)
 neg-fits z n e h = let g : SFits w32 (pos n) = rw (← e) h in rw (e, least-is n) (go n g)
@@ -74,22 +73,27 @@ neg-fits z n e h = let g : SFits w32 (pos n) = rw (← e) h in rw (e, least-is n
     go : (n : ℕ) → SFits w32 (pos n) → SFits w32 (dif 0 n)
     go n = simp lin (omega arith)
 
-pub value-between : (k : ℕ) (v : ℤ) → valueFits fiveThreeFilter k v ≡ between (lowestOf k) (pos (range fiveThreeFilter k)) v
+range-zero : (F : Filter) → range F 0 ≡ maxSample
+unfolding range
+range-zero F = simp (pow-zero, mul-one)
+
+pub value-between : (F : Filter) (k : ℕ) (v : ℤ) → valueFits F k v ≡ between (lowestBy F k) (pos (range F k)) v
 unfolding valueFits
-value-between zero v = unfold lowestOf between range maxSample in refl
-value-between (suc k) v = abs-between (range fiveThreeFilter (suc k)) v ∙ unfold lowestOf in refl
+value-between F zero v = let e = range-zero F in rw e (unfold lowestBy between in refl)
+value-between F (suc k) v = abs-between (range F (suc k)) v ∙ unfold lowestBy in refl
 
 pub same-range : (F : Filter) (m k : ℕ) → k ≤ m → pos (range F (min k m)) ≡ pos (range F k)
 same-range F m k h = let e : min k m ≡ k = omega arith in ap (λ (i : ℕ). pos (range F i)) e
 
 -- ---- a row's test, made on the part that is lent
-pub admit-is : (k w r a m : ℕ) (l : List ℤ) (low high : ℤ) → a ≡ rowPlace w r → m ≡ w → a + m ≤ length l → low ≡ lowestOf k
-    → high ≡ pos (range fiveThreeFilter k) →
-    every (length (midOf a m l)) (λ i. between low high (at (midOf a m l) i)) ≡ rowFits k w r (at l)
-unfolding rowFits
-admit-is k w r a m l low high ea em room el eh =
-    ap (λ (n : ℕ). every n (λ i. between low high (at (midOf a m l) i))) (length-mid a m l room ∙ em)
-    ∙ every-same w _ _ (λ i h.
-    let place : a + i ≡ rowPlace w r + i = omega arith in
-    let seen : at (midOf a m l) i ≡ at l (rowPlace w r + i) = ap (λ (f : ℕ → ℤ). f i) (at-mid a m l) ∙ window-in a m (at l) i (omega arith) ∙ ap (at l) place in
-    cc (seen, el, eh, value-between k (at l (rowPlace w r + i))))
+module _ (m : ℕ) (F : Filter) where
+  pub admit-is : (k w r a n : ℕ) (l : List ℤ) (low high : ℤ) → a ≡ rowPlace m w r → n ≡ w → a + n ≤ length l → low ≡ lowestBy F k → high ≡ pos (range F k) →
+      every (length (midOf a n l)) (λ i. between low high (at (midOf a n l) i)) ≡ rowFits m F k w r (at l)
+  unfolding rowFits
+  admit-is k w r a n l low high ea en room el eh =
+      ap (λ (n′ : ℕ). every n′ (λ i. between low high (at (midOf a n l) i))) (length-mid a n l room ∙ en)
+      ∙ every-same w _ _ (λ i h.
+      let place : a + i ≡ rowPlace m w r + i = omega arith in
+      let seen : at (midOf a n l) i ≡ at l (rowPlace m w r + i) =
+      ap (λ (f : ℕ → ℤ). f i) (at-mid a n l) ∙ window-in a n (at l) i (omega arith) ∙ ap (at l) place in
+      cc (seen, el, eh, value-between F k (at l (rowPlace m w r + i))))

@@ -14,7 +14,7 @@ use mir.Val.{SFits, toZ}
 use borrow.Author.Needs.{sfits-of}
 use borrow.Author.Tests.{le-leb, lt-leb, leb-true}
 use borrow.Rule.Slice.PartMut.{midOf}
-use Rattle.numbers.specs.Signal.{at, pick, stored}
+use Rattle.numbers.specs.Signal.{at, stored}
 use Rattle.numbers.proofs.Words.{read-back}
 use Rattle.numbers.proofs.Sweep.{both}
 use Rattle.numbers.proofs.Stores.{at-stored}
@@ -106,12 +106,3 @@ heights-in k w c n l f e =
     let a = both (leb (4 * w) k) _ e in
     let b = both (leb (c + n) w) _ (a .1) in
     record { room = leb-true _ _ (a .0); columns = leb-true _ _ (b .0); heights = leb-true _ _ (b .1) }
-
--- and what it leaves where it is so
-heights-fit : (k w c n l f : ℕ) → 4 * w ≤ k → c + n ≤ w → f + n ≤ l → heightsFit k w c n l f ≡ true
-unfolding heightsFit
-heights-fit k w c n l f p q r = simp (le-leb (4 * w) k p, le-leb (c + n) w q, le-leb (f + n) l r)
-
-pub put-done : (W : Side) (k q c n l f : ℕ) (h x y : ℕ → ℤ) → 4 * W .length ≤ k → c + n ≤ W .length → f + n ≤ l
-    → y ≡ pick (heightsFit k (W .length) c n l f) (heightsPut W q c n h x) x → y ≡ heightsPut W q c n h x
-put-done W k q c n l f h x y a b d e = rw (heights-fit k (W .length) c n l f a b d) at e

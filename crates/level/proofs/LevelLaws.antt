@@ -16,13 +16,13 @@ use Rattle.lifting.specs.Grid.{Side, count, place, parted}
 use Rattle.lifting.specs.GridHalves.{partedInto}
 use Rattle.lifting.proofs.GridLaws.{halves-low, halves-high}
 use Rattle.lifting.specs.FiveThree.{fiveThreeFilter}
-use Rattle.wavelet.specs.Bands.{Grid, Band, LL, HL, LH, HH, across, columnsLifted}
+use Rattle.wavelet.specs.Bands.{Grid, Band, across, columnsLifted}
 use Rattle.wavelet.specs.Order.{lastSet, unmade}
 use Rattle.wavelet.proofs.OrderLaws.{unmade-is}
-use Rattle.wavelet.proofs.SideLaws.{count-lo, count-sum}
+use Rattle.wavelet.proofs.SideLaws.{count-lo}
 use Rattle.level.specs.Level.{Memory, LevelKind, completes, Meaning, Ending, SetStands, ahead}
 use Rattle.level.specs.FiveThreeLevel.{cellOf, rowPut, rowPredicted, doubled, rowDoubled, setWith, lowAlone, highAlone, setMade, setClosed}
-use Rattle.level.specs.FiveThreeLevel.{bandPlace, fiveThree, RowStands, Kept, LastLeft}
+use Rattle.level.specs.FiveThreeLevel.{fiveThree, RowStands, Kept, LastLeft}
 use Rattle.level.proofs.Places.{slot-room, place-room}
 use Rattle.level.proofs.SetRows.{ap₃, high-mid, high-end, low-mid, low-end, low-only, high-only, high-first}
 use Rattle.level.proofs.Slots.{spot, cell-spot, spot-even, spot-odd, spot-in, spot-apart, slots-apart′}

@@ -11,13 +11,16 @@ pub mod FillLaws
 -- The way back.
 pub mod LoneTests
 pub mod OpenedSets
+pub mod RowsIn
 pub mod SlotLaws
+pub mod FourRows
+pub mod BandsIn
+pub mod TriedRows
 pub mod AdmitLaws
 pub mod WorkLaws
 pub mod KeptLaws
 pub mod PairMade
 pub mod WorkedPast
-pub mod RowsIn
 pub mod SetMade
 pub mod RebuildingLaws
 pub mod LevelHas

@@ -1,22 +1,18 @@
 -- The laws of the sets of a level: which rows need a set that no row before them needs, at the look-ahead a. Assumes nothing.
 use mathlib.Core.Bool.{true, false}
 use mathlib.Core.Path.{_≡_}
-use Prim.Native.Nat.{ℕ, suc, _+_, _≤_, _<_}
+use Prim.Native.Nat.{ℕ, suc, _+_, _≤_}
 use native.Mathlib.Omega.{arith}
-use borrow.Author.Tests.{lt-ltb, ltb-true, ltb-false}
+use borrow.Author.Tests.{lt-ltb, ltb-false}
 use Rattle.lifting.specs.Grid.{Side}
 use Rattle.wavelet.specs.Steps.{setOf, setsBefore}
 use Rattle.wavelet.proofs.StepLaws.{set-rises}
 use Rattle.level.specs.Sets.{opens}
 
--- the first row needs a set, and each row after it some more or none
+-- the first row needs a set, and a row that needs no more is of the set of the one before
 pub opens-first : (a : ℕ) (H : Side) → opens a H 0 ≡ true
 unfolding opens setsBefore
 opens-first a H = lt-ltb 0 (setOf a H 0 + 1) (omega arith)
-
-pub opens-next : (a : ℕ) (H : Side) (r : ℕ) → opens a H (suc r) ≡ true → setOf a H r < setOf a H (suc r)
-unfolding opens setsBefore
-opens-next a H r e = let q : setOf a H r + 1 < setOf a H (suc r) + 1 = ltb-true _ _ e in omega arith
 
 pub same-set : (a : ℕ) (H : Side) (r : ℕ) → opens a H (suc r) ≡ false → setOf a H (suc r) ≡ setOf a H r
 unfolding opens setsBefore

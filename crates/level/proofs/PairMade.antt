@@ -11,7 +11,7 @@ use Rattle.numbers.specs.Tests.{every}
 use Rattle.numbers.specs.Word.{wrap32}
 use Rattle.numbers.proofs.TestLaws.{every-same}
 use Rattle.numbers.proofs.Sweep as sweep
-use Rattle.lifting.specs.Line.{lo, hi, unupdated, unpredicted}
+use Rattle.lifting.specs.Line.{unupdated, unpredicted}
 use Rattle.lifting.specs.Grid.{Side, count}
 use Rattle.lifting.specs.Rows.{rowChanged}
 use Rattle.lifting.specs.Ranges.{within}
@@ -24,10 +24,11 @@ use Rattle.wavelet.specs.Maps.{valueFits}
 use Rattle.areas.specs.Areas.{between}
 use Rattle.wavelet.specs.Order.{firstSet}
 use Rattle.level.specs.Tried.{Tried, failed, passed, outcome, bind}
-use Rattle.level.specs.Slots.{rowPlace, rowBy}
+use Rattle.level.specs.Stretch as stretch
 use Rattle.level.specs.Work.{lowNear, highNear, evenRow, oddRow, rowFits, admitted, evenMade, oddMade, pairMade, lastMade, rowsMade}
 use Rattle.level.specs.Rebuilding.{Kept, lowestOf}
 use Rattle.level.proofs.SlotLaws.{slot-room}
+use Rattle.level.proofs.FourRows.{four}
 use Rattle.level.proofs.AdmitLaws.{value-between}
 use Rattle.level.proofs.WorkLaws.{bind-failed, bind-passed, even-made, odd-made}
 use Rattle.level.proofs.KeptLaws.{kept-both, kept-is, even-kept, odd-kept}
@@ -45,7 +46,7 @@ every-both zero p q = refl
 every-both (suc n) p q = ap (λ (t : Bool). both t (both (p n) (q n))) (every-both n p q) ∙ both-four (every n p) (every n q) (p n) (q n)
 
 within-fits : (k : ℕ) (low high v : ℤ) → low ≡ lowestOf k → high ≡ pos (range fiveThreeFilter k) → within low high v ≡ valueFits fiveThreeFilter k v
-within-fits k low high v el eh = rw (el, eh) (unfold within between in sym (value-between k v))
+within-fits k low high v el eh = rw (el, eh) (unfold within between in sym (value-between fiveThreeFilter k v))
 
 -- ---- set n with both rows
 module _ (w : ℕ) (H : Side) (n : ℕ) (some : 0 < n) (there : 2 * n < H .start % 2 + H .length) where
@@ -58,13 +59,13 @@ module _ (w : ℕ) (H : Side) (n : ℕ) (some : 0 < n) (there : 2 * n < H .start
   low-own = omega arith
 
   even-is : (x : ℕ → ℤ) → rowChanged (unupdated wrap32) w w (2 * n % 4) ((2 * n - 1) % 4) ((2 * highNear H n + 1) % 4) x ≡ evenRow w H n x
-  unfolding evenRow rowBy
+  unfolding evenRow stretch.rowBy
   even-is x =
       let e : 2 * highNear H (n - 1) + 1 ≡ 2 * n - 1 = omega (arith, high-own) in
       rw (lt-ltb 1 (H .length) (omega arith), e) refl
 
   odd-is : (x : ℕ → ℤ) → rowChanged (unpredicted wrap32) w w ((2 * n - 1) % 4) (2 * lowNear H (n - 1) % 4) (2 * n % 4) x ≡ oddRow w H (n - 1) x
-  unfolding oddRow rowBy
+  unfolding oddRow stretch.rowBy
   odd-is x = let e : 2 * (n - 1) + 1 ≡ 2 * n - 1 = omega arith in rw (e, low-own) refl
 
   pub pair-is : (x : ℕ → ℤ) → pairUnlifted w w ((2 * n - 1) % 4) (2 * n % 4) ((2 * highNear H n + 1) % 4) (2 * lowNear H (n - 1) % 4) x
@@ -81,10 +82,10 @@ module _ (w : ℕ) (H : Side) (n : ℕ) (some : 0 < n) (there : 2 * n < H .start
   -- the rows of the pair fit in the level's stretch
   pub pair-room : (N r b : ℕ) → 4 * w ≤ N → pairFits N w w ((2 * n - 1) % 4) (2 * n % 4) (r % 4) (b % 4) ≡ true
   pair-room N r b room =
-      let p = slot-room w (2 * n - 1) in
-      let q = slot-room w (2 * n) in
-      let s = slot-room w r in
-      let t = slot-room w b in
+      let p = slot-room four w (2 * n - 1) in
+      let q = slot-room four w (2 * n) in
+      let s = slot-room four w r in
+      let t = slot-room four w b in
       pair-fits N w w _ _ _ _ slots-apart (omega arith) (omega arith) (omega arith) (omega arith) (omega arith)
 
   -- the odd row leaves the even one
@@ -93,7 +94,7 @@ module _ (w : ℕ) (H : Side) (n : ℕ) (some : 0 < n) (there : 2 * n < H .start
 
   pub pair-fitting : (k : ℕ) (low high : ℤ) (x z : ℕ → ℤ) → low ≡ lowestOf k → high ≡ pos (range fiveThreeFilter k) → z ≡ oddRow w H (n - 1) (evenRow w H n x)
       → pairWithin low high w w ((2 * n - 1) % 4) (2 * n % 4) z ≡ both (rowFits k w (2 * n) (evenRow w H n x)) (rowFits k w (2 * n - 1) z)
-  unfolding pairWithin rowFits rowPlace
+  unfolding pairWithin stretch.rowFits stretch.rowPlace
   pair-fitting k low high x z el eh ez =
       let y = evenRow w H n x in
       let E : (ℕ → ℤ) → ℕ → Bool = λ u i. valueFits fiveThreeFilter k (u (2 * n % 4 * w + i)) in

@@ -25,7 +25,7 @@ use Rattle.lifting.specs.Pairs.{first, pairFits, pairLifted, pairCopied}
 use Rattle.wavelet.specs.Order.{lastSet}
 use Rattle.level.specs.FiveThreeLevel.{slot, before, rowPredicted, rowUpdated, doubled, rowDoubled, rowCopied, rowLifted}
 use Rattle.level.specs.FiveThreeLevel.{setWith, setMade, lowAlone, highAlone, setClosed}
-use Rattle.level.specs.Making.{levelFits, nextFits, delivered, setColumns}
+use Rattle.level.specs.Making.{levelFits, nextFits, setColumns}
 use Rattle.level.proofs.Places.{slot-index, slot-same, row-room, before-first, before-is}
 use Rattle.level.proofs.Slots.{slots-apart′}
 
@@ -176,10 +176,6 @@ module _ (n w : ℕ) where
   unfolding levelFits
   level-in e = leb-true _ _ e
 
-  pub level-fits : 4 * w ≤ n → levelFits n w ≡ true
-  unfolding levelFits
-  level-fits h = le-leb _ _ h
-
   -- by division
   pub quarter : leb w (n / 4) ≡ leb (4 * w) n
   quarter =
@@ -188,23 +184,11 @@ module _ (n w : ℕ) where
         | no d ↦ simp (le-leb w (n / 4) (omega arith), le-leb (4 * w) n (omega arith))
       ]
 
-  -- a call that passes
-  pub made-done : (x s k : ℕ) (y z : ℕ → ℤ) → 4 * w ≤ n → z ≡ pick (levelFits n w) (setMade (side x w) s k y) y → z ≡ setMade (side x w) s k y
-  made-done x s k y z h e = rw (level-fits h) at e
-
-  pub closed-done : (x s m : ℕ) (y z : ℕ → ℤ) → 4 * w ≤ n → z ≡ pick (levelFits n w) (setClosed (side x w) (side s m) y) y
-      → z ≡ setClosed (side x w) (side s m) y
-  closed-done x s m y z h e = rw (level-fits h) at e
-
 -- the next level's stretch
 module _ (n : ℕ) (W : Side) where
   pub next-in : nextFits n W ≡ true → 4 * W .length + 4 * count lo W ≤ n
   unfolding nextFits
   next-in e = leb-true _ _ e
-
-  pub next-fits : 4 * W .length + 4 * count lo W ≤ n → nextFits n W ≡ true
-  unfolding nextFits
-  next-fits h = le-leb _ _ h
 
   pub next-quarter : (v : ℕ) → W .length ≤ n / 4 → v ≡ count lo W → leb v ((n - 4 * W .length) / 4) ≡ nextFits n W
   unfolding nextFits
@@ -217,6 +201,3 @@ module _ (n : ℕ) (W : Side) where
   pub next-none : n / 4 < W .length → false ≡ nextFits n W
   unfolding nextFits
   next-none h = sym (lt-leb (4 * W .length + 4 * count lo W) n (omega arith))
-
-  pub delivered-done : (k q : ℕ) (x y : ℕ → ℤ) → 4 * W .length + 4 * count lo W ≤ n → y ≡ pick (nextFits n W) (delivered W k q x) x → y ≡ delivered W k q x
-  delivered-done k q x y h e = rw (next-fits h) at e

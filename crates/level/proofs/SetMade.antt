@@ -8,16 +8,16 @@ use native.Mathlib.Decide.{ℕ-discrete, decLt}
 use native.Mathlib.Omega.{arith}
 use lib.IntN.{ℤ}
 use lib.Signed.{shrZ}
-use lib.Dec.{T, ltb, leb, eqb}
+use lib.Dec.{ltb, leb, eqb}
 use borrow.Author.Tests.{lt-ltb, le-ltb, le-leb, lt-leb, eq-eqb, ne-eqb}
 use Rattle.numbers.specs.Signal.{pick}
-use Rattle.numbers.specs.Tests.{every}
 use Rattle.numbers.specs.Word.{wrap32}
 use Rattle.numbers.proofs.TestLaws.{every-each, each-every}
 use Rattle.lifting.specs.Line.{Half, lo, hi, unupdated, unpredicted}
 use Rattle.lifting.specs.Grid.{Side, place, count, parted, lineHalvesBack, lineBack, loneHigh, isEven, hasLine}
+use Rattle.lifting.specs.GridHalves.{unliftedInPlace}
 use Rattle.lifting.specs.Passes.{near}
-use Rattle.lifting.proofs.GridLaws.{place-in, in-place, by-place, joined-place, even-near, odd-near, even-one, odd-one}
+use Rattle.lifting.proofs.GridLaws.{place-in, joined-place, even-near, odd-near, even-one, odd-one}
 use Rattle.lifting.proofs.LoneLaws.{lone-high, lone-odd, has-lone, has-other}
 use Rattle.lifting.specs.FiveThree.{fiveThreeFilter}
 use Rattle.wavelet.specs.Bands.{Grid, Band, bandOf, rowsUnlifted, levelBack}
@@ -25,27 +25,16 @@ use Rattle.wavelet.specs.Maps.{valueFits}
 use Rattle.wavelet.specs.Order.{firstSet, lastSet}
 use Rattle.wavelet.specs.Steps.{setOf}
 use Rattle.wavelet.proofs.StepLaws.{set-one}
-use Rattle.level.specs.Tried.{Tried, failed, passed, bind}
-use Rattle.level.specs.Slots.{rowPlace, local, rowUnlifted, rowHasLine, rowBy, rowHalved, rowIsEven, halfPlace}
-use Rattle.level.specs.Stands.{SetHas, SetFitsBy, SetLeaves}
-use Rattle.level.specs.Work.{endOf, hasLow, lowNear, highNear, lineTried, lowTried, highTried, setUnlifted, evenRow, oddRow, rowFits, admitted}
+use Rattle.level.specs.Tried.{failed, passed}
+use Rattle.level.specs.Stretch as stretch
+use Rattle.level.specs.Slots.{local, rowUnlifted, rowHasLine, rowBy, rowHalved, rowIsEven}
+use Rattle.level.specs.Stands.{RowStands as Is, SetHas, SetFitsBy, SetLeaves}
+use Rattle.level.specs.Work.{endOf, hasLow, lowNear, highNear, lineTried, lowTried, highTried, setUnlifted, evenRow, oddRow, admitted}
 use Rattle.level.specs.Work.{evenMade, oddMade, loneMade, lastMade, rowsMade, setMade}
-use Rattle.level.proofs.RowsIn.{apart, parity, Is, Only, only-by, is-old, only-unlifted, unlifted-is, line-is, by-is, only-halved, halved-is}
-use Rattle.level.proofs.RowsIn.{half-inside, by-halves}
-
--- ---- what trying comes to: a memory with a property, or a value that does not fit where N says that all do
-pub data Outcome (N : Type 0) (P : (ℕ → ℤ) → Type 0) : Tried → Type 0 where
-  stops : (N → ⊥) → Outcome N P failed
-  goes : (y : ℕ → ℤ) → P y → Outcome N P (passed y)
-
-pub bind-outcome : {N : Type 0} {P Q : (ℕ → ℤ) → Type 0} (t : Tried) (f : (ℕ → ℤ) → Tried) → Outcome N P t → ((y : ℕ → ℤ) → P y → Outcome N Q (f y)) →
-    Outcome N Q (bind t f)
-unfolding bind
-bind-outcome _ f (stops n) g = stops n
-bind-outcome _ f (goes y p) g = g y p
-
-not-false : (t : Bool) → t ≡ true → t ≡ false → ⊥
-not-false t e f = subst T (sym e ∙ f) tt
+use Rattle.level.proofs.RowsIn.{Only, only-by, is-old, only-unlifted, line-is, by-is, only-halved, halved-is}
+pub use Rattle.level.proofs.TriedRows.{Outcome, stops, goes, bind-outcome}
+use Rattle.level.proofs.TriedRows.{not-false, each-stands, stands-each, admit}
+use Rattle.level.proofs.FourRows.{four, apart, parity, unlifted-is}
 
 abbrev pub FitSet : ℕ → Side → Side → (Band → Grid) → ℕ → Type 0
 FitSet = SetFitsBy fiveThreeFilter 1
@@ -144,35 +133,6 @@ module _ (k : ℕ) (W H : Side) (p : Band → Grid) where
   same-row : (x : ℕ → ℤ) (q : ℕ) (r₁ r₂ : ℕ → ℤ) → ((c : ℕ) → c < W .length → r₁ c ≡ r₂ c) → Is W x q (parted W r₁) → Is W x q (parted W r₂)
   same-row x q r₁ r₂ e s a i b = s a i b ∙ by-columns (λ v _ _. v) r₁ r₁ r₁ r₂ e a i b
 
-  -- ---- a test of every number of a row, of those that stand there
-  fits-parted : (row : ℕ → ℤ) (P : ℤ → Bool) → ((a : Half) (i : ℕ) → i < count a W → P (parted W row a i) ≡ true) → (c : ℕ) → c < W .length → P (row c) ≡ true
-  unfolding parted
-  fits-parted row P f = by-place W (λ c. c < W .length → P (row c) ≡ true) (λ a i b. f a i (in-place W a i b))
-
-  each-stands : (P : ℤ → Bool) (q : ℕ) (x row : ℕ → ℤ) → Is W x q (parted W row) →
-      ((i : ℕ) → i < W .length → P (x (rowPlace (W .length) q + i)) ≡ true) →
-      (c : ℕ) → c < W .length → P (row c) ≡ true
-  each-stands P q x row s f = fits-parted row P (λ a i b. subst (λ v. P v ≡ true) (s a i b) (f (halfPlace a W + i) (half-inside a W i b)))
-
-  stands-each : (P : ℤ → Bool) (q : ℕ) (x row : ℕ → ℤ) → Is W x q (parted W row) → ((c : ℕ) → c < W .length → P (row c) ≡ true) →
-      (i : ℕ) → i < W .length →
-      P (x (rowPlace (W .length) q + i)) ≡ true
-  unfolding parted
-  stands-each P q x row s f =
-      by-halves W (λ j. P (x (rowPlace (W .length) q + j)) ≡ true)
-      (λ a i b. subst (λ v. P v ≡ true) (sym (s a i b)) (f (place W a i) (place-in W a i b)))
-
-  -- ---- the test of 14
-  admit : (P : (ℕ → ℤ) → Type 0) (n q r : ℕ) (x : ℕ → ℤ) → r < H .length → setOf 1 H r ≡ n → Is W x q (parted W (G r)) → (FitRow r → P x) →
-      Outcome (FitSet k W H p n) P (admitted k (W .length) q x)
-  unfolding admitted rowFits
-  admit P n q r x b m s f = go (rowFits k (W .length) q x) refl
-    where
-      go : (t : Bool) → rowFits k (W .length) q x ≡ t → Outcome (FitSet k W H p n) P (pick t (passed x) failed)
-      go true e = goes x (f (each-stands (valueFits fiveThreeFilter k) q x (G r) s (every-each (W .length) _ e)))
-      go false e = stops (λ all. not-false (rowFits k (W .length) q x)
-          (each-every (W .length) _ (stands-each (valueFits fiveThreeFilter k) q x (G r) s (λ c u. all .fit r c b m u))) e)
-
   -- ---- what a set needs
   pub record Needs (n : ℕ) (x : ℕ → ℤ) : Type 0 where
     pub low : b₀ ≤ n → Is W x (2 * n) (λ a. p (bandOf a lo) (n - b₀))
@@ -212,12 +172,12 @@ module _ (k : ℕ) (W H : Side) (p : Band → Grid) where
         Is W x q (λ a. p (bandOf a h) r) →
         (hasLine W (λ a. p (bandOf a h) r) ≡ true → Is W (rowUnlifted W q x) q (parted W (cols h r)) → P (rowUnlifted W q x)) →
         Outcome (FitSet k W H p n) P (lineTried W q x)
-    unfolding lineTried rowsUnlifted lineBack
+    unfolding stretch.lineTried rowsUnlifted lineBack
     line-tried P n h r q x m s f = go (rowHasLine W q x) refl
       where
         go : (t : Bool) → rowHasLine W q x ≡ t → Outcome (FitSet k W H p n) P (pick t (passed (rowUnlifted W q x)) failed)
-        go true e = goes (rowUnlifted W q x) (f (sym (line-is W q x _ s) ∙ e) (unlifted-is W q x _ s))
-        go false e = stops (λ all. not-false (rowHasLine W q x) (line-is W q x _ s ∙ m (all .has)) e)
+        go true e = goes (rowUnlifted W q x) (f (sym (line-is four W q x _ s) ∙ e) (unlifted-is W q x _ s))
+        go false e = stops (λ all. not-false (rowHasLine W q x) (line-is four W q x _ s ∙ m (all .has)) e)
 
     -- the low row lifted back
     record Low (n : ℕ) (x : ℕ → ℤ) : Type 0 where
@@ -229,7 +189,7 @@ module _ (k : ℕ) (W H : Side) (p : Band → Grid) where
       past : Past x
 
     low-tried : (n : ℕ) (x : ℕ → ℤ) → 0 < H .length → n ≤ lastSet H → Past x → Needs n x → Outcome (FitSet k W H p n) (Low n) (lowTried W H n x)
-    unfolding lowTried hasLow
+    unfolding stretch.lowTried hasLow
     low-tried n x g l z s = go (decLt n b₀)
       where
         go : Dec (n < b₀) → Outcome (FitSet k W H p n) (Low n) (pick (leb b₀ n) (lineTried W (2 * n) x) (passed x))
@@ -242,14 +202,14 @@ module _ (k : ℕ) (W H : Side) (p : Band → Grid) where
           past = z;
         }))
         go (no u) =
-            let o = only-unlifted W (2 * n) x in
+            let o = only-unlifted four unliftedInPlace W (2 * n) x in
             rw (le-leb b₀ n (omega arith))
             (line-tried (Low n) n lo (n - b₀) (2 * n) x (λ h. h .low (omega arith)) (s .low (omega arith)) (λ e m. record {
               line = λ _. e;
               low = λ _. m;
-              high = λ v. is-old W (2 * n) x _ (2 * n + 1) _ o (parity (2 * n) (2 * n + 1) n n (omega arith) (omega arith)) (s .high v);
-              even-before = λ i v w. is-old W (2 * n) x _ (2 * i) _ o (λ y. apart (2 * i) (2 * n) (omega arith) (sym y)) (s .even-before i v w);
-              high-before = λ i v. is-old W (2 * n) x _ (2 * i + 1) _ o (parity (2 * n) (2 * i + 1) n i (omega arith) (omega arith)) (s .high-before i v);
+              high = λ v. is-old four W (2 * n) x _ (2 * n + 1) _ o (parity (2 * n) (2 * n + 1) n n (omega arith) (omega arith)) (s .high v);
+              even-before = λ i v w. is-old four W (2 * n) x _ (2 * i) _ o (λ y. apart (2 * i) (2 * n) (omega arith) (sym y)) (s .even-before i v w);
+              high-before = λ i v. is-old four W (2 * n) x _ (2 * i + 1) _ o (parity (2 * n) (2 * i + 1) n i (omega arith) (omega arith)) (s .high-before i v);
               past = λ j v. o .past j v ∙ z j v;
             }))
 
@@ -262,23 +222,23 @@ module _ (k : ℕ) (W H : Side) (p : Band → Grid) where
       past : Past x
 
     high-tried : (n : ℕ) (x : ℕ → ℤ) → Low n x → Outcome (FitSet k W H p n) (Rows n) (highTried W H n x)
-    unfolding highTried
+    unfolding stretch.highTried
     high-tried n x s = go (decLt (2 * n + 1) (endOf H))
       where
         go : Dec (2 * n + 1 < endOf H) → Outcome (FitSet k W H p n) (Rows n) (pick (ltb (2 * n + 1) (endOf H)) (lineTried W (2 * n + 1) x) (passed x))
         go (yes u) =
-            let o = only-unlifted W (2 * n + 1) x in
+            let o = only-unlifted four unliftedInPlace W (2 * n + 1) x in
             let v = in-highs n u in
             rw (lt-ltb (2 * n + 1) (endOf H) u)
             (line-tried (Rows n) n hi n (2 * n + 1) x (λ h. h .high v) (s .high v) (λ e m. record {
               lines = record { low = s .line; high = λ _. e };
-              low = λ b. is-old W (2 * n + 1) x _ (2 * n) _ o (λ y. parity (2 * n) (2 * n + 1) n n (omega arith) (omega arith) (sym y)) (s .low b);
+              low = λ b. is-old four W (2 * n + 1) x _ (2 * n) _ o (λ y. parity (2 * n) (2 * n + 1) n n (omega arith) (omega arith) (sym y)) (s .low b);
               high = λ i b c d. elim (ℕ-discrete i n) [
                 | yes y ↦ rw y m
-                | no y ↦ is-old W (2 * n + 1) x _ (2 * i + 1) _ o (λ y′. apart (2 * i + 1) (2 * n + 1) (omega (arith, y)) (sym y′))
+                | no y ↦ is-old four W (2 * n + 1) x _ (2 * i + 1) _ o (λ y′. apart (2 * i + 1) (2 * n + 1) (omega (arith, y)) (sym y′))
                     (s .high-before i (omega (arith, y)))
               ];
-              even-before = λ i b c. is-old W (2 * n + 1) x _ (2 * i) _ o (λ y. parity (2 * i) (2 * n + 1) i n (omega arith) (omega arith) (sym y))
+              even-before = λ i b c. is-old four W (2 * n + 1) x _ (2 * i) _ o (λ y. parity (2 * i) (2 * n + 1) i n (omega arith) (omega arith) (sym y))
                   (s .even-before i b c);
               past = λ j b. o .past j b ∙ s .past j b;
             }))
@@ -291,7 +251,7 @@ module _ (k : ℕ) (W H : Side) (p : Band → Grid) where
         }))
 
     unlifted : (n : ℕ) (x : ℕ → ℤ) → 0 < H .length → n ≤ lastSet H → Past x → Needs n x → Outcome (FitSet k W H p n) (Rows n) (setUnlifted W H n x)
-    unfolding setUnlifted
+    unfolding stretch.setUnlifted
     unlifted n x g l z s = bind-outcome (lowTried W H n x) _ (low-tried n x g l z s) (high-tried n)
 
     -- ---- the even rows
@@ -322,18 +282,18 @@ module _ (k : ℕ) (W H : Side) (p : Band → Grid) where
         go : Dec (1 < H .length) →
             Evens n (pick (ltb 1 (H .length)) (rowBy (unupdated wrap32) (W .length) (2 * n) (2 * highNear H (n - 1) + 1) (2 * highNear H n + 1) x) x)
         go (yes m) =
-            let o = only-by (W .length) (2 * n) (unupdated wrap32) (2 * highNear H (n - 1) + 1) (2 * highNear H n + 1) x in
+            let o = only-by four (W .length) (2 * n) (unupdated wrap32) (2 * highNear H (n - 1) + 1) (2 * highNear H n + 1) x in
             let u = near-before n g l b m in
             let v = near-here n g l b m in
             rw (lt-ltb 1 (H .length) m) (record {
               even = λ i c q r. elim (ℕ-discrete i n) [
                 | yes e ↦ rw e (λ a j t.
-                    by-is (unupdated wrap32) W (2 * n) (2 * highNear H (n - 1) + 1) (2 * highNear H n + 1) x _ _ _ (s .low b)
+                    by-is four (unupdated wrap32) W (2 * n) (2 * highNear H (n - 1) + 1) (2 * highNear H n + 1) x _ _ _ (s .low b)
                     (s .high (highNear H (n - 1)) (u .0) (u .1) (u .2)) (s .high (highNear H n) (v .0) (v .1) (v .2)) a j t
                     ∙ by-columns (unupdated wrap32) _ _ _ (G (2 * n - b₀)) (λ d _. even-value n d m b (in-lows n g l b)) a j t)
-                | no e ↦ is-old W (2 * n) x _ (2 * i) _ o (λ z. apart (2 * i) (2 * n) (omega (arith, e)) (sym z)) (s .even-before i (omega (arith, e)) c)
+                | no e ↦ is-old four W (2 * n) x _ (2 * i) _ o (λ z. apart (2 * i) (2 * n) (omega (arith, e)) (sym z)) (s .even-before i (omega (arith, e)) c)
               ];
-              high = λ i c q r. is-old W (2 * n) x _ (2 * i + 1) _ o (parity (2 * n) (2 * i + 1) n i (omega arith) (omega arith)) (s .high i c q r);
+              high = λ i c q r. is-old four W (2 * n) x _ (2 * i + 1) _ o (parity (2 * n) (2 * i + 1) n i (omega arith) (omega arith)) (s .high i c q r);
               past = λ j c. o .past j c ∙ s .past j c;
             })
         go (no m) = rw (le-ltb 1 (H .length) (omega arith)) (record {
@@ -375,7 +335,8 @@ module _ (k : ℕ) (W H : Side) (p : Band → Grid) where
             let b : b₀ ≤ n = omega arith in
             let e = evened n x g l b s in
             rw (le-leb b₀ n b)
-            (admit (Even n) n (2 * n) (2 * n - b₀) _ (low-in n g l b) (even-set n l b) (e .even n b (omega arith) (omega arith)) (λ f. record {
+            (admit fiveThreeFilter 4 1 k W H p (Even n) n (2 * n) (2 * n - b₀) _ (low-in n g l b) (even-set n l b)
+            (e .even n b (omega arith) (omega arith)) (λ f. record {
               lines = s .lines;
               rows = e;
               fit = λ _. f;
@@ -387,12 +348,12 @@ module _ (k : ℕ) (W H : Side) (p : Band → Grid) where
         Is W (oddRow (W .length) H m x) (2 * m + 1) (parted W (G (2 * m + 1 - b₀)))
     unfolding oddRow
     odd-is-made m x g b e f s a j q =
-        by-is (unpredicted wrap32) W (2 * m + 1) (2 * lowNear H m) (2 * lowNear H (m + 1)) x _ _ _ s e f a j q
+        by-is four (unpredicted wrap32) W (2 * m + 1) (2 * lowNear H m) (2 * lowNear H (m + 1)) x _ _ _ s e f a j q
         ∙ by-columns (unpredicted wrap32) _ _ _ (G (2 * m + 1 - b₀)) (λ c _. odd-value m c g b) a j q
 
-    only-odd : (m : ℕ) (x : ℕ → ℤ) → Only (W .length) (2 * m + 1) x (oddRow (W .length) H m x)
+    only-odd : (m : ℕ) (x : ℕ → ℤ) → Only 4 (W .length) (2 * m + 1) x (oddRow (W .length) H m x)
     unfolding oddRow
-    only-odd m x = only-by (W .length) (2 * m + 1) (unpredicted wrap32) (2 * lowNear H m) (2 * lowNear H (m + 1)) x
+    only-odd m x = only-by four (W .length) (2 * m + 1) (unpredicted wrap32) (2 * lowNear H m) (2 * lowNear H (m + 1)) x
 
     -- the rows at 2n and 2n − 1
     record Most (n : ℕ) (x : ℕ → ℤ) : Type 0 where
@@ -435,12 +396,13 @@ module _ (k : ℕ) (W H : Side) (p : Band → Grid) where
     })
     odd-made (suc m) x g l s =
         let o = only-odd m x in
-        admit (Most (suc m)) (suc m) (2 * m + 1) (2 * m + 1 - b₀) (oddRow (W .length) H m x) (near-two m g l .2) (odd-set m l) made (λ f. record {
+        admit fiveThreeFilter 4 1 k W H p (Most (suc m)) (suc m) (2 * m + 1) (2 * m + 1 - b₀) (oddRow (W .length) H m x) (near-two m g l .2)
+        (odd-set m l) made (λ f. record {
           lines = s .lines;
-          even = λ b. is-old W (2 * m + 1) x _ (2 * suc m) _ o (λ z. parity (2 * suc m) (2 * m + 1) (suc m) m (omega arith) (omega arith) (sym z))
+          even = λ b. is-old four W (2 * m + 1) x _ (2 * suc m) _ o (λ z. parity (2 * suc m) (2 * m + 1) (suc m) m (omega arith) (omega arith) (sym z))
               (s .rows .even (suc m) b (omega arith) (omega arith));
           odd = λ i e. let e′ : i ≡ m = omega arith in rw e′ made;
-          high = λ q. is-old W (2 * m + 1) x _ (2 * suc m + 1) _ o (apart (2 * m + 1) (2 * suc m + 1) (omega arith))
+          high = λ q. is-old four W (2 * m + 1) x _ (2 * suc m + 1) _ o (apart (2 * m + 1) (2 * suc m + 1) (omega arith))
               (s .rows .high (suc m) q (omega arith) (omega arith));
           even-fit = s .fit;
           odd-fit = λ i e. let e′ : i ≡ m = omega arith in rw e′ f;
@@ -548,11 +510,11 @@ module _ (k : ℕ) (W H : Side) (p : Band → Grid) where
     beside-made : (n : ℕ) (x : ℕ → ℤ) → 0 < H .length → 2 * n + 2 ≡ endOf H → loneHigh H ≡ false → Most n x →
         Outcome (FitSet k W H p n) (Worked n) (admitted k (W .length) (2 * n + 1) (oddRow (W .length) H n x))
     beside-made n x g e f s =
-        admit (Worked n) n (2 * n + 1) (2 * n + 1 - b₀) y (last-in n g e .1) (last-set n g e) last (λ t. (
+        admit fiveThreeFilter 4 1 k W H p (Worked n) n (2 * n + 1) (2 * n + 1 - b₀) y (last-in n g e .1) (last-set n g e) last (λ t. (
           record {
             made = made-by n y
-                (λ b. is-old W (2 * n + 1) x y (2 * n) _ o (λ z. parity (2 * n) (2 * n + 1) n n (omega arith) (omega arith) (sym z)) (s .even b))
-                (λ m z. is-old W (2 * n + 1) x y (2 * m + 1) _ o (λ u. apart (2 * m + 1) (2 * n + 1) (omega arith) (sym u)) (s .odd m z))
+                (λ b. is-old four W (2 * n + 1) x y (2 * n) _ o (λ z. parity (2 * n) (2 * n + 1) n n (omega arith) (omega arith) (sym z)) (s .even b))
+                (λ m z. is-old four W (2 * n + 1) x y (2 * m + 1) _ o (λ u. apart (2 * m + 1) (2 * n + 1) (omega arith) (sym u)) (s .odd m z))
                 (λ _. last);
             fit = by-set FitRow n (s .even-fit) (s .odd-fit) (λ _. t);
             high = λ l. absurd (omega arith);
@@ -564,7 +526,7 @@ module _ (k : ℕ) (W H : Side) (p : Band → Grid) where
         y : ℕ → ℤ
         y = oddRow (W .length) H n x
 
-        o : Only (W .length) (2 * n + 1) x y
+        o : Only 4 (W .length) (2 * n + 1) x y
         o = only-odd n x
 
         last : Is W y (2 * n + 1) (parted W (G (2 * n + 1 - b₀)))
@@ -576,7 +538,7 @@ module _ (k : ℕ) (W H : Side) (p : Band → Grid) where
     -- an only row, at an odd coordinate
     lone-made : (n : ℕ) (x : ℕ → ℤ) → 0 < H .length → 2 * n + 2 ≡ endOf H → loneHigh H ≡ true → Most n x →
         Outcome (FitSet k W H p n) (Worked n) (loneMade admitted k (W .length) (2 * n + 1) x)
-    unfolding loneMade rowIsEven
+    unfolding stretch.loneMade stretch.rowIsEven
     lone-made n x g e f s = go (rowIsEven (W .length) (2 * n + 1) x) refl
       where
         y : ℕ → ℤ
@@ -591,12 +553,12 @@ module _ (k : ℕ) (W H : Side) (p : Band → Grid) where
         high : Is W x (2 * n + 1) (parted W (cols hi n))
         high = s .high (last-in n g e .0)
 
-        o : Only (W .length) (2 * n + 1) x y
-        o = only-halved W (2 * n + 1) x
+        o : Only 4 (W .length) (2 * n + 1) x y
+        o = only-halved four W (2 * n + 1) x
 
         last : Is W y (2 * n + 1) (parted W (G (2 * n + 1 - b₀)))
         last a i b =
-            halved-is W (2 * n + 1) x _ high a i b
+            halved-is four W (2 * n + 1) x _ high a i b
             ∙ by-columns (λ v _ _. shrZ v 2) (cols hi n) (cols hi n) (cols hi n) (G (2 * n + 1 - b₀)) (λ c _. lone-value n c (omega (arith, one))) a i b
 
         column : (c : ℕ) → hasLine H (λ h i. cols h i c) ≡ isEven (cols hi n c)
@@ -605,20 +567,20 @@ module _ (k : ℕ) (W H : Side) (p : Band → Grid) where
         go : (t : Bool) → rowIsEven (W .length) (2 * n + 1) x ≡ t →
             Outcome (FitSet k W H p n) (Worked n) (pick t (admitted k (W .length) (2 * n + 1) y) failed)
         go true even =
-            admit (Worked n) n (2 * n + 1) (2 * n + 1 - b₀) y (last-in n g e .1) (last-set n g e) last (λ t. (
+            admit fiveThreeFilter 4 1 k W H p (Worked n) n (2 * n + 1) (2 * n + 1 - b₀) y (last-in n g e .1) (last-set n g e) last (λ t. (
               record {
                 made = made-by n y
-                    (λ b. is-old W (2 * n + 1) x y (2 * n) _ o (λ z. parity (2 * n) (2 * n + 1) n n (omega arith) (omega arith) (sym z)) (s .even b))
+                    (λ b. is-old four W (2 * n + 1) x y (2 * n) _ o (λ z. parity (2 * n) (2 * n + 1) n n (omega arith) (omega arith) (sym z)) (s .even b))
                     (λ m z. absurd (omega (arith, first)))
                     (λ _. last);
                 fit = by-set FitRow n (s .even-fit) (s .odd-fit) (λ _. t);
                 high = λ l. absurd (omega arith);
-                has = has-of n (s .lines) (λ c v. column c ∙ each-stands isEven (2 * n + 1) x (cols hi n) high (every-each (W .length) _ even) c v);
+                has = has-of n (s .lines) (λ c v. column c ∙ each-stands 4 W isEven (2 * n + 1) x (cols hi n) high (every-each (W .length) _ even) c v);
               },
               λ j q. o .past j q ∙ s .past j q,
             ))
         go false odd = stops (λ all. not-false (rowIsEven (W .length) (2 * n + 1) x)
-            (each-every (W .length) _ (stands-each isEven (2 * n + 1) x (cols hi n) high (λ c v.
+            (each-every (W .length) _ (stands-each 4 W isEven (2 * n + 1) x (cols hi n) high (λ c v.
             sym (column c) ∙ all .has .columns (2 * n + 1 - b₀) (last-in n g e .1) (last-set n g e) c v))) odd)
 
     none-lone : (n : ℕ) → n ≤ lastSet H → (2 * n + 2 ≡ endOf H → ⊥) → loneHigh H ≡ true → ⊥

@@ -5,15 +5,18 @@ use Prim.Native.Nat.{ℕ, zero, suc, _+_, _-_, _*_, _%_, _/_, _≤_, _<_}
 use native.Mathlib.Omega.{arith}
 use lib.IntN.{ℤ}
 use borrow.Author.Tests.{eq-eqb, ne-eqb, lt-ltb, le-ltb, lt-leb, le-leb}
-use Rattle.numbers.specs.Signal.{pick, windowed, spliced}
+use Rattle.numbers.specs.Signal.{windowed, spliced}
 use Rattle.lifting.specs.Line.{lo}
 use Rattle.lifting.specs.Grid.{Side, side, count, joined, loneHigh}
 use Rattle.lifting.specs.GridHalves.{halvesOf}
+use Rattle.lifting.specs.Filter.{Filter}
+use Rattle.lifting.specs.FiveThree.{fiveThreeFilter}
 use Rattle.wavelet.specs.Levels.{next}
 use Rattle.wavelet.specs.Order.{firstSet}
 use Rattle.level.specs.Tried.{Tried, failed, passed, outcome, bind}
-use Rattle.level.specs.Slots.{rowPlace, local, rowHalved, rowIsEven, lowRowTaken}
-use Rattle.level.specs.Work.{endOf, hasLow, lineTried, lowTried, highTried, setUnlifted, rowFits, admitted, evenRow, oddRow}
+use Rattle.level.specs.Stretch as stretch
+use Rattle.level.specs.Stretch.{local, endOf, hasLow}
+use Rattle.level.specs.Work.{setUnlifted, rowFits, admitted, evenRow, oddRow}
 use Rattle.level.specs.Work.{evenMade, oddMade, loneMade, lastMade, rowsMade, setMade, setWorked}
 
 -- ---- what an answer tells
@@ -40,31 +43,67 @@ pub low-there : (H : Side) (n : ℕ) → H .start % 2 ≤ n → hasLow H n ≡ t
 unfolding hasLow firstSet
 low-there H n b = le-leb (H .start % 2) n b
 
--- ---- along the rows
-module _ (W H : Side) (n : ℕ) (x : ℕ → ℤ) where
-  pub low-none : n < H .start % 2 → passed x ≡ lowTried W H n x
-  unfolding lowTried
+-- ---- along the rows, of any number m of them and whatever lifts a row back in place
+module _ (m : ℕ) (back : Side → (ℕ → ℤ) → ℕ → ℤ) (W H : Side) (n : ℕ) (x : ℕ → ℤ) where
+  pub low-none : n < H .start % 2 → passed x ≡ stretch.lowTried m back W H n x
+  unfolding stretch.lowTried
   low-none b = rw (low-first H n b) refl
 
-  pub low-some : H .start % 2 ≤ n → lineTried W (2 * n) x ≡ lowTried W H n x
-  unfolding lowTried
+  pub low-some : H .start % 2 ≤ n → stretch.lineTried m back W (2 * n) x ≡ stretch.lowTried m back W H n x
+  unfolding stretch.lowTried
   low-some b = rw (low-there H n b) refl
 
-  pub high-none : H .start % 2 + H .length ≤ 2 * n + 1 → passed x ≡ highTried W H n x
-  unfolding highTried endOf
+  pub high-none : H .start % 2 + H .length ≤ 2 * n + 1 → passed x ≡ stretch.highTried m back W H n x
+  unfolding stretch.highTried endOf
   high-none b = rw (le-ltb (2 * n + 1) (H .start % 2 + H .length) b) refl
 
-  pub high-some : 2 * n + 1 < H .start % 2 + H .length → lineTried W (2 * n + 1) x ≡ highTried W H n x
-  unfolding highTried endOf
+  pub high-some : 2 * n + 1 < H .start % 2 + H .length → stretch.lineTried m back W (2 * n + 1) x ≡ stretch.highTried m back W H n x
+  unfolding stretch.highTried endOf
   high-some b = rw (lt-ltb (2 * n + 1) (H .start % 2 + H .length) b) refl
 
-  pub set-low : failed ≡ lowTried W H n x → failed ≡ setUnlifted W H n x
-  unfolding setUnlifted
+  pub set-low : failed ≡ stretch.lowTried m back W H n x → failed ≡ stretch.setUnlifted m back W H n x
+  unfolding stretch.setUnlifted
   set-low e = bind-failed _ _ e
 
-  pub set-high : (y : ℕ → ℤ) → passed y ≡ lowTried W H n x → highTried W H n y ≡ setUnlifted W H n x
-  unfolding setUnlifted
-  set-high y e = bind-passed _ (highTried W H n) y e
+  pub set-high : (y : ℕ → ℤ) → passed y ≡ stretch.lowTried m back W H n x → stretch.highTried m back W H n y ≡ stretch.setUnlifted m back W H n x
+  unfolding stretch.setUnlifted
+  set-high y e = bind-passed _ (stretch.highTried m back W H n) y e
+
+-- ---- a row tested by the filter F; an only row, at an odd coordinate
+module _ (m : ℕ) (F : Filter) (k w q : ℕ) where
+  pub told : (ok : Bool) (z y : ℕ → ℤ) → z ≡ y → ok ≡ stretch.rowFits m F k w q z → outcome ok z ≡ stretch.admitted m F k w q y
+  unfolding stretch.admitted
+  told ok z y ez eo = ap (λ (b : Bool). outcome b z) eo ∙ ap (stretch.admitted m F k w q) ez
+
+  module _ (x : ℕ → ℤ) where
+    pub lone-no : stretch.rowIsEven m w q x ≡ false → failed ≡ stretch.loneMade m (stretch.admitted m F) k w q x
+    unfolding stretch.loneMade
+    lone-no e = rw e refl
+
+    pub lone-made : (ok : Bool) (z : ℕ → ℤ) → stretch.rowIsEven m w q x ≡ true → z ≡ stretch.rowHalved m w q x → ok ≡ stretch.rowFits m F k w q z →
+        outcome ok z ≡ stretch.loneMade m (stretch.admitted m F) k w q x
+    unfolding stretch.loneMade
+    lone-made ok z e ez eo = rw e (told ok z _ ez eo)
+
+-- ---- the low-low row taken from the next level
+module _ (m : ℕ) (W H : Side) (n : ℕ) (x : ℕ → ℤ) where
+  pub take-last : (last : Bool) → last ≡ true → x ≡ stretch.lowTaken m last W H n x
+  unfolding stretch.lowTaken
+  take-last last e = rw e refl
+
+  pub take-none : (last : Bool) → last ≡ false → n < H .start % 2 → x ≡ stretch.lowTaken m last W H n x
+  unfolding stretch.lowTaken
+  take-none last e b = rw (e, low-first H n b) refl
+
+  pub take-low : (last : Bool) (y : ℕ → ℤ) → last ≡ false → H .start % 2 ≤ n → y ≡ stretch.lowRowTaken m W H n x → y ≡ stretch.lowTaken m last W H n x
+  unfolding stretch.lowTaken
+  take-low last y e b t = rw (e, low-there H n b) t
+
+  pub low-taken : (low row from to s : ℕ) → low ≡ count lo W → s ≡ (W .start + 1) / 2 → row ≡ (H .start + 1) / 2 % 2 + (n - H .start % 2) →
+      from ≡ m * W .length + stretch.rowPlace m low row → to ≡ stretch.rowPlace m (W .length) (2 * n) →
+      spliced to low (joined (side s low) (halvesOf (side s low) (windowed from low x))) x ≡ stretch.lowRowTaken m W H n x
+  unfolding stretch.lowRowTaken next local firstSet
+  low-taken low row from to s el es er ef et = rw (ef, et, er, es, el) refl
 
 -- ---- the rows of a set
 module _ (k w : ℕ) (H : Side) (n : ℕ) (x : ℕ → ℤ) where
@@ -73,8 +112,8 @@ module _ (k w : ℕ) (H : Side) (n : ℕ) (x : ℕ → ℤ) where
   even-none b = rw (low-first H n b) refl
 
   pub even-made : (ok : Bool) (z : ℕ → ℤ) → H .start % 2 ≤ n → z ≡ evenRow w H n x → ok ≡ rowFits k w (2 * n) z → outcome ok z ≡ evenMade admitted k w H n x
-  unfolding evenMade admitted
-  even-made ok z b ez eo = rw (low-there H n b) (ap (λ (b : Bool). outcome b z) eo ∙ ap (admitted k w (2 * n)) ez)
+  unfolding evenMade
+  even-made ok z b ez eo = rw (low-there H n b) (told 4 fiveThreeFilter k w (2 * n) ok z _ ez eo)
 
   pub odd-none : n ≡ 0 → passed x ≡ oddMade admitted k w H n x
   unfolding oddMade
@@ -90,31 +129,18 @@ module _ (k w : ℕ) (H : Side) (n : ℕ) (x : ℕ → ℤ) where
 
   pub last-made : (ok : Bool) (z : ℕ → ℤ) → 2 * n + 2 ≡ H .start % 2 + H .length → loneHigh H ≡ false → z ≡ oddRow w H n x → ok ≡ rowFits k w (2 * n + 1) z →
       outcome ok z ≡ lastMade admitted k w H n x
-  unfolding lastMade admitted endOf
+  unfolding lastMade endOf
   last-made ok z e f ez eo =
-      rw (eq-eqb (2 * n + 2) (H .start % 2 + H .length) e, f) (ap (λ (b : Bool). outcome b z) eo ∙ ap (admitted k w (2 * n + 1)) ez)
+      rw (eq-eqb (2 * n + 2) (H .start % 2 + H .length) e, f) (told 4 fiveThreeFilter k w (2 * n + 1) ok z _ ez eo)
 
 pub odd-made : (k w : ℕ) (H : Side) (n : ℕ) (x : ℕ → ℤ) (ok : Bool) (z : ℕ → ℤ) → (n ≡ 0 → ⊥) → z ≡ oddRow w H (n - 1) x → ok ≡ rowFits k w (2 * n - 1) z →
     outcome ok z ≡ oddMade admitted k w H n x
+unfolding oddMade
 odd-made k w H zero x ok z ne ez eo = absurd (ne refl)
 odd-made k w H (suc m) x ok z ne ez eo =
     let a : suc m - 1 ≡ m = omega arith in
     let b : 2 * suc m - 1 ≡ 2 * m + 1 = omega arith in
-    ap (λ (b : Bool). outcome b z) (eo ∙ ap (λ (r : ℕ). rowFits k w r z) b) ∙ ap (admitted′ m) (ez ∙ ap (λ (i : ℕ). oddRow w H i x) a)
-    ∙ unfold oddMade admitted in refl
-  where
-    admitted′ : ℕ → (ℕ → ℤ) → Tried
-    admitted′ m z = outcome (rowFits k w (2 * m + 1) z) z
-
--- an only row, at an odd coordinate
-module _ (k w q : ℕ) (x : ℕ → ℤ) where
-  pub lone-odd : rowIsEven w q x ≡ false → failed ≡ loneMade admitted k w q x
-  unfolding loneMade
-  lone-odd e = rw e refl
-
-  pub lone-made : (ok : Bool) (z : ℕ → ℤ) → rowIsEven w q x ≡ true → z ≡ rowHalved w q x → ok ≡ rowFits k w q z → outcome ok z ≡ loneMade admitted k w q x
-  unfolding loneMade admitted
-  lone-made ok z e ez eo = rw e (ap (λ (b : Bool). outcome b z) eo ∙ ap (admitted k w q) ez)
+    told 4 fiveThreeFilter k w (2 * m + 1) ok z _ (ez ∙ ap (λ (i : ℕ). oddRow w H i x) a) (eo ∙ ap (λ (r : ℕ). rowFits k w r z) b)
 
 -- ---- the whole set
 module _ (k : ℕ) (W H : Side) (n : ℕ) (x : ℕ → ℤ) where
@@ -126,25 +152,7 @@ module _ (k : ℕ) (W H : Side) (n : ℕ) (x : ℕ → ℤ) where
   unfolding setMade
   set-passed y e = bind-passed _ (rowsMade admitted k (W .length) H n) y e
 
-  pub worked : (last : Bool) (y : ℕ → ℤ) → y ≡ pick last x (pick (hasLow H n) (lowRowTaken W H n x) x) →
+  pub worked : (last : Bool) (y : ℕ → ℤ) → y ≡ stretch.lowTaken 4 last W H n x →
       setMade admitted k W H n y ≡ setWorked admitted last k W H n x
   unfolding setWorked
   worked last y e = ap (setMade admitted k W H n) e
-
--- ---- the low-low row taken from the next level
-module _ (W H : Side) (n : ℕ) (x : ℕ → ℤ) where
-  pub take-last : (last : Bool) → last ≡ true → x ≡ pick last x (pick (hasLow H n) (lowRowTaken W H n x) x)
-  take-last last e = rw e refl
-
-  pub take-none : (last : Bool) → last ≡ false → n < H .start % 2 → x ≡ pick last x (pick (hasLow H n) (lowRowTaken W H n x) x)
-  take-none last e b = rw (e, low-first H n b) refl
-
-  pub take-low : (last : Bool) (y : ℕ → ℤ) → last ≡ false → H .start % 2 ≤ n → y ≡ lowRowTaken W H n x →
-      y ≡ pick last x (pick (hasLow H n) (lowRowTaken W H n x) x)
-  take-low last y e b t = rw (e, low-there H n b) t
-
-  pub low-taken : (low row from to s : ℕ) → low ≡ count lo W → s ≡ (W .start + 1) / 2 → row ≡ (H .start + 1) / 2 % 2 + (n - H .start % 2) →
-      from ≡ 4 * W .length + rowPlace low row → to ≡ rowPlace (W .length) (2 * n) →
-      spliced to low (joined (side s low) (halvesOf (side s low) (windowed from low x))) x ≡ lowRowTaken W H n x
-  unfolding lowRowTaken next local firstSet
-  low-taken low row from to s el es er ef et = rw (ef, et, er, es, el) refl

@@ -1,16 +1,21 @@
 -- A set worked out leaves every place past its level's stretch as it was, whatever stands in it. Assumes nothing.
 use mathlib.Core.Bool.{Bool, true, false}
-use Prim.Native.Nat.{ℕ, zero, suc, _+_, _*_}
+use Prim.Native.Nat.{ℕ, zero, suc, _+_, _*_, _<_}
 use lib.IntN.{ℤ}
 use lib.Dec.{ltb, eqb}
 use Rattle.numbers.specs.Signal.{pick}
 use Rattle.lifting.specs.Grid.{Side, loneHigh}
+use Rattle.lifting.specs.GridHalves.{unliftedInPlace}
+use Rattle.lifting.specs.Filter.{Filter}
+use Rattle.lifting.specs.FiveThree.{fiveThreeFilter}
 use Rattle.level.specs.Tried.{Tried, failed, passed, bind}
-use Rattle.level.specs.Slots.{rowUnlifted, rowHasLine, rowHalved, rowIsEven, lowRowTaken}
-use Rattle.level.specs.Work.{endOf, hasLow, lineTried, lowTried, highTried, setUnlifted, rowFits, admitted, evenRow, oddRow}
-use Rattle.level.specs.Work.{evenMade, oddMade, loneMade, lastMade, rowsMade, setMade, setWorked}
+use Rattle.level.specs.Stretch as stretch
+use Rattle.level.specs.Stretch.{endOf, hasLow}
+use Rattle.level.specs.Work.{admitted, evenRow, oddRow, evenMade, oddMade, lastMade, rowsMade, setMade, setWorked}
 use Rattle.level.specs.Rebuilding.{Kept}
-use Rattle.level.proofs.KeptLaws.{kept-none, kept-both, unlifted-kept, even-kept, odd-kept, halved-kept, low-kept}
+use Rattle.level.proofs.RowsIn.{only-unlifted, only-halved, only-taken}
+use Rattle.level.proofs.FourRows.{four}
+use Rattle.level.proofs.KeptLaws.{kept-none, kept-both, only-kept, even-kept, odd-kept}
 
 -- what was tried, if it passed, kept every place from n on
 pub data Keeps (n : ℕ) (x : ℕ → ℤ) : Tried → Type 0 where
@@ -22,12 +27,12 @@ module _ (n : ℕ) where
   tried x y a true = goes a
   tried x y a false = stops
 
-  admits : (k w r : ℕ) (x y : ℕ → ℤ) → Kept n x y → Keeps n x (admitted k w r y)
-  unfolding admitted
-  admits k w r x y a = tried x y a (rowFits k w r y)
+  pub admits : (m : ℕ) (F : Filter) (k w r : ℕ) (x y : ℕ → ℤ) → Kept n x y → Keeps n x (stretch.admitted m F k w r y)
+  unfolding stretch.admitted
+  admits m F k w r x y a = tried x y a (stretch.rowFits m F k w r y)
 
   -- what is done only where a test says so
-  either : (x : ℕ → ℤ) (u v : Tried) → Keeps n x u → Keeps n x v → (t : Bool) → Keeps n x (pick t u v)
+  pub either : (x : ℕ → ℤ) (u v : Tried) → Keeps n x u → Keeps n x v → (t : Bool) → Keeps n x (pick t u v)
   either x u v a b true = a
   either x u v a b false = b
 
@@ -40,63 +45,80 @@ module _ (n : ℕ) where
   bound x _ f stops g = stops
   bound x _ f (goes a) g = after x _ _ a (g _)
 
--- ---- a set worked out, in its level's stretch
-module _ (k : ℕ) (W H : Side) where
+-- ---- the steps of a set, in a stretch of m rows
+module _ {m : ℕ} (some : 0 < m) (W H : Side) where
   abbrev room : ℕ
-  room = 4 * W .length
+  room = m * W .length
 
-  line-past : (q : ℕ) (x : ℕ → ℤ) → Keeps room x (lineTried W q x)
-  unfolding lineTried
-  line-past q x = tried room x (rowUnlifted W q x) (unlifted-kept W q x) (rowHasLine W q x)
+  pub stays : (x : ℕ → ℤ) → Keeps room x (passed x)
+  stays x = goes (kept-none room x)
 
-  low-past : (n : ℕ) (x : ℕ → ℤ) → Keeps room x (lowTried W H n x)
-  unfolding lowTried
-  low-past n x = either room x _ _ (line-past (2 * n) x) (goes (kept-none room x)) (hasLow H n)
+  module _ (back : Side → (ℕ → ℤ) → ℕ → ℤ) where
+    line-past : (q : ℕ) (x : ℕ → ℤ) → Keeps room x (stretch.lineTried m back W q x)
+    unfolding stretch.lineTried
+    line-past q x = tried room x (stretch.rowUnlifted m back W q x) (only-kept (only-unlifted some back W q x)) (stretch.rowHasLine m W q x)
 
-  high-past : (n : ℕ) (x : ℕ → ℤ) → Keeps room x (highTried W H n x)
-  unfolding highTried
-  high-past n x = either room x _ _ (line-past (2 * n + 1) x) (goes (kept-none room x)) (ltb (2 * n + 1) (endOf H))
+    low-past : (n : ℕ) (x : ℕ → ℤ) → Keeps room x (stretch.lowTried m back W H n x)
+    unfolding stretch.lowTried
+    low-past n x = either room x _ _ (line-past (2 * n) x) (stays x) (hasLow H n)
 
-  rows-past : (n : ℕ) (x : ℕ → ℤ) → Keeps room x (setUnlifted W H n x)
-  unfolding setUnlifted
-  rows-past n x = bound room x _ _ (low-past n x) (high-past n)
+    high-past : (n : ℕ) (x : ℕ → ℤ) → Keeps room x (stretch.highTried m back W H n x)
+    unfolding stretch.highTried
+    high-past n x = either room x _ _ (line-past (2 * n + 1) x) (stays x) (ltb (2 * n + 1) (endOf H))
 
-  even-past : (n : ℕ) (x : ℕ → ℤ) → Keeps room x (evenMade admitted k (W .length) H n x)
+    pub rows-past : (n : ℕ) (x : ℕ → ℤ) → Keeps room x (stretch.setUnlifted m back W H n x)
+    unfolding stretch.setUnlifted
+    rows-past n x = bound room x _ _ (low-past n x) (high-past n)
+
+  pub lone-past : (F : Filter) (k q : ℕ) (x : ℕ → ℤ) → Keeps room x (stretch.loneMade m (stretch.admitted m F) k (W .length) q x)
+  unfolding stretch.loneMade
+  lone-past F k q x =
+      either room x _ _ (admits room m F k (W .length) q x (stretch.rowHalved m (W .length) q x) (only-kept (only-halved some W q x))) stops
+      (stretch.rowIsEven m (W .length) q x)
+
+  -- a set made, its low-low row taken first
+  pub taken-past : (f : (ℕ → ℤ) → Tried) → ((x : ℕ → ℤ) → Keeps room x (f x)) → (last : Bool) (n : ℕ) (x : ℕ → ℤ) →
+      Keeps room x (f (stretch.lowTaken m last W H n x))
+  unfolding stretch.lowTaken
+  taken-past f g true n x = g x
+  taken-past f g false n x = go (hasLow H n)
+    where
+      go : (t : Bool) → Keeps room x (f (pick t (stretch.lowRowTaken m W H n x) x))
+      go true = after room x (stretch.lowRowTaken m W H n x) _ (only-kept (only-taken some W H n x)) (g (stretch.lowRowTaken m W H n x))
+      go false = g x
+
+-- ---- a set worked out by the 5/3
+module _ (k : ℕ) (W H : Side) where
+  abbrev four-rows : ℕ
+  four-rows = 4 * W .length
+
+  even-past : (n : ℕ) (x : ℕ → ℤ) → Keeps four-rows x (evenMade admitted k (W .length) H n x)
   unfolding evenMade
   even-past n x =
-      either room x _ _ (admits room k (W .length) (2 * n) x (evenRow (W .length) H n x) (even-kept (W .length) H n x)) (goes (kept-none room x)) (hasLow H n)
+      either four-rows x _ _ (admits four-rows 4 fiveThreeFilter k (W .length) (2 * n) x (evenRow (W .length) H n x) (even-kept (W .length) H n x))
+      (stays four W H x) (hasLow H n)
 
-  odd-past : (n : ℕ) (x : ℕ → ℤ) → Keeps room x (oddMade admitted k (W .length) H n x)
+  odd-past : (n : ℕ) (x : ℕ → ℤ) → Keeps four-rows x (oddMade admitted k (W .length) H n x)
   unfolding oddMade
-  odd-past zero x = goes (kept-none room x)
-  odd-past (suc m) x = admits room k (W .length) (2 * m + 1) x (oddRow (W .length) H m x) (odd-kept (W .length) H m x)
+  odd-past zero x = stays four W H x
+  odd-past (suc m) x = admits four-rows 4 fiveThreeFilter k (W .length) (2 * m + 1) x (oddRow (W .length) H m x) (odd-kept (W .length) H m x)
 
-  lone-past : (q : ℕ) (x : ℕ → ℤ) → Keeps room x (loneMade admitted k (W .length) q x)
-  unfolding loneMade
-  lone-past q x =
-      either room x _ _ (admits room k (W .length) q x (rowHalved (W .length) q x) (halved-kept (W .length) x q)) stops (rowIsEven (W .length) q x)
-
-  last-past : (n : ℕ) (x : ℕ → ℤ) → Keeps room x (lastMade admitted k (W .length) H n x)
+  last-past : (n : ℕ) (x : ℕ → ℤ) → Keeps four-rows x (lastMade admitted k (W .length) H n x)
   unfolding lastMade
   last-past n x =
-      either room x _ _
-      (either room x _ _ (lone-past (2 * n + 1) x)
-      (admits room k (W .length) (2 * n + 1) x (oddRow (W .length) H n x) (odd-kept (W .length) H n x)) (loneHigh H))
-      (goes (kept-none room x)) (eqb (2 * n + 2) (endOf H))
+      either four-rows x _ _
+      (either four-rows x _ _ (lone-past four W H fiveThreeFilter k (2 * n + 1) x)
+      (admits four-rows 4 fiveThreeFilter k (W .length) (2 * n + 1) x (oddRow (W .length) H n x) (odd-kept (W .length) H n x)) (loneHigh H))
+      (stays four W H x) (eqb (2 * n + 2) (endOf H))
 
-  made-past : (n : ℕ) (x : ℕ → ℤ) → Keeps room x (rowsMade admitted k (W .length) H n x)
+  made-past : (n : ℕ) (x : ℕ → ℤ) → Keeps four-rows x (rowsMade admitted k (W .length) H n x)
   unfolding rowsMade
-  made-past n x = bound room x _ _ (even-past n x) (λ y. bound room y _ _ (odd-past n y) (last-past n))
+  made-past n x = bound four-rows x _ _ (even-past n x) (λ y. bound four-rows y _ _ (odd-past n y) (last-past n))
 
-  set-past : (n : ℕ) (x : ℕ → ℤ) → Keeps room x (setMade admitted k W H n x)
+  set-past : (n : ℕ) (x : ℕ → ℤ) → Keeps four-rows x (setMade admitted k W H n x)
   unfolding setMade
-  set-past n x = bound room x _ _ (rows-past n x) (made-past n)
+  set-past n x = bound four-rows x _ _ (rows-past four W H unliftedInPlace n x) (made-past n)
 
-  pub worked-past : (last : Bool) (n : ℕ) (x : ℕ → ℤ) → Keeps room x (setWorked admitted last k W H n x)
+  pub worked-past : (last : Bool) (n : ℕ) (x : ℕ → ℤ) → Keeps four-rows x (setWorked admitted last k W H n x)
   unfolding setWorked
-  worked-past true n x = set-past n x
-  worked-past false n x = go (hasLow H n)
-    where
-      go : (t : Bool) → Keeps room x (setMade admitted k W H n (pick t (lowRowTaken W H n x) x))
-      go true = after room x (lowRowTaken W H n x) _ (low-kept W H n x) (set-past n (lowRowTaken W H n x))
-      go false = set-past n x
+  worked-past last n x = taken-past four W H (setMade admitted k W H n) (set-past n) last n x

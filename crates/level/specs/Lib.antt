@@ -7,6 +7,7 @@ pub mod Heights
 -- The way back: a set worked out, its rows tested.
 pub mod Tried
 pub mod Sets
+pub mod Stretch
 pub mod Slots
 pub mod Work
 pub mod Stands

@@ -8,6 +8,7 @@ use Rattle.numbers.specs.Signal.{pick, both}
 use Rattle.lifting.specs.Line.{lo}
 use Rattle.lifting.specs.Grid.{Side, count}
 use Rattle.lifting.specs.Halves.{fronted}
+use Rattle.lifting.specs.Filter.{Filter}
 use Rattle.lifting.specs.FiveThree.{fiveThreeFilter}
 use Rattle.wavelet.specs.Limits.{maxLevels, range}
 use Rattle.wavelet.specs.Order.{lastSet}
@@ -20,33 +21,47 @@ widest = 65536
 abbrev pub tallest : ℕ
 tallest = 4294967295
 
--- the memory that a level of the columns W works in: its own four rows and, below the last level, those of the next, whose row it takes
-abbrev pub workLength : Bool → Side → ℕ
-workLength last W = 4 * W .length + 4 * pick last 0 (count lo W)
+-- the memory that a level of the columns W works in: its own rows and, below the last level, those of the next, whose row it takes
+abbrev pub workLengthBy : ℕ → Bool → Side → ℕ
+workLengthBy rows last W = rows * W .length + rows * pick last 0 (count lo W)
 
--- set n of a level of the columns W and the rows H can be worked out in a memory of m numbers; its rows are low-low values of level k
-unfoldable pub workable : Bool → ℕ → Side → Side → ℕ → ℕ → Bool
-workable last k W H n m =
-    both (leb k maxLevels)
+-- set n of a level of the columns W and the rows H, of at most so many levels and with so many rows kept, can be worked out in a memory of m numbers; its rows
+-- are low-low values of level k
+unfoldable pub workableBy : ℕ → ℕ → Bool → ℕ → Side → Side → ℕ → ℕ → Bool
+workableBy levels rows last k W H n m =
+    both (leb k levels)
     (both (leb (W .length) widest)
     (both (leb (H .length) tallest)
     (both (ltb 0 (H .length))
     (both (leb n (lastSet H))
-    (leb (workLength last W) m)))))
+    (leb (workLengthBy rows last W) m)))))
 
 -- the answer of working it out: 5 where it can not, 14 where a row that it makes does not fit or has an odd number that would be halved
 abbrev pub workAnswer : Bool → Tried → ℕ
 workAnswer room t = pick room (pick (fits t) 0 14) 5
 
 -- what stands there afterwards, x before: the set worked out; zeros in the level's own stretch where a number does not fit
-unfoldable pub workLeft : Side → Bool → Tried → (ℕ → ℤ) → ℕ → ℤ
-workLeft W room t x = pick room (memory (fronted (4 * W .length) (λ _. pos 0) x) t) x
+unfoldable pub workLeftBy : ℕ → Side → Bool → Tried → (ℕ → ℤ) → ℕ → ℤ
+workLeftBy rows W room t x = pick room (memory (fronted (rows * W .length) (λ _. pos 0) x) t) x
 
 -- nothing changed from place n on
 pub record Kept (n : ℕ) (x y : ℕ → ℤ) : Type 0 where
   pub same : (j : ℕ) → n ≤ j → y j ≡ x j
 
 -- the least value that the rows of level k's low-low part may have: 0 for heights, k = 0
-unfoldable pub lowestOf : ℕ → ℤ
-lowestOf zero = pos 0
-lowestOf (suc k) = pos 0 -ℤ pos (range fiveThreeFilter (suc k))
+unfoldable pub lowestBy : Filter → ℕ → ℤ
+lowestBy F zero = pos 0
+lowestBy F (suc k) = pos 0 -ℤ pos (range F (suc k))
+
+-- ---- at the 5/3
+abbrev pub workLength : Bool → Side → ℕ
+workLength = workLengthBy 4
+
+abbrev pub workable : Bool → ℕ → Side → Side → ℕ → ℕ → Bool
+workable = workableBy maxLevels 4
+
+abbrev pub workLeft : Side → Bool → Tried → (ℕ → ℤ) → ℕ → ℤ
+workLeft = workLeftBy 4
+
+abbrev pub lowestOf : ℕ → ℤ
+lowestOf = lowestBy fiveThreeFilter

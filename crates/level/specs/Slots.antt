@@ -1,70 +1,39 @@
--- A level's memory: four rows of as many numbers as it has columns, each in halves. The level's rows are told by their coordinates past the last even
--- coordinate that is not after its start: row r is at start % 2 + r, and set n has the rows at 2n (low) and 2n + 1 (high). The row at q stands in slot q mod 4:
--- there its coefficients are collected, and there they become the row.
+-- The 5/3 level's stretch on the way back: four rows, the row at q in slot q mod 4. Every definition is the stretch's (Stretch), at four rows.
 use mathlib.Core.Bool.{Bool}
-use Prim.Native.Nat.{ℕ, _+_, _-_, _*_, _%_}
+use Prim.Native.Nat.{ℕ}
 use lib.IntN.{ℤ}
-use lib.Signed.{shrZ}
-use Rattle.numbers.specs.Signal.{windowed, spliced}
-use Rattle.numbers.specs.Tests.{every}
-use Rattle.lifting.specs.Line.{Half, lo, hi}
-use Rattle.lifting.specs.Grid.{Side, count, joined, isEven}
-use Rattle.lifting.specs.GridHalves.{halvesOf, unliftedInPlace, hasLineIn}
-use Rattle.lifting.specs.Rows.{rowChanged}
-use Rattle.wavelet.specs.Bands.{Band, across, down}
-use Rattle.wavelet.specs.Levels.{next}
-use Rattle.wavelet.specs.Order.{firstSet}
+use Rattle.lifting.specs.Grid.{Side}
+use Rattle.lifting.specs.GridHalves.{unliftedInPlace}
+use Rattle.wavelet.specs.Bands.{Band}
+use Rattle.level.specs.Stretch as stretch
+unfoldable pub use Rattle.level.specs.Stretch.{local, rowOfSet, halfPlace}
 
 abbrev pub slot : ℕ → ℕ
-slot q = q % 4
+slot = stretch.slot 4
 
--- where the row at q begins, of w columns
-unfoldable pub rowPlace : ℕ → ℕ → ℕ
-rowPlace w q = slot q * w
+abbrev pub rowPlace : ℕ → ℕ → ℕ
+rowPlace = stretch.rowPlace 4
 
--- where row r is, of rows that start at coordinate s
-unfoldable pub local : ℕ → ℕ → ℕ
-local s r = s % 2 + r
+abbrev pub bandFed : Side → Band → ℕ → (ℕ → ℤ) → (ℕ → ℤ) → ℕ → ℤ
+bandFed = stretch.bandFed 4
 
--- where the low row, or the high row, of set n is
-unfoldable pub rowOfSet : Half → ℕ → ℕ
-rowOfSet lo n = 2 * n
-rowOfSet hi n = 2 * n + 1
+abbrev pub rowIn : ℕ → ℕ → (ℕ → ℤ) → ℕ → ℤ
+rowIn = stretch.rowIn 4
 
--- where a half of a row begins
-unfoldable pub halfPlace : Half → Side → ℕ
-halfPlace lo W = 0
-halfPlace hi W = count lo W
+abbrev pub rowUnlifted : Side → ℕ → (ℕ → ℤ) → ℕ → ℤ
+rowUnlifted = stretch.rowUnlifted 4 unliftedInPlace
 
--- the row of a band of set n, the numbers v, fed
-unfoldable pub bandFed : Side → Band → ℕ → (ℕ → ℤ) → (ℕ → ℤ) → ℕ → ℤ
-bandFed W b n v x = spliced (rowPlace (W .length) (rowOfSet (down b) n) + halfPlace (across b) W) (count (across b) W) v x
+abbrev pub rowHasLine : Side → ℕ → (ℕ → ℤ) → Bool
+rowHasLine = stretch.rowHasLine 4
 
--- the row in halves that stands in the slot of the row at q
-unfoldable pub rowIn : ℕ → ℕ → (ℕ → ℤ) → ℕ → ℤ
-rowIn w q x = windowed (rowPlace w q) w x
+abbrev pub rowBy : (ℤ → ℤ → ℤ → ℤ) → ℕ → ℕ → ℕ → ℕ → (ℕ → ℤ) → ℕ → ℤ
+rowBy = stretch.rowBy 4
 
--- the row at q lifted back along the row, and whether it is a line's
-unfoldable pub rowUnlifted : Side → ℕ → (ℕ → ℤ) → ℕ → ℤ
-rowUnlifted W q x = spliced (rowPlace (W .length) q) (W .length) (unliftedInPlace W (rowIn (W .length) q x)) x
+abbrev pub rowHalved : ℕ → ℕ → (ℕ → ℤ) → ℕ → ℤ
+rowHalved = stretch.rowHalved 4
 
-unfoldable pub rowHasLine : Side → ℕ → (ℕ → ℤ) → Bool
-rowHasLine W q x = hasLineIn W (rowIn (W .length) q x)
+abbrev pub rowIsEven : ℕ → ℕ → (ℕ → ℤ) → Bool
+rowIsEven = stretch.rowIsEven 4
 
--- the row at t changed by f of its own numbers and those of the rows at l and r in the same columns
-unfoldable pub rowBy : (ℤ → ℤ → ℤ → ℤ) → ℕ → ℕ → ℕ → ℕ → (ℕ → ℤ) → ℕ → ℤ
-rowBy f w t l r x = rowChanged f w w (slot t) (slot l) (slot r) x
-
--- the row at q halved, and whether each of its numbers is even
-unfoldable pub rowHalved : ℕ → ℕ → (ℕ → ℤ) → ℕ → ℤ
-rowHalved w q x = spliced (rowPlace w q) w (λ i. shrZ (rowIn w q x i) 2) x
-
-unfoldable pub rowIsEven : ℕ → ℕ → (ℕ → ℤ) → Bool
-rowIsEven w q x = every w (λ i. isEven (x (rowPlace w q + i)))
-
--- The low-low row of set n is a row of the next level, whose memory follows this one: from halves into its own order, to the low half of the row at 2n.
-unfoldable pub lowRowTaken : Side → Side → ℕ → (ℕ → ℤ) → ℕ → ℤ
-lowRowTaken W H n x =
-    spliced (rowPlace (W .length) (2 * n)) (count lo W)
-    (joined (next W) (halvesOf (next W) (windowed (4 * W .length + rowPlace (count lo W) (local (next H .start) (n - firstSet H lo))) (count lo W) x)))
-    x
+abbrev pub lowRowTaken : Side → Side → ℕ → (ℕ → ℤ) → ℕ → ℤ
+lowRowTaken = stretch.lowRowTaken 4

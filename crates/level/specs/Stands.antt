@@ -9,16 +9,19 @@ use Rattle.lifting.specs.Line.{Half, lo, hi}
 use Rattle.lifting.specs.Grid.{Side, count, parted, hasLine}
 use Rattle.lifting.specs.Filter.{Filter}
 use Rattle.lifting.specs.FiveThree.{fiveThreeFilter}
-use Rattle.wavelet.specs.Bands.{Grid, Band, across, down, bandOf, rowsUnlifted, levelBack}
+use Rattle.wavelet.specs.Bands.{Grid, Band, bandOf, rowsUnlifted, levelBack}
 use Rattle.wavelet.specs.Maps.{valueFits}
-use Rattle.wavelet.specs.Order.{firstSet, setRow, setHas}
+use Rattle.wavelet.specs.Order.{firstSet}
 use Rattle.wavelet.specs.Steps.{setOf}
-use Rattle.level.specs.Slots.{rowPlace, local, rowOfSet, halfPlace}
-use Rattle.level.specs.Work.{endOf}
+use Rattle.level.specs.Stretch as stretch
+use Rattle.level.specs.Stretch.{local, endOf}
 
--- in the slot of the row at q stands a row by its halves: two band rows, or the even and the odd coordinates of a line
+-- a row by its halves in the slot of the row at q, and a row of a band of set n
 abbrev pub RowStands : Side → (ℕ → ℤ) → ℕ → (Half → ℕ → ℤ) → Type 0
-RowStands W x q c = (h : Half) (i : ℕ) → i < count h W → x (rowPlace (W .length) q + (halfPlace h W + i)) ≡ c h i
+RowStands = stretch.RowStands 4
+
+abbrev pub BandStands : Side → Side → (Band → Grid) → ℕ → (ℕ → ℤ) → Band → Type 0
+BandStands = stretch.BandStands 4
 
 -- no number that set n halves is odd: its band rows are lines', and so are the columns of the rows that it makes, by the filter F at the look-ahead a
 pub record SetHasBy (F : Filter) (a : ℕ) (W H : Side) (p : Band → Grid) (n : ℕ) : Type 0 where
@@ -46,12 +49,6 @@ pub record SetLeaves (k : ℕ) (W H : Side) (p : Band → Grid) (n : ℕ) (x : �
 pub record SetBefore (W H : Side) (p : Band → Grid) (n : ℕ) (x : ℕ → ℤ) : Type 0 where
   pub even : (m : ℕ) → n ≡ suc m → firstSet H lo ≤ m → RowStands W x (2 * m) (parted W (levelBack fiveThreeFilter wrap32 W H p (2 * m - firstSet H lo)))
   pub high : (m : ℕ) → n ≡ suc m → RowStands W x (2 * m + 1) (parted W (rowsUnlifted fiveThreeFilter wrap32 W p hi m))
-
--- the row of band c of set n, if there is one
-abbrev pub BandStands : Side → Side → (Band → Grid) → ℕ → (ℕ → ℤ) → Band → Type 0
-BandStands W H p n x c =
-    setHas W H c n ≡ true → (i : ℕ) → i < count (across c) W →
-    x (rowPlace (W .length) (rowOfSet (down c) n) + (halfPlace (across c) W + i)) ≡ p c (setRow H c n) i
 
 -- ---- what stands in a level's memory, whatever the level does
 pub record BackMeaning : Type 1 where

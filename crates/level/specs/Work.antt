@@ -3,28 +3,21 @@
 -- Document 01, "Back: rows, then columns": along the row, then the even row from its low row and the high rows next to it, then the odd rows.
 -- Q-3: an only column, or an only row, at an odd coordinate is halved; where a number of it is odd, nothing goes on (14).
 use mathlib.Core.Bool.{Bool}
-use Prim.Native.Nat.{ℕ, zero, suc, _+_, _-_, _*_, _%_}
+use Prim.Native.Nat.{ℕ, zero, suc, _+_, _-_, _*_}
 use lib.IntN.{ℤ}
-use lib.Dec.{ltb, leb, eqb}
+use lib.Dec.{ltb, eqb}
 use Rattle.numbers.specs.Signal.{pick}
-use Rattle.numbers.specs.Tests.{every}
 use Rattle.numbers.specs.Word.{wrap32}
 use Rattle.lifting.specs.Line.{lo, hi, unupdated, unpredicted}
 use Rattle.lifting.specs.Grid.{Side, count, loneHigh}
+use Rattle.lifting.specs.GridHalves.{unliftedInPlace}
 use Rattle.lifting.specs.Passes.{near}
 use Rattle.lifting.specs.FiveThree.{fiveThreeFilter}
-use Rattle.wavelet.specs.Maps.{valueFits}
 use Rattle.wavelet.specs.Order.{firstSet}
-use Rattle.level.specs.Tried.{Tried, passed, failed, outcome, bind}
-use Rattle.level.specs.Slots.{rowPlace, rowUnlifted, rowHasLine, rowBy, rowHalved, rowIsEven, lowRowTaken}
-
--- the first place past the rows, counted as the places of rows are
-unfoldable pub endOf : Side → ℕ
-endOf H = H .start % 2 + H .length
-
--- does set n have a low row? The first set of a level that starts at an odd coordinate has none.
-unfoldable pub hasLow : Side → ℕ → Bool
-hasLow H n = leb (firstSet H lo) n
+use Rattle.level.specs.Tried.{Tried, passed, bind}
+use Rattle.level.specs.Stretch as stretch
+unfoldable pub use Rattle.level.specs.Stretch.{endOf, hasLow, Admission}
+use Rattle.level.specs.Slots.{rowBy}
 
 -- the set nearest to set i that has a low row, or a high row
 unfoldable pub lowNear : Side → ℕ → ℕ
@@ -34,17 +27,17 @@ unfoldable pub highNear : Side → ℕ → ℕ
 highNear H i = near (count hi H) i
 
 -- along the row: one row, and the rows of the set
-unfoldable pub lineTried : Side → ℕ → (ℕ → ℤ) → Tried
-lineTried W q x = outcome (rowHasLine W q x) (rowUnlifted W q x)
+abbrev pub lineTried : Side → ℕ → (ℕ → ℤ) → Tried
+lineTried = stretch.lineTried 4 unliftedInPlace
 
-unfoldable pub lowTried : Side → Side → ℕ → (ℕ → ℤ) → Tried
-lowTried W H n x = pick (hasLow H n) (lineTried W (2 * n) x) (passed x)
+abbrev pub lowTried : Side → Side → ℕ → (ℕ → ℤ) → Tried
+lowTried = stretch.lowTried 4 unliftedInPlace
 
-unfoldable pub highTried : Side → Side → ℕ → (ℕ → ℤ) → Tried
-highTried W H n x = pick (ltb (2 * n + 1) (endOf H)) (lineTried W (2 * n + 1) x) (passed x)
+abbrev pub highTried : Side → Side → ℕ → (ℕ → ℤ) → Tried
+highTried = stretch.highTried 4 unliftedInPlace
 
-unfoldable pub setUnlifted : Side → Side → ℕ → (ℕ → ℤ) → Tried
-setUnlifted W H n x = bind (lowTried W H n x) (highTried W H n)
+abbrev pub setUnlifted : Side → Side → ℕ → (ℕ → ℤ) → Tried
+setUnlifted = stretch.setUnlifted 4 unliftedInPlace
 
 -- the row at 2n by the high rows next to it, the nearest one twice at an end; an only row stays
 unfoldable pub evenRow : ℕ → Side → ℕ → (ℕ → ℤ) → ℕ → ℤ
@@ -54,16 +47,16 @@ evenRow w H n x = pick (ltb 1 (H .length)) (rowBy (unupdated wrap32) w (2 * n) (
 unfoldable pub oddRow : ℕ → Side → ℕ → (ℕ → ℤ) → ℕ → ℤ
 oddRow w H m x = rowBy (unpredicted wrap32) w (2 * m + 1) (2 * lowNear H m) (2 * lowNear H (m + 1)) x
 
--- What is done to the row at q, a row of low-low values of level k that has just been made, before it is used: it is left, or changed, or nothing goes on.
-abbrev pub Admission : Type 0
-Admission = ℕ → ℕ → ℕ → (ℕ → ℤ) → Tried
-
 -- the test of 14: the row is left if all of it fits
-unfoldable pub rowFits : ℕ → ℕ → ℕ → (ℕ → ℤ) → Bool
-rowFits k w q x = every w (λ i. valueFits fiveThreeFilter k (x (rowPlace w q + i)))
+abbrev pub rowFits : ℕ → ℕ → ℕ → (ℕ → ℤ) → Bool
+rowFits = stretch.rowFits 4 fiveThreeFilter
 
-unfoldable pub admitted : Admission
-admitted k w q x = outcome (rowFits k w q x) x
+abbrev pub admitted : Admission
+admitted = stretch.admitted 4 fiveThreeFilter
+
+-- the low-low row, if there is one, from the next level
+abbrev pub lowTaken : Bool → Side → Side → ℕ → (ℕ → ℤ) → ℕ → ℤ
+lowTaken = stretch.lowTaken 4
 
 -- ---- the rows of set n, one after another, each admitted as `admit` says
 module _ (admit : Admission) where
@@ -81,8 +74,8 @@ module _ (admit : Admission) where
   pairMade k w H n x = bind (evenMade k w H n x) (oddMade k w H n)
 
   -- an only row, at an odd coordinate
-  unfoldable pub loneMade : ℕ → ℕ → ℕ → (ℕ → ℤ) → Tried
-  loneMade k w q x = pick (rowIsEven w q x) (admit k w q (rowHalved w q x)) failed
+  abbrev pub loneMade : ℕ → ℕ → ℕ → (ℕ → ℤ) → Tried
+  loneMade = stretch.loneMade 4 admit
 
   -- the row at 2n + 1, if it is the last
   unfoldable pub lastMade : ℕ → ℕ → Side → ℕ → (ℕ → ℤ) → Tried
@@ -99,4 +92,4 @@ module _ (admit : Admission) where
 
   -- the whole of it: below level L the low-low row, if there is one, is taken from the next level first
   unfoldable pub setWorked : Bool → ℕ → Side → Side → ℕ → (ℕ → ℤ) → Tried
-  setWorked last k W H n x = setMade k W H n (pick last x (pick (hasLow H n) (lowRowTaken W H n x) x))
+  setWorked last k W H n x = setMade k W H n (lowTaken last W H n x)

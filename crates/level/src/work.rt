@@ -21,7 +21,7 @@ ghost use Rattle.wavelet.specs.Limits.{maxLevels};
 ghost use Rattle.wavelet.specs.Order.{firstSet};
 ghost use Rattle.level.specs.Tried.{outcome};
 ghost use Rattle.level.specs.Slots.{rowPlace, lowRowTaken};
-ghost use Rattle.level.specs.Work.{hasLow, lowNear, highNear, lineTried, lowTried, highTried, setUnlifted, evenRow, oddRow, rowFits, admitted};
+ghost use Rattle.level.specs.Work.{lowNear, highNear, lowTaken, lineTried, lowTried, highTried, setUnlifted, evenRow, oddRow, rowFits, admitted};
 ghost use Rattle.level.specs.Work.{evenMade, oddMade, pairMade, loneMade, lastMade, rowsMade, setMade, setWorked};
 ghost use Rattle.level.specs.Rebuilding.{Kept, lowestOf};
 
@@ -308,8 +308,7 @@ fn take_low_row(stretch: &mut [i32], w: usize, h: usize, x: usize, y: usize, n: 
 // The same if the set has a low row.
 fn take_low(stretch: &mut [i32], last: bool, w: usize, h: usize, x: usize, y: usize, n: usize)
     requires { ⌜ (w ≤ 2 ^ 16) × (4 * w + 4 * pick last 0 (count lo (side x w)) ≤ length (now stretch)) × (n ≤ 2 ^ 32) ⌝ }
-    ensures { λ _. ⌜ at (now (stretch .exit)) ≡ pick last (at (now (stretch .entry)))
-        (pick (hasLow (side y h) n) (lowRowTaken (side x w) (side y h) n (at (now (stretch .entry)))) (at (now (stretch .entry)))) ⌝ }
+    ensures { λ _. ⌜ at (now (stretch .exit)) ≡ lowTaken last (side x w) (side y h) n (at (now (stretch .entry))) ⌝ }
     ensures { λ _. ⌜ Kept (4 * w) (at (now (stretch .entry))) (at (now (stretch .exit))) ⌝ }
 {
     if last {

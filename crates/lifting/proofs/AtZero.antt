@@ -1,20 +1,18 @@
 -- A line that starts at coordinate 0 is a line of document 01: what `Grid` and `GridHalves` have on the side (0, N) is what `Line` and `Halves` have at N.
 -- Assumes nothing.
-use mathlib.Core.Path.{_≡_, refl, sym, ap, ap₂, _∙_, fun-ext}
-use mathlib.Core.Bool.{Bool, true, false}
-use Prim.Native.Nat.{ℕ, _+_, _-_, _*_, _/_, _%_, _≤_, _<_, min}
+use mathlib.Core.Path.{_≡_, refl, sym, ap, _∙_, fun-ext}
+use mathlib.Core.Bool.{true}
+use Prim.Native.Nat.{ℕ, _+_, _-_, _*_, _/_, _%_, _≤_, _<_}
 use native.Mathlib.Decide.{decLt, ℕ-discrete}
 use native.Mathlib.Omega.{arith}
 use lib.IntN.{ℤ}
-use borrow.Author.Tests.{eq-eqb, ne-eqb, lt-ltb, le-ltb}
-use Rattle.numbers.specs.Signal.{pick, both}
+use borrow.Author.Tests.{eq-eqb, ne-eqb, le-ltb}
 use Rattle.numbers.specs.Word.{wrap32}
 use Rattle.lifting.specs.Line.{Half, lo, hi, predicted, updated, unpredicted, unupdated}
 use Rattle.lifting.specs.Line as line
-use Rattle.lifting.specs.Grid.{side, half, place, count, parted, joined, lineForward, lineHalvesBack, lineBack, hasLine, loneHigh}
+use Rattle.lifting.specs.Grid.{side, place, count, joined, lineForward, lineHalvesBack, lineBack, hasLine, loneHigh}
 use Rattle.lifting.specs.Halves as halves
-use Rattle.lifting.specs.GridHalves.{halvesOf, inHalves, liftedInPlace, unliftedInPlace, hasLineIn, forwardInto, backwardInto, highsLaid}
-use Rattle.lifting.specs.Passes.{near}
+use Rattle.lifting.specs.GridHalves.{halvesOf, inHalves, liftedInPlace, unliftedInPlace, hasLineIn, forwardInto, backwardInto}
 use Rattle.lifting.proofs.LineNear as line-laws
 use Rattle.lifting.proofs.GridLaws.{counts, high-near, low-near, even-near, odd-near, low-one, even-one, half-even, half-odd, joined-reads, halves-are}
 use Rattle.lifting.proofs.GridLaws.{halves-low, halves-high, halves-past, front-in, front-past}
@@ -32,11 +30,6 @@ place-lo N n = omega arith
 pub place-hi : (N n : ℕ) → place (side 0 N) hi n ≡ 2 * n + 1
 unfolding place
 place-hi N n = omega arith
-
-pub parted-zero : (N : ℕ) (x : ℕ → ℤ) (h : Half) (n : ℕ) → parted (side 0 N) x h n ≡ line.parted x h n
-unfolding parted line.parted
-parted-zero N x lo n = ap x (place-lo N n)
-parted-zero N x hi n = ap x (place-hi N n)
 
 pub joined-zero : (N : ℕ) (p : Half → ℕ → ℤ) → joined (side 0 N) p ≡ line.joined p
 unfolding joined line.joined
@@ -178,10 +171,6 @@ backward-into-zero N y z =
           ∙ sym (front-past N (line.lineBack wrap32 N (halves.halvesOf N y)) z j (omega arith))
     ]
 
-pub laid-zero : (N : ℕ) (y z : ℕ → ℤ) → highsLaid (side 0 N) y z ≡ halves.highsLaid N y z
-unfolding highsLaid halves.highsLaid
-laid-zero N y z = fun-ext λ j. simp (count-zero lo N)
-
 -- every line is lifted back: none ends in 14
 pub has-any : (N : ℕ) (c : Half → ℕ → ℤ) → hasLine (side 0 N) c ≡ true
 unfolding hasLine loneHigh
@@ -194,26 +183,3 @@ never-lone N e = let z : _≡_ {A = ℕ} 0 1 = cc in absurd (omega arith)
 pub has-zero : (N : ℕ) (y : ℕ → ℤ) → hasLineIn (side 0 N) y ≡ true
 unfolding hasLineIn hasLine loneHigh
 has-zero N y = refl
-
--- ---- as the calls say it: what they leave, and what they answer
-pub unlift-zero : (N : ℕ) (y : ℕ → ℤ) → pick (hasLineIn (side 0 N) y) (unliftedInPlace (side 0 N) y) y ≡ halves.unliftedInPlace N y
-unlift-zero N y = simp (has-zero N y) (unlifted-zero N y)
-
-pub unlift-by-zero : (t : Bool) (N : ℕ) (y z : ℕ → ℤ)
-    → pick (both t (hasLineIn (side 0 N) (highsLaid (side 0 N) y z))) (halves.fronted N (unliftedInPlace (side 0 N) (highsLaid (side 0 N) y z)) z) z ≡ pick t
-    (halves.fronted N (halves.unliftedInPlace N (halves.highsLaid N y z)) z) z
-unlift-by-zero false N y z = refl
-unlift-by-zero true N y z =
-    simp (has-zero N (highsLaid (side 0 N) y z))
-    (ap (λ (u : ℕ → ℤ). halves.fronted N u z) (unlifted-zero N (highsLaid (side 0 N) y z) ∙ ap (halves.unliftedInPlace N) (laid-zero N y z)))
-
-pub forward-call-zero : (t : Bool) (N : ℕ) (x z : ℕ → ℤ) → pick t (forwardInto (side 0 N) x z) z ≡ pick t (halves.forwardInto N x z) z
-forward-call-zero t N x z = ap (λ (u : ℕ → ℤ). pick t u z) (forward-into-zero N x z)
-
-pub backward-call-zero : (t : Bool) (N : ℕ) (y z : ℕ → ℤ)
-    → pick (both t (hasLineIn (side 0 N) y)) (backwardInto (side 0 N) y z) z ≡ pick t (halves.backwardInto N y z) z
-backward-call-zero false N y z = refl
-backward-call-zero true N y z = simp (has-zero N y) (backward-into-zero N y z)
-
-pub answer-zero : (t : Bool) (N : ℕ) (y : ℕ → ℤ) → _≡_ {A = ℕ} (pick t (pick (hasLineIn (side 0 N) y) 0 14) 5) (pick t 0 5)
-answer-zero t N y = simp (has-zero N y)

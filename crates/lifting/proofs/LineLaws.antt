@@ -1,14 +1,13 @@
 -- The laws of a line as the calls use them: what each value goes by (cited from FiveThree, where the mirror is worked out) and what stands where in memory.
 -- Assumes nothing.
-use mathlib.Core.Path.{_≡_, refl, sym, ap, _∙_, fun-ext}
+use mathlib.Core.Path.{_≡_, refl, ap, _∙_, fun-ext}
 use Prim.Native.Nat.{ℕ, _+_, _-_, _*_, _/_, _%_, _≤_, _<_, min}
 use native.Mathlib.Decide.{decLt, ℕ-discrete}
 use native.Mathlib.Omega.{arith}
 use lib.IntN.{ℤ}
 use borrow.Author.Tests.{lt-ltb, le-ltb, eq-eqb, ne-eqb}
 use Rattle.lifting.specs.Line.{Half, lo, hi, count, predicted, updated, unpredicted, unupdated, high, low, backEven, backOdd, parted, joined, lineForward}
-use Rattle.numbers.specs.Word.{wrap32}
-use Rattle.lifting.specs.Halves.{halvesOf, inHalves, fronted, liftedInPlace, highsLaid}
+use Rattle.lifting.specs.Halves.{inHalves, fronted, highsLaid}
 use Rattle.lifting.proofs.LineNear.{high-near, low-near, even-near, odd-near, joined-place}
 use Rattle.lifting.proofs.LineTheorems.{forward-reads}
 
@@ -51,11 +50,6 @@ joined-parted x i =
 module _ (keep : ℤ → ℤ) (N : ℕ) (g : 1 < N) where
   pub high-is : (x : ℕ → ℤ) (n : ℕ) → n < count hi N → high keep N x n ≡ predicted keep (x (2 * n + 1)) (x (2 * n)) (x (2 * min (n + 1) (count lo N - 1)))
   high-is = high-near keep N
-
-  pub high-parted : (x : ℕ → ℤ) (n : ℕ) → n < count hi N
-      → high keep N x n ≡ predicted keep (parted x hi n) (parted x lo n) (parted x lo (min (n + 1) (count lo N - 1)))
-  unfolding parted
-  high-parted = high-is
 
   pub low-is : (x : ℕ → ℤ) (n : ℕ) → n < count lo N → low keep N x n ≡ updated keep (x (2 * n)) (high keep N x (n - 1)) (high keep N x (min n (count hi N - 1)))
   low-is x n h = low-near keep N x n g h
@@ -124,27 +118,6 @@ module _ (N : ℕ) (p : Half → ℕ → ℤ) (z : ℕ → ℤ) where
   unfolding fronted
   front-past x j h = simp (le-ltb j N h)
 
-  -- memory with a line at its front is y, where y has the line's two halves at the even and the odd places
-  pub front-are : (y : ℕ → ℤ) → ((n : ℕ) → n < count lo N → p lo n ≡ y (2 * n)) → ((n : ℕ) → n < count hi N → p hi n ≡ y (2 * n + 1))
-      → ((j : ℕ) → N ≤ j → z j ≡ y j) → fronted N (joined p) z ≡ y
-  front-are y l h r =
-      let both = counts N in
-      let c = count-hi N in
-      fun-ext λ j.
-      elim (decLt j N) [
-        | no b ↦ front-past (joined p) j (omega arith) ∙ r j (omega arith)
-        | yes b ↦
-            front-in (joined p) j b
-            ∙ elim (ℕ-discrete (j % 2) 0) [
-              | yes e ↦
-                  let k : j ≡ 2 * (j / 2) = omega arith in
-                  ap (joined p) k ∙ joined-even p (j / 2) ∙ l (j / 2) (omega arith) ∙ ap y (sym k)
-              | no d ↦
-                  let k : j ≡ 2 * (j / 2) + 1 = omega arith in
-                  ap (joined p) k ∙ joined-odd p (j / 2) ∙ h (j / 2) (omega arith) ∙ ap y (sym k)
-            ]
-      ]
-
 -- ---- a row whose high half stands in another
 module _ (N : ℕ) (y z : ℕ → ℤ) (j : ℕ) where
   pub laid-low : j < count lo N → highsLaid N y z j ≡ z j
@@ -154,13 +127,3 @@ module _ (N : ℕ) (y z : ℕ → ℤ) (j : ℕ) where
   pub laid-high : count lo N ≤ j → highsLaid N y z j ≡ y j
   unfolding highsLaid
   laid-high b = simp (le-ltb j (count lo N) b)
-
--- a line of one number or none stays
-pub lifted-one : (N : ℕ) (y : ℕ → ℤ) → N ≤ 1 → liftedInPlace N y ≡ y
-unfolding liftedInPlace lineForward halvesOf
-lifted-one N y g =
-    let c = count-hi N in
-    halves-are N _ y y
-    (λ n h. low-one wrap32 N g (joined (halvesOf N y)) n ∙ joined-even (halvesOf N y) n)
-    (λ n h. absurd (omega arith))
-    (λ j h. refl)

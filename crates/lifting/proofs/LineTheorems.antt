@@ -125,10 +125,6 @@ module _ (keep : ℤ → ℤ) (N : ℕ) (c : Half → ℕ → ℤ) (n : ℕ) whe
       ∙ even-near keep N (c lo) (c hi) n l b
       ∙ ap (λ (i : ℕ). unupdated keep (c lo n) (c hi (n - 1)) (c hi i)) e
 
-  pub even-mid : 2 * n + 1 < N → lineBack keep N c (2 * n) ≡ unupdated keep (c lo n) (c hi (n - 1)) (c hi n)
-  unfolding count
-  even-mid l = even-by n (omega arith) (omega arith) (omega arith)
-
   pub even-end : 0 < n → N ≡ 2 * n + 1 → lineBack keep N c (2 * n) ≡ unupdated keep (c lo n) (c hi (n - 1)) (c hi (n - 1))
   unfolding count
   even-end l e = even-by (n - 1) (omega arith) (omega arith) (omega arith)
@@ -145,14 +141,6 @@ module _ (keep : ℤ → ℤ) (N : ℕ) (c : Half → ℕ → ℤ) (n : ℕ) whe
       ∙ odd-near keep N (c lo) (c hi) n b
       ∙ sym (ap₂ (unpredicted keep (c hi n)) (even-is keep N c n)
       (ap (lineBack keep N c) (sym e) ∙ even-is keep N c (min (n + 1) (count lo N - 1))))
-
-  pub odd-mid : 2 * n + 2 < N → lineBack keep N c (2 * n + 1) ≡ unpredicted keep (c hi n) (lineBack keep N c (2 * n)) (lineBack keep N c (2 * n + 2))
-  unfolding count
-  odd-mid l = odd-by (2 * n + 2) (omega arith) (omega arith)
-
-  pub odd-end : N ≡ 2 * n + 2 → lineBack keep N c (2 * n + 1) ≡ unpredicted keep (c hi n) (lineBack keep N c (2 * n)) (lineBack keep N c (2 * n))
-  unfolding count
-  odd-end e = odd-by (2 * n) (omega arith) (omega arith)
 
 ap₃ : (f : ℤ → ℤ → ℤ → ℤ) {x y a a′ b b′ : ℤ} → x ≡ y → a ≡ a′ → b ≡ b′ → f x a b ≡ f y a′ b′
 ap₃ f p q r = λ i. f (p i) (q i) (r i)

@@ -13,9 +13,6 @@ use Rattle.numbers.proofs.Integers.{each, lin}
 pub sixteenth-fits : (a : ℤ) → SFits w32 a → SFits w32 (shrZ a 16)
 sixteenth-fits = each _ λ p q. simp lin (omega arith)
 
-pub sixteenth-small : (a : ℤ) → SFits w32 a → natAbs (shrZ a 16) ≤ 134217728
-sixteenth-small = each _ λ p q. simp lin (omega arith)
-
 pub sixteenths-fit : (a b : ℤ) → SFits w32 a → SFits w32 b → SFits w32 (shrZ a 16 +ℤ shrZ b 16)
 sixteenths-fit = each _ λ p q. each _ λ r s. simp lin (omega arith)
 

@@ -103,9 +103,6 @@ gain-twice (suc (suc M)) = omega arith
 pub gain-more : (M : ℕ) → M ≤ gain M
 gain-more M = omega arith
 
-pub gain-up : (M M′ : ℕ) → M ≤ M′ → gain M ≤ gain M′
-gain-up M M′ h = omega arith
-
 sum-range : (M : ℕ) (a b : ℤ) → natAbs a ≤ M → natAbs b ≤ M → natAbs (a +ℤ b) ≤ 2 * M
 sum-range M = each _ λ p q. each _ λ r s. simp lin (omega arith)
 

@@ -1,10 +1,8 @@
 pub mod NeighbourLaws
-pub mod SlotLaws
-pub mod AdmitLaws
+pub mod EightRows
+pub mod RangeLaws
 pub mod KeptLaws
 pub mod WorkLaws
-pub mod RebuildingLaws
-pub mod RowsIn
 pub mod RowSets
 pub mod SetMade
 pub mod WorkedPast

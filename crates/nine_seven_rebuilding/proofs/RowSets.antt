@@ -1,9 +1,9 @@
 -- The rows that a row goes by as rows of sets, and the rows that a set makes. Assumes nothing.
-use mathlib.Core.Path.{_≡_, refl, sym, ap, _∙_}
+use mathlib.Core.Path.{_≡_, refl, ap, _∙_}
 use Prim.Native.Nat.{ℕ, zero, suc, _+_, _-_, _*_, _/_, _%_, min, _≤_, _<_}
 use native.Mathlib.Decide.{ℕ-discrete}
 use native.Mathlib.Omega.{arith}
-use Rattle.lifting.specs.Line.{Half, lo, hi}
+use Rattle.lifting.specs.Line.{lo, hi}
 use Rattle.lifting.specs.Grid.{Side, place, count}
 use Rattle.lifting.proofs.GridLaws.{ahead}
 use Rattle.lifting.proofs.Neighbours.{left, right}

@@ -8,45 +8,41 @@ use native.Mathlib.Decide.{ℕ-discrete, decLt}
 use native.Mathlib.Omega.{arith}
 use lib.IntN.{ℤ}
 use lib.Signed.{shrZ}
-use lib.Dec.{T, ltb, leb}
+use lib.Dec.{ltb, leb}
 use borrow.Author.Tests.{lt-ltb, le-ltb, le-leb, lt-leb, leb-true, ltb-true}
 use Rattle.numbers.specs.Signal.{pick}
-use Rattle.numbers.specs.Tests.{every}
 use Rattle.numbers.specs.Word.{wrap32}
 use Rattle.numbers.proofs.Sweep.{both as both-hold}
 use Rattle.numbers.proofs.TestLaws.{every-each, each-every}
 use Rattle.lifting.specs.Line.{Half, lo, hi}
 use Rattle.lifting.specs.Grid.{Side, place, count, parted, loneHigh, isEven, hasLine}
-use Rattle.lifting.proofs.GridLaws.{place-in, in-place, by-place, joined-place}
+use Rattle.lifting.proofs.GridLaws.{place-in, joined-place}
 use Rattle.lifting.proofs.LoneLaws.{lone-high, has-lone, has-other}
 use Rattle.lifting.proofs.Neighbours.{left, right}
 use Rattle.nine_seven.specs.NineSeven.{unupdated, unpredicted, lineHalvesBack, lineBack}
+use Rattle.nine_seven.specs.Memory.{unliftedInPlace}
 use Rattle.nine_seven.proofs.MirrorLaws.{farBefore, farAfter}
 use Rattle.nine_seven.proofs.NineSevenLaws.{even-near, odd-near, even-one, odd-one}
 use Rattle.wavelet.specs.Bands.{Grid, Band, bandOf, rowsUnlifted, levelBack}
 use Rattle.wavelet.specs.Order.{firstSet, lastSet}
 use Rattle.level.specs.Tried.{Tried, failed, passed, bind}
-use Rattle.level.specs.Slots.{local, halfPlace}
-use Rattle.level.specs.Work.{endOf, hasLow}
+use Rattle.level.specs.Stretch as stretch
+use Rattle.level.specs.Stretch.{local, endOf, hasLow}
 use Rattle.level.specs.Stands.{SetHasBy, SetFitsBy}
-use Rattle.level.proofs.RowsIn.{half-inside, by-halves}
-use Rattle.level.proofs.SetMade.{Outcome, stops, goes, bind-outcome}
+use Rattle.level.proofs.RowsIn.{apart, Only, only-by, is-old, only-unlifted, line-is, by-is, only-halved, halved-is}
+use Rattle.level.proofs.TriedRows.{Outcome, stops, goes, bind-outcome, not-false, each-stands, stands-each, admit}
 use Rattle.wavelet.specs.Maps.{valueFits}
 use Rattle.wavelet.specs.Steps.{setOf}
 use Rattle.nine_seven.specs.NineSevenFilter.{nineSevenFilter}
-use Rattle.nine_seven_rebuilding.specs.Slots.{rowPlace, rowUnlifted, rowHasLine, rowByTwo, rowHalved, rowIsEven}
-use Rattle.nine_seven_rebuilding.specs.Work.{rowBefore, rowAfter, lineTried, lowTried, highTried, setUnlifted, evenRow, oddRow, evenDone, rowFits}
+use Rattle.nine_seven_rebuilding.specs.Slots.{rowUnlifted, rowHasLine, rowByTwo, rowHalved, rowIsEven}
+use Rattle.nine_seven_rebuilding.specs.Work.{rowBefore, rowAfter, lineTried, lowTried, highTried, setUnlifted, evenRow, oddRow, evenDone}
 use Rattle.nine_seven_rebuilding.specs.Work.{admitted, pairMade, ownEven, firstMade, earlierPair, earlierMade, ownMade, loneMade, lastMade, restMade}
 use Rattle.nine_seven_rebuilding.specs.Work.{rowsMade, setMade}
-use Rattle.nine_seven_rebuilding.specs.Stands.{SetBefore, SetLeaves}
+use Rattle.nine_seven_rebuilding.specs.Stands.{RowStands as Is, SetBefore, SetLeaves}
 use Rattle.nine_seven_rebuilding.proofs.WorkLaws.{others}
 use Rattle.nine_seven_rebuilding.proofs.RowSets.{low-before, low-after, high-before, high-after, high-far-before, high-far-after}
 use Rattle.nine_seven_rebuilding.proofs.RowSets.{before-in, after-in, evens-in, set-low, set-high, set-first, set-start, set-pair}
-use Rattle.nine_seven_rebuilding.proofs.RowsIn.{apart, Is, Only, only-two, only-four, is-old, only-unlifted, unlifted-is, line-is, two-is, four-is}
-use Rattle.nine_seven_rebuilding.proofs.RowsIn.{only-halved, halved-is}
-
-not-false : (t : Bool) → t ≡ true → t ≡ false → ⊥
-not-false t e f = subst T (sym e ∙ f) tt
+use Rattle.nine_seven_rebuilding.proofs.EightRows.{eight, only-four, four-is, unlifted-is}
 
 abbrev SetHas : Side → Side → (Band → Grid) → ℕ → Type 0
 SetHas = SetHasBy nineSevenFilter 2
@@ -130,35 +126,6 @@ module _ (k : ℕ) (W H : Side) (p : Band → Grid) where
   moved : (x : ℕ → ℤ) (q t : ℕ) (v : ℕ → ℤ) → q ≡ t → Is W x t (parted W v) → Is W x q (parted W v)
   moved x q t v e s = subst (λ (j : ℕ). Is W x j (parted W v)) (sym e) s
 
-  -- ---- a test of every number of a row, of those that stand there
-  fits-parted : (row : ℕ → ℤ) (P : ℤ → Bool) → ((a : Half) (i : ℕ) → i < count a W → P (parted W row a i) ≡ true) → (c : ℕ) → c < W .length → P (row c) ≡ true
-  unfolding parted
-  fits-parted row P f = by-place W (λ c. c < W .length → P (row c) ≡ true) (λ a i b. f a i (in-place W a i b))
-
-  each-stands : (P : ℤ → Bool) (q : ℕ) (x row : ℕ → ℤ) → Is W x q (parted W row) →
-      ((i : ℕ) → i < W .length → P (x (rowPlace (W .length) q + i)) ≡ true) →
-      (c : ℕ) → c < W .length → P (row c) ≡ true
-  each-stands P q x row s f = fits-parted row P (λ a i b. subst (λ v. P v ≡ true) (s a i b) (f (halfPlace a W + i) (half-inside a W i b)))
-
-  stands-each : (P : ℤ → Bool) (q : ℕ) (x row : ℕ → ℤ) → Is W x q (parted W row) → ((c : ℕ) → c < W .length → P (row c) ≡ true) →
-      (i : ℕ) → i < W .length →
-      P (x (rowPlace (W .length) q + i)) ≡ true
-  unfolding parted
-  stands-each P q x row s f =
-      by-halves W (λ j. P (x (rowPlace (W .length) q + j)) ≡ true)
-      (λ a i b. subst (λ v. P v ≡ true) (sym (s a i b)) (f (place W a i) (place-in W a i b)))
-
-  -- ---- the test of 14
-  admit : (P : (ℕ → ℤ) → Type 0) (n q r : ℕ) (x : ℕ → ℤ) → r < H .length → setOf 2 H r ≡ n → Is W x q (parted W (G r)) → (FitRow r → P x) →
-      Outcome (FitSet k W H p n) P (admitted k (W .length) q x)
-  unfolding admitted rowFits
-  admit P n q r x b m s f = go (rowFits k (W .length) q x) refl
-    where
-      go : (t : Bool) → rowFits k (W .length) q x ≡ t → Outcome (FitSet k W H p n) P (pick t (passed x) failed)
-      go true e = goes x (f (each-stands (valueFits nineSevenFilter k) q x (G r) s (every-each (W .length) _ e)))
-      go false e = stops (λ all. not-false (rowFits k (W .length) q x)
-          (each-every (W .length) _ (stands-each (valueFits nineSevenFilter k) q x (G r) s (λ c u. all .fit r c b m u))) e)
-
   -- ---- what a set needs
   pub record Needs (n : ℕ) (x : ℕ → ℤ) : Type 0 where
     pub low : b₀ ≤ n → Is W x (2 * n) (λ a. p (bandOf a lo) (n - b₀))
@@ -202,12 +169,12 @@ module _ (k : ℕ) (W H : Side) (p : Band → Grid) where
         Is W x q (λ a. p (bandOf a h) r) →
         (hasLine W (λ a. p (bandOf a h) r) ≡ true → Is W (rowUnlifted W q x) q (parted W (cols h r)) → P (rowUnlifted W q x)) →
         Outcome (FitSet k W H p n) P (lineTried W q x)
-    unfolding lineTried rowsUnlifted lineBack
+    unfolding stretch.lineTried rowsUnlifted lineBack
     line-tried P n h r q x m s f = go (rowHasLine W q x) refl
       where
         go : (t : Bool) → rowHasLine W q x ≡ t → Outcome (FitSet k W H p n) P (pick t (passed (rowUnlifted W q x)) failed)
-        go true e = goes (rowUnlifted W q x) (f (sym (line-is W q x _ s) ∙ e) (unlifted-is W q x _ s))
-        go false e = stops (λ all. not-false (rowHasLine W q x) (line-is W q x _ s ∙ m (all .has)) e)
+        go true e = goes (rowUnlifted W q x) (f (sym (line-is eight W q x _ s) ∙ e) (unlifted-is W q x _ s))
+        go false e = stops (λ all. not-false (rowHasLine W q x) (line-is eight W q x _ s ∙ m (all .has)) e)
 
     -- the low row lifted back
     record Low (n : ℕ) (x : ℕ → ℤ) : Type 0 where
@@ -217,14 +184,14 @@ module _ (k : ℕ) (W H : Side) (p : Band → Grid) where
       before : SetBefore W H p n x
       past : Past x
 
-    before-old : (n t : ℕ) (x y : ℕ → ℤ) → 2 * n ≤ t → t < 2 * n + 2 → Only (W .length) t x y → SetBefore W H p n x → SetBefore W H p n y
+    before-old : (n t : ℕ) (x y : ℕ → ℤ) → 2 * n ≤ t → t < 2 * n + 2 → Only 8 (W .length) t x y → SetBefore W H p n x → SetBefore W H p n y
     before-old n t x y a b o s = record {
-      even = λ m c d e. is-old W t x y (2 * m) _ o (apart t (2 * m) (λ z. omega arith) (omega arith) (omega arith)) (s .even m c d e);
-      high = λ m c d. is-old W t x y (2 * m + 1) _ o (apart t (2 * m + 1) (λ z. omega arith) (omega arith) (omega arith)) (s .high m c d);
+      even = λ m c d e. is-old eight W t x y (2 * m) _ o (apart 8 t (2 * m) (λ z. omega arith) (omega arith) (omega arith)) (s .even m c d e);
+      high = λ m c d. is-old eight W t x y (2 * m + 1) _ o (apart 8 t (2 * m + 1) (λ z. omega arith) (omega arith) (omega arith)) (s .high m c d);
     }
 
     low-tried : (n : ℕ) (x : ℕ → ℤ) → 2 * n < endOf H → Past x → Needs n x → Outcome (FitSet k W H p n) (Low n) (lowTried W H n x)
-    unfolding lowTried hasLow
+    unfolding stretch.lowTried hasLow
     low-tried n x l z s = go (decLt n b₀)
       where
         go : Dec (n < b₀) → Outcome (FitSet k W H p n) (Low n) (pick (leb b₀ n) (lineTried W (2 * n) x) (passed x))
@@ -236,12 +203,12 @@ module _ (k : ℕ) (W H : Side) (p : Band → Grid) where
           past = z;
         }))
         go (no u) =
-            let o = only-unlifted W (2 * n) x in
+            let o = only-unlifted eight unliftedInPlace W (2 * n) x in
             rw (le-leb b₀ n (omega arith))
             (line-tried (Low n) n lo (n - b₀) (2 * n) x (λ h. h .low (omega arith)) (s .low (omega arith)) (λ e m. record {
               line = λ _. e;
               low = λ _. m;
-              high = λ v. is-old W (2 * n) x _ (2 * n + 1) _ o (apart (2 * n) (2 * n + 1) (λ y. omega arith) (omega arith) (omega arith)) (s .high v);
+              high = λ v. is-old eight W (2 * n) x _ (2 * n + 1) _ o (apart 8 (2 * n) (2 * n + 1) (λ y. omega arith) (omega arith) (omega arith)) (s .high v);
               before = before-old n (2 * n) x _ (omega arith) (omega arith) o (s .before);
               past = λ j v. o .past j v ∙ z j v;
             }))
@@ -255,18 +222,18 @@ module _ (k : ℕ) (W H : Side) (p : Band → Grid) where
       past : Past x
 
     high-tried : (n : ℕ) (x : ℕ → ℤ) → Low n x → Outcome (FitSet k W H p n) (Rows n) (highTried W H n x)
-    unfolding highTried
+    unfolding stretch.highTried
     high-tried n x s = go (decLt (2 * n + 1) (endOf H))
       where
         go : Dec (2 * n + 1 < endOf H) → Outcome (FitSet k W H p n) (Rows n) (pick (ltb (2 * n + 1) (endOf H)) (lineTried W (2 * n + 1) x) (passed x))
         go (yes u) =
-            let o = only-unlifted W (2 * n + 1) x in
+            let o = only-unlifted eight unliftedInPlace W (2 * n + 1) x in
             let v = in-highs n u in
             let t = before-old n (2 * n + 1) x _ (omega arith) (omega arith) o (s .before) in
             rw (lt-ltb (2 * n + 1) (endOf H) u)
             (line-tried (Rows n) n hi n (2 * n + 1) x (λ h. h .high v) (s .high v) (λ e m. record {
               lines = record { low = s .line; high = λ _. e };
-              low = λ b. is-old W (2 * n + 1) x _ (2 * n) _ o (apart (2 * n + 1) (2 * n) (λ y. omega arith) (omega arith) (omega arith)) (s .low b);
+              low = λ b. is-old eight W (2 * n + 1) x _ (2 * n) _ o (apart 8 (2 * n + 1) (2 * n) (λ y. omega arith) (omega arith) (omega arith)) (s .low b);
               high = λ i b c d. elim (ℕ-discrete i n) [
                 | yes y ↦ rw y m
                 | no y ↦ t .high i (omega (arith, y)) d
@@ -283,7 +250,7 @@ module _ (k : ℕ) (W H : Side) (p : Band → Grid) where
         }))
 
     unlifted : (n : ℕ) (x : ℕ → ℤ) → 2 * n < endOf H → Past x → Needs n x → Outcome (FitSet k W H p n) (Rows n) (setUnlifted W H n x)
-    unfolding setUnlifted
+    unfolding stretch.setUnlifted
     unlifted n x l z s = bind-outcome (lowTried W H n x) _ (low-tried n x l z s) (high-tried n)
 
     -- ---- the columns: even rows to 2n are rebuilt, of the odd ones those before 2d + 1
@@ -306,7 +273,7 @@ module _ (k : ℕ) (W H : Side) (p : Band → Grid) where
         go : Dec (1 < H .length) → Held n (n - 2)
             (pick (ltb 1 (H .length)) (rowByTwo (unupdated wrap32) (W .length) (2 * n) (rowBefore H 1 (2 * n)) (rowAfter H 1 (2 * n)) x) x)
         go (yes m) =
-            let o = only-two (W .length) (2 * n) (unupdated wrap32) (rowBefore H 1 (2 * n)) (rowAfter H 1 (2 * n)) x in
+            let o = only-by eight (W .length) (2 * n) (unupdated wrap32) (rowBefore H 1 (2 * n)) (rowAfter H 1 (2 * n)) x in
             let c = in-lows n l b in
             let u = before-in H n m b c in
             let v = after-in H n m b c in
@@ -314,16 +281,16 @@ module _ (k : ℕ) (W H : Side) (p : Band → Grid) where
               lines = s .lines;
               even = λ i e q r. elim (ℕ-discrete i n) [
                 | yes z ↦ rw z (λ a j t.
-                    two-is (unupdated wrap32) W (2 * n) (rowBefore H 1 (2 * n)) (rowAfter H 1 (2 * n)) x _ _ _ (s .low b)
+                    by-is eight (unupdated wrap32) W (2 * n) (rowBefore H 1 (2 * n)) (rowAfter H 1 (2 * n)) x _ _ _ (s .low b)
                     (moved x _ _ (cols hi (left hi H (n - b₀))) (low-before H n m b c) (s .high (left hi H (n - b₀)) (u .0) (u .1) (omega (arith, u .2))))
                     (moved x _ _ (cols hi (right hi H (n - b₀))) (low-after H n m b c)
                     (s .high (right hi H (n - b₀)) (v .0) (v .1) (omega (arith, v .2)))) a j t
                     ∙ by-columns (λ y₁ y₂ y₃ _ _. unupdated wrap32 y₁ y₂ y₃) _ _ _ (G 0) (G 0) (G (row (2 * n))) (λ d _. even-value n d m b c) a j t)
-                | no z ↦ is-old W (2 * n) x _ (2 * i) _ o (apart (2 * n) (2 * i) (λ y. omega (arith, z)) (omega arith) (omega arith))
+                | no z ↦ is-old eight W (2 * n) x _ (2 * i) _ o (apart 8 (2 * n) (2 * i) (λ y. omega (arith, z)) (omega arith) (omega arith))
                     (s .even i (omega (arith, z)) r e)
               ];
               odd = λ i e q r. absurd (omega arith);
-              high = λ i e q r t. is-old W (2 * n) x _ (2 * i + 1) _ o (apart (2 * n) (2 * i + 1) (λ y. omega arith) (omega arith) (omega arith))
+              high = λ i e q r t. is-old eight W (2 * n) x _ (2 * i + 1) _ o (apart 8 (2 * n) (2 * i + 1) (λ y. omega arith) (omega arith) (omega arith))
                   (s .high i e r t);
               past = λ j e. o .past j e ∙ s .past j e;
             })
@@ -355,7 +322,7 @@ module _ (k : ℕ) (W H : Side) (p : Band → Grid) where
     abbrev Near : ℕ → ℕ → Type 0
     Near n m = (m < count hi H) × (1 < H .length) × (m ≤ n) × (2 * n < endOf H) × (n ≤ m + 2) × ((n ≡ m + 2 → ⊥) → endOf H ≤ 2 * n + 2)
 
-    only-odd : (m : ℕ) (x : ℕ → ℤ) → Only (W .length) (2 * m + 1) x (oddRow (W .length) H (2 * m + 1) x)
+    only-odd : (m : ℕ) (x : ℕ → ℤ) → Only 8 (W .length) (2 * m + 1) x (oddRow (W .length) H (2 * m + 1) x)
     unfolding oddRow
     only-odd m x = only-four (W .length) (2 * m + 1) (unpredicted wrap32) _ _ _ _ x
 
@@ -380,15 +347,16 @@ module _ (k : ℕ) (W H : Side) (p : Band → Grid) where
         let o = only-odd m x in
         record {
           lines = s .lines;
-          even = λ i b c d. is-old W (2 * m + 1) x _ (2 * i) _ o (apart (2 * m + 1) (2 * i) (λ z. omega arith) (omega (arith, g .2)) (omega (arith, g .4)))
+          even = λ i b c d. is-old eight W (2 * m + 1) x _ (2 * i) _ o
+              (apart 8 (2 * m + 1) (2 * i) (λ z. omega arith) (omega (arith, g .2)) (omega (arith, g .4)))
               (s .even i b c d);
           odd = λ i b c d. elim (ℕ-discrete i m) [
             | yes z ↦ rw z (odd-is-made n m x g s)
-            | no z ↦ is-old W (2 * m + 1) x _ (2 * i + 1) _ o
-                (apart (2 * m + 1) (2 * i + 1) (λ y. omega (arith, z)) (omega (arith, g .2)) (omega arith)) (s .odd i b (omega (arith, z)) d)
+            | no z ↦ is-old eight W (2 * m + 1) x _ (2 * i + 1) _ o
+                (apart 8 (2 * m + 1) (2 * i + 1) (λ y. omega (arith, z)) (omega (arith, g .2)) (omega arith)) (s .odd i b (omega (arith, z)) d)
           ];
-          high = λ i b c d e. is-old W (2 * m + 1) x _ (2 * i + 1) _ o
-              (apart (2 * m + 1) (2 * i + 1) (λ y. omega arith) (omega arith) (omega (arith, g .4))) (s .high i b (omega arith) d e);
+          high = λ i b c d e. is-old eight W (2 * m + 1) x _ (2 * i + 1) _ o
+              (apart 8 (2 * m + 1) (2 * i + 1) (λ y. omega arith) (omega arith) (omega (arith, g .4))) (s .high i b (omega arith) d e);
           past = λ j b. o .past j b ∙ s .past j b;
         }
 
@@ -429,10 +397,11 @@ module _ (k : ℕ) (W H : Side) (p : Band → Grid) where
     unfolding pairMade
     pair-made n f m x g u more s =
         bind-outcome (admitted k (W .length) (2 * m + 1) (oddRow (W .length) H (2 * m + 1) x)) _
-        (admit (λ y. Held n (suc m) y × FitRow (row (2 * m + 1))) n (2 * m + 1) (row (2 * m + 1)) _
+        (admit nineSevenFilter 8 2 k W H p (λ y. Held n (suc m) y × FitRow (row (2 * m + 1))) n (2 * m + 1) (row (2 * m + 1)) _
         (row-in (2 * m + 1) (omega (arith, g .3)) (omega (arith, few))) (made-in n m (2 * m + 1) (omega arith) (omega arith) (g .3) (g .4) (g .5))
         (h .odd m (g .0) (omega arith) (g .4)) (λ t. (h, t)))
-        (λ y e. admit (Stage n (suc m) (2 * m + 3)) n (2 * m + 2) (row (2 * m + 2)) y (row-in (2 * m + 2) (omega (arith, g .3)) (omega (arith, few)))
+        (λ y e. admit nineSevenFilter 8 2 k W H p (Stage n (suc m) (2 * m + 3)) n (2 * m + 2) (row (2 * m + 2)) y
+        (row-in (2 * m + 2) (omega (arith, g .3)) (omega (arith, few)))
         (made-in n m (2 * m + 2) (omega arith) (omega arith) (g .3) (g .4) (g .5))
         (rw twice (e .0 .even (suc m) (omega (arith, few)) u (omega (arith, g .4))))
         (λ t. record { held = e .0; fit = fit-pair n f m (s .fit) more (e .1) t }))
@@ -469,7 +438,7 @@ module _ (k : ℕ) (W H : Side) (p : Band → Grid) where
         go : (t : Bool) → ownEven H n ≡ t → Outcome (FitSet k W H p n) (Stage n (n - 2) 1) (pick t (admitted k (W .length) (2 * n) x) (passed x))
         go true e =
             let b = own-low n e in
-            admit (Stage n (n - 2) 1) n (2 * n) (row (2 * n)) x (row-in (2 * n) l (omega arith)) (own-set n e)
+            admit nineSevenFilter 8 2 k W H p (Stage n (n - 2) 1) n (2 * n) (row (2 * n)) x (row-in (2 * n) l (omega arith)) (own-set n e)
             (s .even n b (omega arith) (omega arith)) (λ t. record {
               held = s;
               fit = λ r _ q u. let z = at-zero n r q u in subst FitRow (at-row (2 * n) r (omega arith)) t;
@@ -590,7 +559,7 @@ module _ (k : ℕ) (W H : Side) (p : Band → Grid) where
         Outcome (FitSet k W H p n) (Worked n) (admitted k (W .length) (2 * n + 1) (oddRow (W .length) H (2 * n + 1) x))
     unfolding endOf
     beside-made n x g l e f s =
-        admit (Worked n) n (2 * n + 1) (row (2 * n + 1)) _ (row-in (2 * n + 1) l (omega (arith, few))) (last-by n l e)
+        admit nineSevenFilter 8 2 k W H p (Worked n) n (2 * n + 1) (row (2 * n + 1)) _ (row-in (2 * n + 1) l (omega (arith, few))) (last-by n l e)
         (h .odd n (in-highs n l) (omega arith) (omega arith))
         (λ t. last-leaves n _ g e (record { held = h; fit = fit-last n 0 (s .fit) t }) (λ c _. has-other H _ f))
       where
@@ -607,7 +576,7 @@ module _ (k : ℕ) (W H : Side) (p : Band → Grid) where
 
     lone-made : (n : ℕ) (x : ℕ → ℤ) → 0 < H .length → 2 * n + 1 < endOf H → endOf H ≤ 2 * n + 2 → loneHigh H ≡ true → Stage n n (2 * n + 1) x →
         Outcome (FitSet k W H p n) (Worked n) (loneMade k (W .length) (2 * n + 1) x)
-    unfolding loneMade rowIsEven
+    unfolding stretch.loneMade stretch.rowIsEven
     lone-made n x g l e f s = go (rowIsEven (W .length) (2 * n + 1) x) refl
       where
         y : ℕ → ℤ
@@ -622,12 +591,12 @@ module _ (k : ℕ) (W H : Side) (p : Band → Grid) where
         high : Is W x (2 * n + 1) (parted W (cols hi n))
         high = s .held .high n (in-highs n l) (omega arith) (omega arith) (omega arith)
 
-        o : Only (W .length) (2 * n + 1) x y
-        o = only-halved W (2 * n + 1) x
+        o : Only 8 (W .length) (2 * n + 1) x y
+        o = only-halved eight W (2 * n + 1) x
 
         last : Is W y (2 * n + 1) (parted W (G (row (2 * n + 1))))
         last a i b =
-            halved-is W (2 * n + 1) x _ high a i b
+            halved-is eight W (2 * n + 1) x _ high a i b
             ∙ by-columns (λ v _ _ _ _. shrZ v 2) (cols hi n) (cols hi n) (cols hi n) (cols hi n) (cols hi n) (G (row (2 * n + 1)))
             (λ c _. lone-value n c (omega (arith, one))) a i b
 
@@ -637,7 +606,7 @@ module _ (k : ℕ) (W H : Side) (p : Band → Grid) where
         held : Held n (suc n) y
         held = record {
           lines = s .held .lines;
-          even = λ i b c d. is-old W (2 * n + 1) x y (2 * i) _ o (apart (2 * n + 1) (2 * i) (λ z. omega arith) (omega (arith, first)) (omega arith))
+          even = λ i b c d. is-old eight W (2 * n + 1) x y (2 * i) _ o (apart 8 (2 * n + 1) (2 * i) (λ z. omega arith) (omega (arith, first)) (omega arith))
               (s .held .even i b c d);
           odd = λ i b c d. let z : i ≡ n = omega (arith, first) in rw z last;
           high = λ i b c d _. absurd (omega arith);
@@ -647,11 +616,11 @@ module _ (k : ℕ) (W H : Side) (p : Band → Grid) where
         go : (t : Bool) → rowIsEven (W .length) (2 * n + 1) x ≡ t →
             Outcome (FitSet k W H p n) (Worked n) (pick t (admitted k (W .length) (2 * n + 1) y) failed)
         go true even =
-            admit (Worked n) n (2 * n + 1) (row (2 * n + 1)) y (row-in (2 * n + 1) l (omega (arith, few))) (last-by n l e) last
+            admit nineSevenFilter 8 2 k W H p (Worked n) n (2 * n + 1) (row (2 * n + 1)) y (row-in (2 * n + 1) l (omega (arith, few))) (last-by n l e) last
             (λ t. last-leaves n y g e (record { held = held; fit = fit-last n 0 (s .fit) t })
-            (λ c v. column c ∙ each-stands isEven (2 * n + 1) x (cols hi n) high (every-each (W .length) _ even) c v))
+            (λ c v. column c ∙ each-stands 8 W isEven (2 * n + 1) x (cols hi n) high (every-each (W .length) _ even) c v))
         go false odd = stops (λ all. not-false (rowIsEven (W .length) (2 * n + 1) x)
-            (each-every (W .length) _ (stands-each isEven (2 * n + 1) x (cols hi n) high (λ c v.
+            (each-every (W .length) _ (stands-each 8 W isEven (2 * n + 1) x (cols hi n) high (λ c v.
             sym (column c) ∙ all .has .columns (row (2 * n + 1)) (row-in (2 * n + 1) l (omega (arith, few))) (last-by n l e) c v))) odd)
 
     -- no last row: the level ends with an even one

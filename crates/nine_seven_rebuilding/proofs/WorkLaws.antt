@@ -1,54 +1,23 @@
 -- Working out a set, step by step: what each call comes to. Assumes nothing.
 use mathlib.Core.Path.{_≡_, refl, sym, ap, subst, _∙_}
 use mathlib.Core.Bool.{Bool, true, false}
-use Prim.Native.Nat.{ℕ, _+_, _-_, _*_, _%_, _/_, _≤_, _<_}
+use Prim.Native.Nat.{ℕ, _+_, _-_, _*_, _%_, _≤_, _<_}
 use native.Mathlib.Decide.{ℕ-discrete}
 use native.Mathlib.Omega.{arith}
 use lib.IntN.{ℤ}
 use lib.Dec.{T}
 use borrow.Author.Tests.{eq-eqb, lt-ltb, le-ltb, lt-leb, le-leb}
-use Rattle.numbers.specs.Signal.{windowed, spliced}
-use Rattle.lifting.specs.Line.{lo}
-use Rattle.lifting.specs.Grid.{Side, side, count, joined, loneHigh}
-use Rattle.lifting.specs.GridHalves.{halvesOf}
+use Rattle.lifting.specs.Grid.{Side, loneHigh}
 use Rattle.lifting.proofs.LoneLaws.{lone-odd}
-use Rattle.wavelet.specs.Levels.{next}
-use Rattle.wavelet.specs.Order.{firstSet}
-use Rattle.level.specs.Tried.{Tried, failed, passed, outcome, bind}
-use Rattle.level.specs.Slots.{local}
-use Rattle.level.specs.Work.{endOf, hasLow}
-use Rattle.level.proofs.WorkLaws.{told-no, told-yes, bind-failed, bind-passed, low-first, low-there}
-use Rattle.nine_seven_rebuilding.specs.Slots.{rowPlace, rowHalved, rowIsEven, lowRowTaken}
-use Rattle.nine_seven_rebuilding.specs.Work.{lineTried, lowTried, highTried, setUnlifted, evenRow, oddRow, evenDone, rowFits, admitted, pairMade}
-use Rattle.nine_seven_rebuilding.specs.Work.{ownEven, firstMade, earlierPair, earlierMade, ownMade, loneMade, lastMade, restMade, rowsMade, setMade}
+use Rattle.nine_seven.specs.NineSevenFilter.{nineSevenFilter}
+use Rattle.level.specs.Tried.{failed, passed, outcome, bind}
+use Rattle.level.specs.Stretch.{endOf}
+use Rattle.level.proofs.WorkLaws.{told-no, told-yes, bind-failed, bind-passed, low-first, low-there, told}
+use Rattle.nine_seven_rebuilding.specs.Work.{setUnlifted, evenRow, oddRow, evenDone, rowFits, admitted, pairMade, ownEven}
+use Rattle.nine_seven_rebuilding.specs.Work.{firstMade, earlierPair, earlierMade, ownMade, loneMade, lastMade, restMade, rowsMade, setMade}
 use Rattle.nine_seven_rebuilding.specs.Work.{lowTaken, setWorked}
 
--- ---- along the rows, and the even row
-module _ (W H : Side) (n : ℕ) (x : ℕ → ℤ) where
-  pub low-none : n < H .start % 2 → passed x ≡ lowTried W H n x
-  unfolding lowTried
-  low-none b = rw (low-first H n b) refl
-
-  pub low-some : H .start % 2 ≤ n → lineTried W (2 * n) x ≡ lowTried W H n x
-  unfolding lowTried
-  low-some b = rw (low-there H n b) refl
-
-  pub high-none : H .start % 2 + H .length ≤ 2 * n + 1 → passed x ≡ highTried W H n x
-  unfolding highTried endOf
-  high-none b = rw (le-ltb (2 * n + 1) (H .start % 2 + H .length) b) refl
-
-  pub high-some : 2 * n + 1 < H .start % 2 + H .length → lineTried W (2 * n + 1) x ≡ highTried W H n x
-  unfolding highTried endOf
-  high-some b = rw (lt-ltb (2 * n + 1) (H .start % 2 + H .length) b) refl
-
-  pub set-low : failed ≡ lowTried W H n x → failed ≡ setUnlifted W H n x
-  unfolding setUnlifted
-  set-low e = bind-failed _ _ e
-
-  pub set-high : (y : ℕ → ℤ) → passed y ≡ lowTried W H n x → highTried W H n y ≡ setUnlifted W H n x
-  unfolding setUnlifted
-  set-high y e = bind-passed _ (highTried W H n) y e
-
+-- ---- the even row
 module _ (w : ℕ) (H : Side) (n : ℕ) (x : ℕ → ℤ) where
   pub done-none : n < H .start % 2 → x ≡ evenDone w H n x
   unfolding evenDone
@@ -58,21 +27,17 @@ module _ (w : ℕ) (H : Side) (n : ℕ) (x : ℕ → ℤ) where
   unfolding evenDone
   done-even b = rw (low-there H n b) refl
 
--- ---- a row tested
-told : (k w q : ℕ) (ok : Bool) (z y : ℕ → ℤ) → z ≡ y → ok ≡ rowFits k w q z → outcome ok z ≡ admitted k w q y
-unfolding admitted
-told k w q ok z y ez eo = ap (λ (b : Bool). outcome b z) eo ∙ ap (λ (x : ℕ → ℤ). outcome (rowFits k w q x) x) ez
-
+-- ---- rows tested
 module _ (k w : ℕ) (H : Side) (m : ℕ) (x z : ℕ → ℤ) (ez : z ≡ oddRow w H (2 * m + 1) x) where
   pub pair-failed : (ok : Bool) → ok ≡ rowFits k w (2 * m + 1) z → ok ≡ false → failed ≡ pairMade k w H m x
   unfolding pairMade
-  pair-failed ok eo bad = bind-failed _ _ (told-no ok z _ (told k w (2 * m + 1) ok z _ ez eo) bad)
+  pair-failed ok eo bad = bind-failed _ _ (told-no ok z _ (told 8 nineSevenFilter k w (2 * m + 1) ok z _ ez eo) bad)
 
   pub pair-made : (ok more : Bool) → ok ≡ rowFits k w (2 * m + 1) z → ok ≡ true → more ≡ rowFits k w (2 * m + 2) z → outcome more z ≡ pairMade k w H m x
   unfolding pairMade
   pair-made ok more eo good em =
-      told k w (2 * m + 2) more z z refl em
-      ∙ bind-passed _ (admitted k w (2 * m + 2)) z (told-yes ok z _ (told k w (2 * m + 1) ok z _ ez eo) good)
+      told 8 nineSevenFilter k w (2 * m + 2) more z z refl em
+      ∙ bind-passed _ (admitted k w (2 * m + 2)) z (told-yes ok z _ (told 8 nineSevenFilter k w (2 * m + 1) ok z _ ez eo) good)
 
 -- ---- the rows of a set
 module _ (k w : ℕ) (H : Side) (n : ℕ) (x : ℕ → ℤ) where
@@ -82,7 +47,7 @@ module _ (k w : ℕ) (H : Side) (n : ℕ) (x : ℕ → ℤ) where
 
   pub first-made : (t ok : Bool) → t ≡ ownEven H n → t ≡ true → ok ≡ rowFits k w (2 * n) x → outcome ok x ≡ firstMade k w H n x
   unfolding firstMade
-  first-made t ok e b eo = rw (sym e ∙ b) (told k w (2 * n) ok x x refl eo)
+  first-made t ok e b eo = rw (sym e ∙ b) (told 8 nineSevenFilter k w (2 * n) ok x x refl eo)
 
   pub earlier-none : n < 2 → passed x ≡ earlierMade k w H n x
   unfolding earlierMade
@@ -111,7 +76,7 @@ module _ (k w : ℕ) (H : Side) (n : ℕ) (x : ℕ → ℤ) where
   pub last-made : (ok : Bool) (z : ℕ → ℤ) → 2 * n + 1 < H .start % 2 + H .length → loneHigh H ≡ false → z ≡ oddRow w H (2 * n + 1) x →
       ok ≡ rowFits k w (2 * n + 1) z → outcome ok z ≡ lastMade k w H n x
   unfolding lastMade endOf
-  last-made ok z b f ez eo = rw (lt-ltb (2 * n + 1) (H .start % 2 + H .length) b, f) (told k w (2 * n + 1) ok z _ ez eo)
+  last-made ok z b f ez eo = rw (lt-ltb (2 * n + 1) (H .start % 2 + H .length) b, f) (told 8 nineSevenFilter k w (2 * n + 1) ok z _ ez eo)
 
   pub rest-none : 2 * n + 2 < H .start % 2 + H .length → passed x ≡ restMade k w H n x
   unfolding restMade endOf
@@ -150,16 +115,6 @@ others H n b f = elim (ℕ-discrete (H .start % 2) 1) [
     true-false : true ≡ false → ⊥
     true-false e = subst T e tt
 
--- an only row, at an odd coordinate
-module _ (k w q : ℕ) (x : ℕ → ℤ) where
-  pub lone-no : rowIsEven w q x ≡ false → failed ≡ loneMade k w q x
-  unfolding loneMade
-  lone-no e = rw e refl
-
-  pub lone-made : (ok : Bool) (z : ℕ → ℤ) → rowIsEven w q x ≡ true → z ≡ rowHalved w q x → ok ≡ rowFits k w q z → outcome ok z ≡ loneMade k w q x
-  unfolding loneMade
-  lone-made ok z e ez eo = rw e (told k w q ok z _ ez eo)
-
 -- ---- the whole set
 module _ (k : ℕ) (W H : Side) (n : ℕ) (x : ℕ → ℤ) where
   pub set-failed : failed ≡ setUnlifted W H n x → failed ≡ setMade k W H n x
@@ -174,23 +129,3 @@ module _ (k : ℕ) (W H : Side) (n : ℕ) (x : ℕ → ℤ) where
   pub worked : (last : Bool) (y : ℕ → ℤ) → y ≡ lowTaken last W H n x → setMade k W H n y ≡ setWorked last k W H n x
   unfolding setWorked
   worked last y e = ap (setMade k W H n) e
-
--- ---- the low-low row taken from the next level
-module _ (W H : Side) (n : ℕ) (x : ℕ → ℤ) where
-  pub take-last : (last : Bool) → last ≡ true → x ≡ lowTaken last W H n x
-  unfolding lowTaken
-  take-last last e = rw e refl
-
-  pub take-none : (last : Bool) → last ≡ false → n < H .start % 2 → x ≡ lowTaken last W H n x
-  unfolding lowTaken
-  take-none last e b = rw (e, low-first H n b) refl
-
-  pub take-low : (last : Bool) (y : ℕ → ℤ) → last ≡ false → H .start % 2 ≤ n → y ≡ lowRowTaken W H n x → y ≡ lowTaken last W H n x
-  unfolding lowTaken
-  take-low last y e b t = rw (e, low-there H n b) t
-
-  pub low-taken : (low row from to s : ℕ) → low ≡ count lo W → s ≡ (W .start + 1) / 2 → row ≡ (H .start + 1) / 2 % 2 + (n - H .start % 2) →
-      from ≡ 8 * W .length + rowPlace low row → to ≡ rowPlace (W .length) (2 * n) →
-      spliced to low (joined (side s low) (halvesOf (side s low) (windowed from low x))) x ≡ lowRowTaken W H n x
-  unfolding lowRowTaken next local firstSet
-  low-taken low row from to s el es er ef et = rw (ef, et, er, es, el) refl

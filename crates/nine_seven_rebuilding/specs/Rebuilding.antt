@@ -1,41 +1,24 @@
--- What the calls that work a set out ask and leave. Most is as at the 5/3 (Rebuilding of `level`).
+-- What the calls that work a set out ask and leave: as at the 5/3 (Rebuilding of `level`), with the 9/7's levels and eight rows.
 use mathlib.Core.Bool.{Bool}
-use Prim.Native.Nat.{ℕ, zero, suc, _+_, _*_}
-use lib.IntN.{ℤ, pos, _-ℤ_}
-use lib.Dec.{leb, ltb}
-use Rattle.numbers.specs.Signal.{pick, both}
-use Rattle.lifting.specs.Line.{lo}
-use Rattle.lifting.specs.Grid.{Side, count}
-use Rattle.lifting.specs.Halves.{fronted}
-use Rattle.wavelet.specs.Order.{lastSet}
-use Rattle.level.specs.Tried.{Tried, memory}
-use Rattle.level.specs.Rebuilding.{widest, tallest}
-use Rattle.wavelet.specs.Limits.{range}
+use Prim.Native.Nat.{ℕ}
+use lib.IntN.{ℤ}
+use Rattle.lifting.specs.Grid.{Side}
+use Rattle.level.specs.Tried.{Tried}
+use Rattle.level.specs.Rebuilding.{workLengthBy, workableBy, workLeftBy, lowestBy}
 use Rattle.nine_seven.specs.NineSevenFilter.{nineSevenFilter}
 
 -- the most levels
 unfoldable pub maxLevels : ℕ
 maxLevels = nineSevenFilter .levels
 
--- the memory that a level of the columns W works in: its own eight rows and, below the last level, those of the next, whose row it takes
 abbrev pub workLength : Bool → Side → ℕ
-workLength last W = 8 * W .length + 8 * pick last 0 (count lo W)
+workLength = workLengthBy 8
 
--- set n of a level of the columns W and the rows H can be worked out in a memory of m numbers; its rows are low-low values of level k
-unfoldable pub workable : Bool → ℕ → Side → Side → ℕ → ℕ → Bool
-workable last k W H n m =
-    both (leb k maxLevels)
-    (both (leb (W .length) widest)
-    (both (leb (H .length) tallest)
-    (both (ltb 0 (H .length))
-    (both (leb n (lastSet H))
-    (leb (workLength last W) m)))))
+abbrev pub workable : Bool → ℕ → Side → Side → ℕ → ℕ → Bool
+workable = workableBy maxLevels 8
 
--- what stands there afterwards, x before: the set worked out; zeros in the level's own stretch where a number does not fit
-unfoldable pub workLeft : Side → Bool → Tried → (ℕ → ℤ) → ℕ → ℤ
-workLeft W room t x = pick room (memory (fronted (8 * W .length) (λ _. pos 0) x) t) x
+abbrev pub workLeft : Side → Bool → Tried → (ℕ → ℤ) → ℕ → ℤ
+workLeft = workLeftBy 8
 
--- the least value that the rows of level k's low-low part may have: 0 for heights, k = 0
-unfoldable pub lowestOf : ℕ → ℤ
-lowestOf zero = pos 0
-lowestOf (suc k) = pos 0 -ℤ pos (range nineSevenFilter (suc k))
+abbrev pub lowestOf : ℕ → ℤ
+lowestOf = lowestBy nineSevenFilter

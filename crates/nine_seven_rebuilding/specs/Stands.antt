@@ -6,19 +6,22 @@ use Prim.Native.Nat.{ℕ, suc, _+_, _-_, _*_, _≤_, _<_}
 use lib.IntN.{ℤ}
 use Rattle.numbers.specs.Word.{wrap32}
 use Rattle.lifting.specs.Line.{Half, lo, hi}
-use Rattle.lifting.specs.Grid.{Side, count, parted}
-use Rattle.wavelet.specs.Bands.{Grid, Band, across, down, rowsUnlifted, levelBack}
-use Rattle.wavelet.specs.Order.{firstSet, lastSet, setRow, setHas}
-use Rattle.level.specs.Slots.{local, rowOfSet, halfPlace}
+use Rattle.lifting.specs.Grid.{Side, parted}
+use Rattle.wavelet.specs.Bands.{Grid, Band, rowsUnlifted, levelBack}
+use Rattle.wavelet.specs.Order.{firstSet, lastSet}
+use Rattle.level.specs.Stretch as stretch
+use Rattle.level.specs.Stretch.{local}
 use Rattle.level.specs.Stands.{SetHasBy, BackMeaning}
 use Rattle.wavelet.specs.Maps.{valueFits}
 use Rattle.wavelet.specs.Steps.{setOf}
 use Rattle.nine_seven.specs.NineSevenFilter.{nineSevenFilter}
-use Rattle.nine_seven_rebuilding.specs.Slots.{rowPlace}
 
--- in the slot of the row at q stands a row by its halves: two band rows, or the even and the odd coordinates of a line
+-- a row by its halves in the slot of the row at q, and a row of a band of set n
 abbrev pub RowStands : Side → (ℕ → ℤ) → ℕ → (Half → ℕ → ℤ) → Type 0
-RowStands W x q c = (h : Half) (i : ℕ) → i < count h W → x (rowPlace (W .length) q + (halfPlace h W + i)) ≡ c h i
+RowStands = stretch.RowStands 8
+
+abbrev pub BandStands : Side → Side → (Band → Grid) → ℕ → (ℕ → ℤ) → Band → Type 0
+BandStands = stretch.BandStands 8
 
 -- what set n needs of the sets before it: the even rows of the last three, rebuilt, and the high rows of the columns of the last two
 pub record SetBefore (W H : Side) (p : Band → Grid) (n : ℕ) (x : ℕ → ℤ) : Type 0 where
@@ -32,12 +35,6 @@ pub record SetLeaves (k : ℕ) (W H : Side) (p : Band → Grid) (n : ℕ) (x : �
       valueFits nineSevenFilter k (levelBack nineSevenFilter wrap32 W H p r c) ≡ true
   pub more : suc n ≤ lastSet H → SetBefore W H p (suc n) x
   pub has : SetHasBy nineSevenFilter 2 W H p n
-
--- the row of band c of set n, if there is one
-abbrev pub BandStands : Side → Side → (Band → Grid) → ℕ → (ℕ → ℤ) → Band → Type 0
-BandStands W H p n x c =
-    setHas W H c n ≡ true → (i : ℕ) → i < count (across c) W →
-    x (rowPlace (W .length) (rowOfSet (down c) n) + (halfPlace (across c) W + i)) ≡ p c (setRow H c n) i
 
 abbrev pub nineSevenStands : BackMeaning
 nineSevenStands = record { Leaves = SetLeaves; Before = SetBefore; Got = BandStands }

@@ -8,15 +8,15 @@ use Prim.Native.Nat.{ℕ, _+_, _-_, _*_, _%_}
 use lib.IntN.{ℤ}
 use lib.Dec.{ltb, leb}
 use Rattle.numbers.specs.Signal.{pick, both}
-use Rattle.numbers.specs.Tests.{every}
 use Rattle.numbers.specs.Word.{wrap32}
 use Rattle.lifting.specs.Grid.{Side, loneHigh}
 use Rattle.nine_seven.specs.NineSeven.{before, after, unupdated, unpredicted}
-use Rattle.level.specs.Tried.{Tried, passed, failed, outcome, bind}
-use Rattle.level.specs.Work.{endOf, hasLow}
-use Rattle.wavelet.specs.Maps.{valueFits}
+use Rattle.nine_seven.specs.Memory.{unliftedInPlace}
+use Rattle.level.specs.Tried.{Tried, passed, bind}
+use Rattle.level.specs.Stretch as stretch
+use Rattle.level.specs.Stretch.{endOf, hasLow, Admission}
 use Rattle.nine_seven.specs.NineSevenFilter.{nineSevenFilter}
-use Rattle.nine_seven_rebuilding.specs.Slots.{rowPlace, rowUnlifted, rowHasLine, rowByTwo, rowByFour, rowHalved, rowIsEven, lowRowTaken}
+use Rattle.nine_seven_rebuilding.specs.Slots.{rowByTwo, rowByFour}
 
 -- the rows k before and k after the row at q, the rows mirrored about the first and the last
 unfoldable pub rowBefore : Side → ℕ → ℕ → ℕ
@@ -26,17 +26,17 @@ unfoldable pub rowAfter : Side → ℕ → ℕ → ℕ
 rowAfter H k q = H .start % 2 + after (H .length) k (q - H .start % 2)
 
 -- along the row: one row, and the rows of the set
-unfoldable pub lineTried : Side → ℕ → (ℕ → ℤ) → Tried
-lineTried W q x = outcome (rowHasLine W q x) (rowUnlifted W q x)
+abbrev pub lineTried : Side → ℕ → (ℕ → ℤ) → Tried
+lineTried = stretch.lineTried 8 unliftedInPlace
 
-unfoldable pub lowTried : Side → Side → ℕ → (ℕ → ℤ) → Tried
-lowTried W H n x = pick (hasLow H n) (lineTried W (2 * n) x) (passed x)
+abbrev pub lowTried : Side → Side → ℕ → (ℕ → ℤ) → Tried
+lowTried = stretch.lowTried 8 unliftedInPlace
 
-unfoldable pub highTried : Side → Side → ℕ → (ℕ → ℤ) → Tried
-highTried W H n x = pick (ltb (2 * n + 1) (endOf H)) (lineTried W (2 * n + 1) x) (passed x)
+abbrev pub highTried : Side → Side → ℕ → (ℕ → ℤ) → Tried
+highTried = stretch.highTried 8 unliftedInPlace
 
-unfoldable pub setUnlifted : Side → Side → ℕ → (ℕ → ℤ) → Tried
-setUnlifted W H n x = bind (lowTried W H n x) (highTried W H n)
+abbrev pub setUnlifted : Side → Side → ℕ → (ℕ → ℤ) → Tried
+setUnlifted = stretch.setUnlifted 8 unliftedInPlace
 
 -- the row at q, even, by the high rows next to it; an only row stays
 unfoldable pub evenRow : ℕ → Side → ℕ → (ℕ → ℤ) → ℕ → ℤ
@@ -51,11 +51,11 @@ unfoldable pub evenDone : ℕ → Side → ℕ → (ℕ → ℤ) → ℕ → ℤ
 evenDone w H n x = pick (hasLow H n) (evenRow w H (2 * n) x) x
 
 -- the test of 14 of the row at q, low-low values of level k
-unfoldable pub rowFits : ℕ → ℕ → ℕ → (ℕ → ℤ) → Bool
-rowFits k w q x = every w (λ i. valueFits nineSevenFilter k (x (rowPlace w q + i)))
+abbrev pub rowFits : ℕ → ℕ → ℕ → (ℕ → ℤ) → Bool
+rowFits = stretch.rowFits 8 nineSevenFilter
 
-unfoldable pub admitted : ℕ → ℕ → ℕ → (ℕ → ℤ) → Tried
-admitted k w q x = outcome (rowFits k w q x) x
+abbrev pub admitted : Admission
+admitted = stretch.admitted 8 nineSevenFilter
 
 -- the rows at 2m + 1 and 2m + 2 made, the even rows that the odd one goes by being there
 unfoldable pub pairMade : ℕ → ℕ → Side → ℕ → (ℕ → ℤ) → Tried
@@ -81,8 +81,8 @@ unfoldable pub ownMade : ℕ → ℕ → Side → ℕ → (ℕ → ℤ) → Trie
 ownMade k w H n x = pick (ltb n 1) (passed x) (pairMade k w H (n - 1) x)
 
 -- an only row, at an odd coordinate,
-unfoldable pub loneMade : ℕ → ℕ → ℕ → (ℕ → ℤ) → Tried
-loneMade k w q x = pick (rowIsEven w q x) (admitted k w q (rowHalved w q x)) failed
+abbrev pub loneMade : ℕ → ℕ → ℕ → (ℕ → ℤ) → Tried
+loneMade = stretch.loneMade 8 admitted
 
 -- and the row at 2n + 1, if there is one:
 unfoldable pub lastMade : ℕ → ℕ → Side → ℕ → (ℕ → ℤ) → Tried
@@ -102,8 +102,8 @@ unfoldable pub setMade : ℕ → Side → Side → ℕ → (ℕ → ℤ) → Tri
 setMade k W H n x = bind (setUnlifted W H n x) (λ y. rowsMade k (W .length) H n (evenDone (W .length) H n y))
 
 -- the whole of it: below level L the low-low row, if there is one, is taken from the next level first
-unfoldable pub lowTaken : Bool → Side → Side → ℕ → (ℕ → ℤ) → ℕ → ℤ
-lowTaken last W H n x = pick last x (pick (hasLow H n) (lowRowTaken W H n x) x)
+abbrev pub lowTaken : Bool → Side → Side → ℕ → (ℕ → ℤ) → ℕ → ℤ
+lowTaken = stretch.lowTaken 8
 
 unfoldable pub setWorked : Bool → ℕ → Side → Side → ℕ → (ℕ → ℤ) → Tried
 setWorked last k W H n x = setMade k W H n (lowTaken last W H n x)

@@ -147,11 +147,3 @@ module _ (F : Filter) (laws : FilterLaws F) where
       let same = need-same a s N N′ (suc k) r in
       band-inner keep W s N N′ g k b r c q h h′
       ∙ band-reads keep W (side s N′) g g′ k b r c (need-in-half a some (down b) (side s N′) k r (omega arith)) q (λ i j _ v w. e i j (omega arith) w)
-
-  pub approximation-local : (keep : ℤ → ℤ) (W : Side) (s N N′ : ℕ) (g g′ : Grid) (k r c : ℕ) → c < sideAt k W .length → need a (side s N) k r < N →
-      need a (side s N) k r < N′ → ((i j : ℕ) → i ≤ need a (side s N) k r → j < W .length → g i j ≡ g′ i j) →
-      approximation F keep W (side s N) g k r c ≡ approximation F keep W (side s N′) g′ k r c
-  approximation-local keep W s N N′ g g′ k r c q h h′ e =
-      let same = need-same a s N N′ k r in
-      approximation-inner keep W s N N′ g k r c q h h′
-      ∙ approximation-reads keep W (side s N′) g g′ k r c (need-there a some (side s N′) k r (omega arith)) q (λ i j _ v w. e i j (omega arith) w)

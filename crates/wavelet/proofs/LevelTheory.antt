@@ -429,15 +429,6 @@ module _ (F : Filter) (laws : FilterLaws F) where
   module _ {keep : ℤ → ℤ} (K : Keeping keep) where
     open Keeping K using (Good)
 
-    pub plane-good : (L : ℕ) (W H : Side) (g : Grid) → OnCells Good W H g → OnCells Good W H (planeCell F keep L W H g)
-    unfolding planeCell bandIn
-    plane-good zero W H g good = good
-    plane-good (suc L) W H g good =
-        let one = subband-good K W H g good in
-        let rest = plane-good L (next W) (next H) _ (low-all Good W H _ one) in
-        by-band W H (λ r c. Good (planeCell F keep (suc L) W H g r c))
-        (λ b r c p q. rw (plane-at F keep L W H g b r c p q) (over-all Good W H _ _ rest one b r c p q))
-
     pub map-back-good : (L : ℕ) (W H : Side) (x : Grid) → OnCells Good W H x → OnCells Good W H (mapBack F keep L W H x)
     unfolding mapBack
     map-back-good zero W H x good = good

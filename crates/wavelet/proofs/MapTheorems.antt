@@ -23,7 +23,7 @@ use Rattle.numbers.proofs.Sweep.{both}
 pub use Rattle.numbers.proofs.TestLaws.{every-each, each-every, every-same}
 use Rattle.lifting.specs.Grid.{Side}
 use Rattle.lifting.specs.Filter.{Filter}
-use Rattle.lifting.proofs.FilterLaws.{words, FilterLaws, growth-some}
+use Rattle.lifting.proofs.FilterLaws.{words, FilterLaws}
 use Rattle.wavelet.specs.Limits.{maxSample, range}
 use Rattle.wavelet.specs.Bands.{Grid, LL, subband, levelHas}
 use Rattle.wavelet.specs.Maps.{IsMap, every, everyCell, valueFits, HasPlane, inRange, rebuiltFits}
@@ -86,12 +86,6 @@ module _ (F : Filter) (laws : FilterLaws F) where
   fits-within zero v e = let a = height-fits F v .0 e in rw (range-zero F laws) (map-height v (a .0) (a .1))
   fits-within (suc k) v e = low-fits F k v .0 e
 
-  -- ---- the questions read the cells that are there
-  pub in-range-reads : (L : ℕ) (W H : Side) (x y : Grid) → Same W H x y → inRange F L W H x ≡ inRange F L W H y
-  unfolding inRange
-  in-range-reads L W H x y e =
-      cells-same (W .length) (H .length) _ _ (λ r c p q. ap (λ (v : ℤ). leb (natAbs v) (range F (levelAt L W H r c))) (e r c p q))
-
   -- the bands that are lifted back, as question 14 has them
   bands-are : (L : ℕ) (W H : Side) (x : Grid) → planeBands W H (mapBack F wrap32 L (next W) (next H) x) x ≡ bandsBack F wrap32 L W H x
   bands-are L W H x = plane-bands W H (mapBack F wrap32 L (next W) (next H) x) x
@@ -99,20 +93,6 @@ module _ (F : Filter) (laws : FilterLaws F) where
   bands-reads : (L : ℕ) (W H : Side) (x y : Grid) → Same W H x y → SameBands W H (bandsBack F wrap32 L W H x) (bandsBack F wrap32 L W H y)
   bands-reads L W H x y e =
       over-same W H _ _ _ _ (map-back-reads F laws wrap32 L (next W) (next H) x y (same-corner W H x y e)) (same-in-bands W H x y e)
-
-  pub rebuilt-reads : (k L : ℕ) (W H : Side) (x y : Grid) → Same W H x y → rebuiltFits F k L W H x ≡ rebuiltFits F k L W H y
-  unfolding rebuiltFits
-  rebuilt-reads k zero W H x y e = refl
-  rebuilt-reads k (suc L) W H x y e =
-      rw (
-        rebuilt-reads (suc k) L (next W) (next H) x y (same-corner W H x y e),
-        bands-are L W H x,
-        bands-are L W H y,
-        level-has-reads F laws W H (bandsBack F wrap32 L W H x) (bandsBack F wrap32 L W H y) (bands-reads L W H x y e),
-        cells-same (W .length) (H .length) (λ r c. valueFits F k (mapBack F wrap32 (suc L) W H x r c))
-            (λ r c. valueFits F k (mapBack F wrap32 (suc L) W H y r c))
-            (λ r c p q. ap (valueFits F k) (map-back-reads F laws wrap32 (suc L) W H x y e r c p q)),
-      )
 
   -- ---- question 14, for a grid whose values fit at level k and that has the plane x
   range-left : (k L : ℕ) → k + L ≤ F .levels → range F k * G ^ L < 2 ^ 31

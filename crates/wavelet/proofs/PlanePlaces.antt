@@ -153,10 +153,3 @@ found-place L W H r c f = place-is W H (f .level) (f .band) (f .row) (f .column)
   where
     alike : (x x′ y y′ : ℕ) → x ≡ x′ → y ≡ y′ → x * W .length + y ≡ x′ * W .length + y′
     alike x x′ y y′ p q = cc
-
--- and the level there is that row's
-pub found-level : (L : ℕ) (W H : Side) (r c : ℕ) (f : Found L W H r c) → levelAt L W H r c ≡ f .level
-found-level L W H r c f = alike _ _ _ _ (sym (f .row-is)) (sym (f .column-is)) ∙ level-places L W H (f .level) (f .band) (f .row) (f .column) (f .stands)
-  where
-    alike : (x x′ y y′ : ℕ) → x ≡ x′ → y ≡ y′ → levelAt L W H x y ≡ levelAt L W H x′ y′
-    alike x x′ y y′ p q = cc

@@ -49,10 +49,6 @@ module _ (S : Side) where
   unfolding next
   next-le = count-le lo S
 
-  pub start-falls : next S .start ≤ S .start
-  unfolding next
-  start-falls = omega arith
-
 -- ---- the sides of the levels
 pub size-zero : (S : Side) → sideAt 0 S ≡ S
 unfolding sideAt
@@ -97,11 +93,6 @@ pub start-same : (k s N N′ : ℕ) → sideAt k (side s N) .start ≡ sideAt k 
 unfolding sideAt next
 start-same zero s N N′ = refl
 start-same (suc k) s N N′ = ap (λ (c : ℕ). (c + 1) / 2) (start-same k s N N′)
-
-pub start-le : (k : ℕ) (S : Side) → sideAt k S .start ≤ S .start
-unfolding sideAt
-start-le zero S = omega arith
-start-le (suc k) S = omega (arith, start-falls (sideAt k S), start-le k S)
 
 -- a longer side with the same start has levels that are no shorter
 pub size-grows : (k s N N′ : ℕ) → N ≤ N′ → sideAt k (side s N) .length ≤ sideAt k (side s N′) .length

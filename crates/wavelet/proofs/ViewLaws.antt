@@ -9,7 +9,7 @@ use native.Mathlib.Omega.{arith}
 use lib.IntN.{ℤ}
 use lib.ListN.{length, take, drop}
 use lib.Dec.{leb, ltb, eqb}
-use borrow.Author.Tests.{le-ltb, lt-ltb, le-leb, lt-leb, eq-eqb, ne-eqb, ltb-true, leb-true, eqb-true}
+use borrow.Author.Tests.{le-ltb, le-leb, lt-leb, eq-eqb, ne-eqb, ltb-true, leb-true, eqb-true}
 use Rattle.numbers.specs.Signal.{pick}
 use Rattle.numbers.proofs.Sweep.{both}
 use Rattle.lifting.specs.Line.{lo, hi}
@@ -25,7 +25,7 @@ use Rattle.wavelet.specs.declared.view.Span.{Span}
 use Rattle.wavelet.specs.declared.view.Span.the-variants.{At, Refused}
 use Rattle.wavelet.proofs.SideLaws.{size-le, length-back, count-le, count-sum}
 use Rattle.wavelet.proofs.LimitLaws.{width-small, height-small}
-use Rattle.wavelet.proofs.QuestionLaws.{within-true, within-yes, sized, size-no, size-yes}
+use Rattle.wavelet.proofs.QuestionLaws.{within-true, sized, size-no, size-yes}
 use Rattle.wavelet.proofs.BandPlaces.{stretch-in}
 
 -- ---- the code of a band
@@ -78,13 +78,6 @@ kept-last L k HL e d = let z : _≡_ {A = ℕ} 0 1 = cc in absurd (omega arith)
 kept-last L k LH e d = let z : _≡_ {A = ℕ} 0 1 = cc in absurd (omega arith)
 kept-last L k HH e d = let z : _≡_ {A = ℕ} 0 1 = cc in absurd (omega arith)
 
-last-kept : (L k : ℕ) (b : Band) → (b ≡ LL → k ≡ L) → keptAt L k b ≡ true
-unfolding keptAt
-last-kept L k LL h = eq-eqb k L (h refl)
-last-kept L k HL h = refl
-last-kept L k LH h = refl
-last-kept L k HH h = refl
-
 module _ (W H : Side) (L k : ℕ) (b : Band) (r : ℕ) where
   pub exists-kept : bandRowExists W H L k b r ≡ true → Kept W H L k b r
   unfolding bandRowExists
@@ -100,16 +93,6 @@ module _ (W H : Side) (L k : ℕ) (b : Band) (r : ℕ) where
         columns = ltb-true 0 (bandColumns W k b) (s .0);
         row = ltb-true r (bandRows H k b) (s .1);
       }
-
-  pub kept-exists : Kept W H L k b r → bandRowExists W H L k b r ≡ true
-  unfolding bandRowExists
-  kept-exists h =
-      simp (
-        within-yes 1 L k (h .deep) (h .most),
-        last-kept L k b (h .last),
-        lt-ltb 0 (bandColumns W k b) (h .columns),
-        lt-ltb r (bandRows H k b) (h .row),
-      )
 
   pub not-level : within 1 L k ≡ false → bandRowExists W H L k b r ≡ false
   unfolding bandRowExists

@@ -1,6 +1,5 @@
 -- `moves::copy_row` meets its contract: the row is copied where both rows are there. Assumes nothing.
 use mathlib.Core.Path.{sym, _∙_}
-use native.Mathlib.Omega.{arith}
 use Rattle.lifting.specs.Rows.{rowsChanged}
 use Rattle.lifting.proofs.RowLaws.{rows-in}
 use borrow.Author.Needs.{needs}

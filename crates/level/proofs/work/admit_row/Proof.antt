@@ -4,6 +4,7 @@ use Prim.Native.Nat.{_+_, _-_}
 use native.Mathlib.Omega.{arith}
 use borrow.Author.Needs.{needs}
 use Rattle.numbers.proofs.Words.{read-back}
+use Rattle.lifting.specs.FiveThree.{fiveThreeFilter}
 use Rattle.level.proofs.AdmitLaws.{admit-is, same-range}
 use Rattle.level.proofs.work.admit_row.Statement.{statement}
 use Rattle.level.proofs.work.admit_row.Tie as tie
@@ -44,7 +45,7 @@ returns c =
     let a = start .args in
     let at = place .row-place .result in
     c .all-between .ensures
-    ∙ admit-is (a .k) (a .w) (a .r) at (at + a .w - at) (a .stretch .now) _ _ (place .row-place .ensures .0) (omega arith) (omega arith)
+    ∙ admit-is 4 fiveThreeFilter (a .k) (a .w) (a .r) at (at + a .w - at) (a .stretch .now) _ _ (place .row-place .ensures .0) (omega arith) (omega arith)
     (read-back (low .lowest-of .result) (low .lowest-of .ok) ∙ low .lowest-of .ensures)
     (read-back (high .range-of .result) (high .range-of .ok) ∙ high .range-of .ensures ∙ same-range _ _ (a .k) (start .pre .2))
 

@@ -1,6 +1,5 @@
 -- `level::work::has_pair` meets its contract: two tests. Assumes nothing.
 use native.Mathlib.Omega.{arith}
-use borrow.Author.Needs.{needs}
 use borrow.Author.Tests.{lt-ltb, le-ltb}
 use Rattle.level.proofs.work.has_pair.Statement.{statement}
 use Rattle.level.proofs.work.has_pair.Tie as tie

@@ -1,15 +1,18 @@
 -- `level::work::row_place` meets its contract: a slot of four. Assumes nothing.
 use native.Mathlib.Omega.{arith}
-use mathlib.Core.Path.{sym}
-use Rattle.level.proofs.SlotLaws.{slot-room, place-is}
+use mathlib.Core.Path.{refl}
+use Rattle.level.specs.Stretch.{rowPlace}
+use Rattle.level.proofs.SlotLaws.{slot-room}
+use Rattle.level.proofs.FourRows.{four}
 use Rattle.level.proofs.work.row_place.Statement.{statement}
 use Rattle.level.proofs.work.row_place.Tie as tie
 
 mul-result : tie.Need-mul-result
-mul-result c = let h = slot-room (c .args .w) (c .args .r) in omega arith
+mul-result c = let h = slot-room four (c .args .w) (c .args .r) in omega arith
 
 returns : tie.Need-returns
-returns c = (sym (place-is (c .args .w) (c .args .r)), slot-room (c .args .w) (c .args .r))
+unfolding rowPlace
+returns c = (refl, slot-room four (c .args .w) (c .args .r))
 
 pub row-place-spec : {M : Type 1} → statement M
 row-place-spec = tie.close (tie.spec mul-result returns)

@@ -3,7 +3,7 @@ use mathlib.Core.Path.{_∙_, sym, ap}
 use native.Mathlib.Omega.{arith}
 use Rattle.lifting.specs.Grid.{side}
 use Rattle.level.specs.Work.{highNear}
-use Rattle.level.proofs.SlotLaws.{even-by, even-one}
+use Rattle.level.proofs.FourRows.{even-by, even-one}
 use Rattle.level.proofs.work.undo_even.Statement.{statement}
 use Rattle.level.proofs.work.undo_even.Tie as tie
 

@@ -2,7 +2,7 @@
 use mathlib.Core.Path.{_∙_}
 use native.Mathlib.Omega.{arith}
 use Rattle.lifting.specs.Grid.{side}
-use Rattle.level.proofs.SlotLaws.{odd-by}
+use Rattle.level.proofs.FourRows.{odd-by}
 use Rattle.level.proofs.work.undo_odd.Statement.{statement}
 use Rattle.level.proofs.work.undo_odd.Tie as tie
 

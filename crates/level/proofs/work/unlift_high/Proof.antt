@@ -3,6 +3,7 @@ use mathlib.Core.Path.{_∙_}
 use native.Mathlib.Omega.{arith}
 use borrow.Author.Needs.{needs}
 use Rattle.lifting.specs.Grid.{side}
+use Rattle.lifting.specs.GridHalves.{unliftedInPlace}
 use Rattle.level.proofs.WorkLaws.{high-none, high-some}
 use Rattle.level.proofs.KeptLaws.{kept-none}
 use Rattle.level.proofs.work.unlift_high.Statement.{statement}
@@ -18,7 +19,7 @@ add-if1-2 : tie.Need-add-if1-2
 add-if1-2 c = omega arith
 
 returns : tie.Need-returns
-returns c = let a = c .before .args in (high-none (side (a .x) (a .w)) (side (a .y) (a .h)) (a .n) _ (c .if1 .taken), kept-none _ _)
+returns c = let a = c .before .args in (high-none 4 unliftedInPlace (side (a .x) (a .w)) (side (a .y) (a .h)) (a .n) _ (c .if1 .taken), kept-none _ _)
 
 mul-unlift-row : tie.Need-mul-unlift-row
 mul-unlift-row c = omega arith
@@ -37,7 +38,7 @@ returns-2 c =
     let call = c .before in
     let some = call .before .before in
     let a = some .before .args in
-    (call .unlift-row .ensures .0 ∙ high-some (side (a .x) (a .w)) (side (a .y) (a .h)) (a .n) _ (omega arith), call .unlift-row .ensures .1)
+    (call .unlift-row .ensures .0 ∙ high-some 4 unliftedInPlace (side (a .x) (a .w)) (side (a .y) (a .h)) (a .n) _ (omega arith), call .unlift-row .ensures .1)
 
 pub unlift-high-spec : {M : Type 1} → statement M
 unlift-high-spec =

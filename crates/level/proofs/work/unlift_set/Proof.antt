@@ -4,6 +4,7 @@ use borrow.Author.Needs.{needs}
 use borrow.Author.Tests.{not-true, not-false}
 use Rattle.numbers.specs.Signal.{at}
 use Rattle.lifting.specs.Grid.{side}
+use Rattle.lifting.specs.GridHalves.{unliftedInPlace}
 use Rattle.level.proofs.WorkLaws.{told-no, told-yes, set-low, set-high}
 use Rattle.level.proofs.KeptLaws.{kept-both}
 use Rattle.level.proofs.work.unlift_set.Statement.{statement}
@@ -19,7 +20,7 @@ returns : tie.Need-returns
 returns c =
     let one = c .before .before in
     let a = one .before .before .args in (
-      set-low (side (a .x) (a .w)) (side (a .y) (a .h)) (a .n) _
+      set-low 4 unliftedInPlace (side (a .x) (a .w)) (side (a .y) (a .h)) (a .n) _
           (told-no (one .unlift-low .result) (at (one .unlift-low .last .0)) _ (one .unlift-low .ensures .0) (not-true _ (c .if1 .taken))),
       one .unlift-low .ensures .1,
     )
@@ -37,7 +38,7 @@ returns-2 c =
     let one = went .before .before in
     let a = one .before .before .args in (
       two .unlift-high .ensures .0
-          ∙ set-high (side (a .x) (a .w)) (side (a .y) (a .h)) (a .n) _ _
+          ∙ set-high 4 unliftedInPlace (side (a .x) (a .w)) (side (a .y) (a .h)) (a .n) _ _
           (told-yes (one .unlift-low .result) (at (one .unlift-low .last .0)) _ (one .unlift-low .ensures .0) (not-false _ (went .if1 .left))),
       kept-both _ _ _ _ (one .unlift-low .ensures .1) (two .unlift-high .ensures .1),
     )

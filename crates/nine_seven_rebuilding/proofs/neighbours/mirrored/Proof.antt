@@ -2,7 +2,6 @@
 use Prim.Native.Nat.{_-_, _*_, _<_, _%_}
 use native.Mathlib.Nat.{mod-lt}
 use native.Mathlib.Omega.{arith}
-use borrow.Author.Needs.{needs}
 use Rattle.nine_seven_rebuilding.proofs.NeighbourLaws.{mirror-in, mirror-on, mirror-back}
 use Rattle.nine_seven_rebuilding.proofs.neighbours.mirrored.Statement.{statement}
 use Rattle.nine_seven_rebuilding.proofs.neighbours.mirrored.Tie as tie

@@ -1,5 +1,5 @@
 -- `nine_seven_rebuilding::neighbours::row_before` meets its contract: the mirrored place. Assumes nothing.
-use mathlib.Core.Path.{_≡_, _∙_, ap, ap₂}
+use mathlib.Core.Path.{_≡_, _∙_, ap}
 use Prim.Native.Nat.{ℕ, _+_, _-_, _%_}
 use native.Mathlib.Omega.{arith}
 use lib.IntN.{pos}

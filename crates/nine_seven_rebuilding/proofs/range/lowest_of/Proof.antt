@@ -6,8 +6,9 @@ use mir.Syntax.{w32}
 use mir.ValLaws.{toZ-ofZ}
 use borrow.Author.Needs.{sfits-of}
 use Rattle.numbers.proofs.Words.{read-back}
-use Rattle.level.proofs.AdmitLaws.{neg-fits}
-use Rattle.nine_seven_rebuilding.proofs.AdmitLaws.{low-zero, low-more, some-level}
+use Rattle.nine_seven.specs.NineSevenFilter.{nineSevenFilter}
+use Rattle.level.proofs.AdmitLaws.{neg-fits, low-zero, low-more}
+use Rattle.nine_seven_rebuilding.proofs.RangeLaws.{some-level}
 use Rattle.nine_seven_rebuilding.proofs.range.lowest_of.Statement.{statement}
 use Rattle.nine_seven_rebuilding.proofs.range.lowest_of.Tie as tie
 
@@ -18,13 +19,13 @@ sub-result : tie.Need-sub-result
 sub-result c = rw (read-back (c .range-of .result) (c .range-of .ok)) (neg-fits _ _ (c .range-of .ensures) (sfits-of (c .range-of .ok)))
 
 returns : tie.Need-returns
-returns c = low-zero _ (omega arith)
+returns c = low-zero nineSevenFilter _ (omega arith)
 
 returns-2 : tie.Need-returns-2
 returns-2 c =
     toZ-ofZ w32 _ (sub-result c)
     ∙ ap (λ (z : ℤ). pos 0 -ℤ z) (read-back (c .range-of .result) (c .range-of .ok) ∙ c .range-of .ensures)
-    ∙ low-more _ (λ e. c .before .if1 .left (some-level _ e))
+    ∙ low-more nineSevenFilter _ (λ e. c .before .if1 .left (some-level _ e))
 
 pub lowest-of-spec : {M : Type 1} → statement M
 lowest-of-spec = tie.close (tie.spec range-of-requires sub-result returns returns-2)

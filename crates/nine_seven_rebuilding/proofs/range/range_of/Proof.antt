@@ -11,7 +11,7 @@ use Rattle.numbers.proofs.Integers.{each, lin}
 use Rattle.wavelet.specs.Limits.{maxSample, range}
 use Rattle.nine_seven_rebuilding.specs.Rebuilding.{maxLevels}
 use Rattle.nine_seven.specs.NineSevenFilter.{nineSevenFilter}
-use Rattle.nine_seven_rebuilding.proofs.AdmitLaws.{levels-small, range-suc, range-small}
+use Rattle.nine_seven_rebuilding.proofs.RangeLaws.{levels-small, range-suc, range-small}
 use Rattle.nine_seven_rebuilding.proofs.range.range_of.Statement.{statement}
 use Rattle.nine_seven_rebuilding.proofs.range.range_of.Tie as tie
 

@@ -4,7 +4,9 @@ use Prim.Native.Nat.{_+_, _-_}
 use native.Mathlib.Omega.{arith}
 use borrow.Author.Needs.{needs}
 use Rattle.numbers.proofs.Words.{read-back}
-use Rattle.nine_seven_rebuilding.proofs.AdmitLaws.{admit-is, same-range}
+use Rattle.nine_seven.specs.NineSevenFilter.{nineSevenFilter}
+use Rattle.level.proofs.AdmitLaws.{admit-is}
+use Rattle.nine_seven_rebuilding.proofs.RangeLaws.{same-range}
 use Rattle.nine_seven_rebuilding.proofs.rows.admit_row.Statement.{statement}
 use Rattle.nine_seven_rebuilding.proofs.rows.admit_row.Tie as tie
 
@@ -44,7 +46,7 @@ returns c =
     let a = start .args in
     let at = place .row-place .result in
     c .all-between .ensures
-    ∙ admit-is (a .k) (a .w) (a .q) at (at + a .w - at) (a .stretch .now) _ _ (place .row-place .ensures .0) (omega arith) (omega arith)
+    ∙ admit-is 8 nineSevenFilter (a .k) (a .w) (a .q) at (at + a .w - at) (a .stretch .now) _ _ (place .row-place .ensures .0) (omega arith) (omega arith)
     (read-back (low .lowest-of .result) (low .lowest-of .ok) ∙ low .lowest-of .ensures ∙ same-range (a .k) (start .pre .2) .1)
     (read-back (high .range-of .result) (high .range-of .ok) ∙ high .range-of .ensures ∙ same-range (a .k) (start .pre .2) .0)
 

@@ -4,10 +4,13 @@ use Prim.Native.Nat.{_+_, _-_}
 use native.Mathlib.Omega.{arith}
 use borrow.Author.Needs.{needs}
 use borrow.Author.Tests.{not-true, not-false}
-use Rattle.nine_seven_rebuilding.proofs.SlotLaws.{even-part, halve-part}
-use Rattle.nine_seven_rebuilding.proofs.WorkLaws.{lone-no, lone-made}
-use Rattle.level.proofs.KeptLaws.{kept-none, kept-is}
-use Rattle.nine_seven_rebuilding.proofs.KeptLaws.{halved-kept}
+use Rattle.level.proofs.SlotLaws.{even-part, halve-part}
+use Rattle.lifting.specs.Grid.{side}
+use Rattle.nine_seven.specs.NineSevenFilter.{nineSevenFilter}
+use Rattle.level.proofs.WorkLaws.{lone-no, lone-made}
+use Rattle.level.proofs.KeptLaws.{kept-none, kept-is, only-kept}
+use Rattle.level.proofs.RowsIn.{only-halved}
+use Rattle.nine_seven_rebuilding.proofs.EightRows.{eight}
 use Rattle.nine_seven_rebuilding.proofs.rows.make_lone.Statement.{statement}
 use Rattle.nine_seven_rebuilding.proofs.rows.make_lone.Tie as tie
 
@@ -41,8 +44,8 @@ returns c =
     let place = test .before .before .before in
     let a = place .before .args in
     let at = place .row-place .result in (
-      lone-no (a .k) (a .w) (a .q) _
-          (sym (even-part (a .w) (a .q) at (at + a .w - at) (a .stretch .now) (place .row-place .ensures .0) (omega arith) (omega arith))
+      lone-no 8 nineSevenFilter (a .k) (a .w) (a .q) _
+          (sym (even-part eight (a .w) (a .q) at (at + a .w - at) (a .stretch .now) (place .row-place .ensures .0) (omega arith) (omega arith))
           ∙ sym (test .all-even .ensures) ∙ not-true _ (c .if1 .taken)),
       kept-none _ _,
     )
@@ -76,12 +79,12 @@ returns-2 c =
     let place = test .before .before .before in
     let a = place .before .args in
     let at = place .row-place .result in
-    let halved = halve-part (a .w) (a .q) at (at + a .w - at) (a .stretch .now) (place .row-place .ensures .0) (omega arith) (omega arith)
+    let halved = halve-part eight (a .w) (a .q) at (at + a .w - at) (a .stretch .now) (place .row-place .ensures .0) (omega arith) (omega arith)
     (halve .halve-all .last .0) (omega arith) (halve .halve-all .ensures) in (
-      lone-made (a .k) (a .w) (a .q) _ _ _
-          (sym (even-part (a .w) (a .q) at (at + a .w - at) (a .stretch .now) (place .row-place .ensures .0) (omega arith) (omega arith))
+      lone-made 8 nineSevenFilter (a .k) (a .w) (a .q) _ _ _
+          (sym (even-part eight (a .w) (a .q) at (at + a .w - at) (a .stretch .now) (place .row-place .ensures .0) (omega arith) (omega arith))
           ∙ sym (test .all-even .ensures) ∙ not-false _ (even .if1 .left)) halved (c .admit-row .ensures),
-      kept-is _ _ _ _ (halved-kept (a .w) _ (a .q)) halved,
+      kept-is _ _ _ _ (only-kept (only-halved eight (side 0 (a .w)) (a .q) _)) halved,
     )
 
 pub make-lone-spec : {M : Type 1} → statement M

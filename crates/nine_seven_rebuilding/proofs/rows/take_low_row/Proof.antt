@@ -8,7 +8,7 @@ use Rattle.lifting.specs.Grid.{side}
 use Rattle.lifting.proofs.GridLaws.{counts}
 use Rattle.wavelet.specs.Levels.{next}
 use Rattle.wavelet.specs.Order.{firstSet}
-use Rattle.nine_seven_rebuilding.proofs.WorkLaws.{low-taken}
+use Rattle.level.proofs.WorkLaws.{low-taken}
 use Rattle.nine_seven_rebuilding.proofs.rows.take_low_row.Statement.{statement}
 use Rattle.nine_seven_rebuilding.proofs.rows.take_low_row.Tie as tie
 
@@ -70,7 +70,7 @@ returns c =
     let room = apart-in (length (a .stretch .now)) place (to .row-place2 .result) (low .low-count .result)
     (omega (arith, low .low-count .ensures)) (omega (arith, low .low-count .ensures)) in
     did _ _ _ _ room (call .weave-down .ensures .1)
-    ∙ low-taken (side (a .x) (a .w)) (side (a .y) (a .h)) (a .n) _ _ _ _ _ _ (low .low-count .ensures) (across .next-start2 .ensures (a .w))
+    ∙ low-taken 8 (side (a .x) (a .w)) (side (a .y) (a .h)) (a .n) _ _ _ _ _ _ (low .low-count .ensures) (across .next-start2 .ensures (a .w))
     (ap (λ (i : ℕ). i % 2 + (a .n - a .y % 2)) (down .next-start .ensures (a .h)))
     (ap (λ (i : ℕ). 8 * a .w + i) (from .row-place .ensures .0)) (to .row-place2 .ensures .0)
 

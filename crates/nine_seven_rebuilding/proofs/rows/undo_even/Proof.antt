@@ -2,7 +2,7 @@
 use mathlib.Core.Path.{_∙_, sym}
 use native.Mathlib.Omega.{arith}
 use Rattle.lifting.specs.Grid.{side}
-use Rattle.nine_seven_rebuilding.proofs.SlotLaws.{even-by, even-one}
+use Rattle.nine_seven_rebuilding.proofs.EightRows.{even-by, even-one}
 use Rattle.nine_seven_rebuilding.proofs.rows.undo_even.Statement.{statement}
 use Rattle.nine_seven_rebuilding.proofs.rows.undo_even.Tie as tie
 

@@ -2,7 +2,7 @@
 use mathlib.Core.Path.{_∙_}
 use native.Mathlib.Omega.{arith}
 use Rattle.lifting.specs.Grid.{side}
-use Rattle.nine_seven_rebuilding.proofs.SlotLaws.{odd-by}
+use Rattle.nine_seven_rebuilding.proofs.EightRows.{odd-by}
 use Rattle.nine_seven_rebuilding.proofs.rows.undo_odd.Statement.{statement}
 use Rattle.nine_seven_rebuilding.proofs.rows.undo_odd.Tie as tie
 

@@ -2,7 +2,9 @@
 use Prim.Native.Nat.{_+_, _-_}
 use native.Mathlib.Omega.{arith}
 use borrow.Author.Needs.{needs}
-use Rattle.nine_seven_rebuilding.proofs.SlotLaws.{unlift-part, part-kept}
+use Rattle.nine_seven.specs.Memory.{unliftedInPlace}
+use Rattle.level.proofs.SlotLaws.{unlift-part, part-kept}
+use Rattle.nine_seven_rebuilding.proofs.EightRows.{eight}
 use Rattle.nine_seven_rebuilding.proofs.rows.unlift_row.Statement.{statement}
 use Rattle.nine_seven_rebuilding.proofs.rows.unlift_row.Tie as tie
 
@@ -36,9 +38,9 @@ returns c =
     let place = call .before .before in
     let a = place .before .args in
     let at = place .row-place .result in (
-      unlift-part (a .w) (a .q) at (at + a .w - at) (a .stretch .now) (place .row-place .ensures .0) (omega arith) (omega arith)
-          (a .x) (call .unlift .result) (call .unlift .last .0) (omega arith) (call .unlift .ensures .0) (call .unlift .ensures .1),
-      part-kept (a .w) (a .q) at (at + a .w - at) (a .stretch .now) (place .row-place .ensures .0) (omega arith) (omega arith) (call .unlift .last .0)
+      unlift-part eight (a .w) (a .q) at (at + a .w - at) (a .stretch .now) (place .row-place .ensures .0) (omega arith) (omega arith)
+          unliftedInPlace (a .x) (call .unlift .result) (call .unlift .last .0) (omega arith) (call .unlift .ensures .0) (call .unlift .ensures .1),
+      part-kept eight (a .w) (a .q) at (at + a .w - at) (a .stretch .now) (place .row-place .ensures .0) (omega arith) (omega arith) (call .unlift .last .0)
           (omega arith),
     )
 

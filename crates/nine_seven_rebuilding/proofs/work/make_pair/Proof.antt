@@ -1,5 +1,4 @@
 -- `nine_seven_rebuilding::work::make_pair` meets its contract: the odd row, its test, and that of the even row. Assumes nothing.
-use mathlib.Core.Path.{_∙_}
 use Prim.Native.Nat.{_+_, _*_}
 use native.Mathlib.Omega.{arith}
 use borrow.Author.Tests.{not-true, not-false}

@@ -2,22 +2,23 @@
 use native.Mathlib.Omega.{arith}
 use Rattle.lifting.specs.Grid.{side}
 use Rattle.wavelet.specs.Order.{firstSet}
-use Rattle.nine_seven_rebuilding.proofs.WorkLaws.{take-last, take-none, take-low}
-use Rattle.level.proofs.KeptLaws.{kept-none, kept-is}
-use Rattle.nine_seven_rebuilding.proofs.KeptLaws.{low-kept}
+use Rattle.level.proofs.WorkLaws.{take-last, take-none, take-low}
+use Rattle.level.proofs.KeptLaws.{kept-none, kept-is, only-kept}
+use Rattle.level.proofs.RowsIn.{only-taken}
+use Rattle.nine_seven_rebuilding.proofs.EightRows.{eight}
 use Rattle.nine_seven_rebuilding.proofs.work.take_low.Statement.{statement}
 use Rattle.nine_seven_rebuilding.proofs.work.take_low.Tie as tie
 
 returns : tie.Need-returns
 returns c =
     let a = c .before .args in
-    (take-last (side (a .x) (a .w)) (side (a .y) (a .h)) (a .n) _ (a .last) (c .if1 .taken), kept-none _ _)
+    (take-last 8 (side (a .x) (a .w)) (side (a .y) (a .h)) (a .n) _ (a .last) (c .if1 .taken), kept-none _ _)
 
 returns-2 : tie.Need-returns-2
 returns-2 c =
     let more = c .before in
     let a = more .before .args in
-    (take-none (side (a .x) (a .w)) (side (a .y) (a .h)) (a .n) _ (a .last) (more .if1 .left) (omega arith), kept-none _ _)
+    (take-none 8 (side (a .x) (a .w)) (side (a .y) (a .h)) (a .n) _ (a .last) (more .if1 .left) (omega arith), kept-none _ _)
 
 take-low-row-requires : tie.Need-take-low-row-requires
 unfolding firstSet
@@ -36,8 +37,8 @@ returns-3 c =
     let some = take .before .before in
     let more = some .before in
     let a = more .before .args in (
-      take-low (side (a .x) (a .w)) (side (a .y) (a .h)) (a .n) _ (a .last) _ (more .if1 .left) (omega arith) (take .take-low-row .ensures),
-      kept-is _ _ _ _ (low-kept (side (a .x) (a .w)) (side (a .y) (a .h)) (a .n) _) (take .take-low-row .ensures),
+      take-low 8 (side (a .x) (a .w)) (side (a .y) (a .h)) (a .n) _ (a .last) _ (more .if1 .left) (omega arith) (take .take-low-row .ensures),
+      kept-is _ _ _ _ (only-kept (only-taken eight (side (a .x) (a .w)) (side (a .y) (a .h)) (a .n) _)) (take .take-low-row .ensures),
     )
 
 pub take-low-spec : {M : Type 1} → statement M

@@ -3,13 +3,14 @@ use mathlib.Core.Path.{_∙_}
 use native.Mathlib.Omega.{arith}
 use borrow.Author.Needs.{needs}
 use Rattle.lifting.specs.Grid.{side}
-use Rattle.nine_seven_rebuilding.proofs.WorkLaws.{low-none, low-some}
+use Rattle.nine_seven.specs.Memory.{unliftedInPlace}
+use Rattle.level.proofs.WorkLaws.{low-none, low-some}
 use Rattle.level.proofs.KeptLaws.{kept-none}
 use Rattle.nine_seven_rebuilding.proofs.work.unlift_low.Statement.{statement}
 use Rattle.nine_seven_rebuilding.proofs.work.unlift_low.Tie as tie
 
 returns : tie.Need-returns
-returns c = let a = c .before .args in (low-none (side (a .x) (a .w)) (side (a .y) (a .h)) (a .n) _ (omega arith), kept-none _ _)
+returns c = let a = c .before .args in (low-none 8 unliftedInPlace (side (a .x) (a .w)) (side (a .y) (a .h)) (a .n) _ (omega arith), kept-none _ _)
 
 mul-unlift-row : tie.Need-mul-unlift-row
 mul-unlift-row c = omega arith
@@ -25,7 +26,7 @@ returns-2 c =
     let call = c .before in
     let some = call .before .before in
     let a = some .before .args in
-    (call .unlift-row .ensures .0 ∙ low-some (side (a .x) (a .w)) (side (a .y) (a .h)) (a .n) _ (omega arith), call .unlift-row .ensures .1)
+    (call .unlift-row .ensures .0 ∙ low-some 8 unliftedInPlace (side (a .x) (a .w)) (side (a .y) (a .h)) (a .n) _ (omega arith), call .unlift-row .ensures .1)
 
 pub unlift-low-spec : {M : Type 1} → statement M
 unlift-low-spec = tie.close (tie.spec returns mul-unlift-row unlift-row-requires same-length returns-2)

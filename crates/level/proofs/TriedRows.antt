@@ -1,0 +1,62 @@
+-- Rows tried in a level's stretch of m rows, by any filter F: what trying comes to, and a row tested. Assumes nothing.
+use mathlib.Core.Path.{_≡_, refl, sym, subst, _∙_}
+use mathlib.Core.Bool.{Bool, true, false}
+use Prim.Native.Nat.{ℕ, _+_, _<_}
+use lib.IntN.{ℤ}
+use lib.Dec.{T}
+use Rattle.numbers.specs.Signal.{pick}
+use Rattle.numbers.specs.Word.{wrap32}
+use Rattle.numbers.proofs.TestLaws.{every-each, each-every}
+use Rattle.lifting.specs.Line.{Half}
+use Rattle.lifting.specs.Grid.{Side, place, count, parted}
+use Rattle.lifting.specs.Filter.{Filter}
+use Rattle.lifting.proofs.GridLaws.{place-in, in-place, by-place}
+use Rattle.wavelet.specs.Bands.{Grid, Band, levelBack}
+use Rattle.wavelet.specs.Maps.{valueFits}
+use Rattle.wavelet.specs.Steps.{setOf}
+use Rattle.level.specs.Tried.{Tried, failed, passed, bind}
+use Rattle.level.specs.Stretch.{rowPlace, halfPlace, rowFits, admitted, RowStands}
+use Rattle.level.specs.Stands.{SetFitsBy}
+use Rattle.level.proofs.RowsIn.{half-inside, by-halves}
+
+-- ---- what trying comes to: a memory with a property, or a value that does not fit where N says that all do
+pub data Outcome (N : Type 0) (P : (ℕ → ℤ) → Type 0) : Tried → Type 0 where
+  stops : (N → ⊥) → Outcome N P failed
+  goes : (y : ℕ → ℤ) → P y → Outcome N P (passed y)
+
+pub bind-outcome : {N : Type 0} {P Q : (ℕ → ℤ) → Type 0} (t : Tried) (f : (ℕ → ℤ) → Tried) → Outcome N P t → ((y : ℕ → ℤ) → P y → Outcome N Q (f y)) →
+    Outcome N Q (bind t f)
+unfolding bind
+bind-outcome _ f (stops n) g = stops n
+bind-outcome _ f (goes y p) g = g y p
+
+pub not-false : (t : Bool) → t ≡ true → t ≡ false → ⊥
+not-false t e f = subst T (sym e ∙ f) tt
+
+-- ---- a test of every number of a row, of those that stand there
+module _ (m : ℕ) (W : Side) (P : ℤ → Bool) (q : ℕ) (x row : ℕ → ℤ) (s : RowStands m W x q (parted W row)) where
+  fits-parted : ((a : Half) (i : ℕ) → i < count a W → P (parted W row a i) ≡ true) → (c : ℕ) → c < W .length → P (row c) ≡ true
+  unfolding parted
+  fits-parted f = by-place W (λ c. c < W .length → P (row c) ≡ true) (λ a i b. f a i (in-place W a i b))
+
+  pub each-stands : ((i : ℕ) → i < W .length → P (x (rowPlace m (W .length) q + i)) ≡ true) → (c : ℕ) → c < W .length → P (row c) ≡ true
+  each-stands f = fits-parted (λ a i b. subst (λ v. P v ≡ true) (s a i b) (f (halfPlace a W + i) (half-inside a W i b)))
+
+  pub stands-each : ((c : ℕ) → c < W .length → P (row c) ≡ true) → (i : ℕ) → i < W .length → P (x (rowPlace m (W .length) q + i)) ≡ true
+  unfolding parted
+  stands-each f =
+      by-halves W (λ j. P (x (rowPlace m (W .length) q + j)) ≡ true)
+      (λ a i b. subst (λ v. P v ≡ true) (sym (s a i b)) (f (place W a i) (place-in W a i b)))
+
+-- ---- the test of 14 of row r of the grid, which set n makes at the look-ahead a
+pub admit : (F : Filter) (m a k : ℕ) (W H : Side) (p : Band → Grid) (P : (ℕ → ℤ) → Type 0) (n q r : ℕ) (x : ℕ → ℤ) → r < H .length → setOf a H r ≡ n →
+    RowStands m W x q (parted W (levelBack F wrap32 W H p r)) →
+    (((c : ℕ) → c < W .length → valueFits F k (levelBack F wrap32 W H p r c) ≡ true) → P x) →
+    Outcome (SetFitsBy F a k W H p n) P (admitted m F k (W .length) q x)
+unfolding admitted rowFits
+admit F m a k W H p P n q r x b o s f = go (rowFits m F k (W .length) q x) refl
+  where
+    go : (t : Bool) → rowFits m F k (W .length) q x ≡ t → Outcome (SetFitsBy F a k W H p n) P (pick t (passed x) failed)
+    go true e = goes x (f (each-stands m W (valueFits F k) q x (levelBack F wrap32 W H p r) s (every-each (W .length) _ e)))
+    go false e = stops (λ all. not-false (rowFits m F k (W .length) q x)
+        (each-every (W .length) _ (stands-each m W (valueFits F k) q x (levelBack F wrap32 W H p r) s (λ c u. all .fit r c b o u))) e)
