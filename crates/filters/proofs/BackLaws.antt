@@ -17,17 +17,18 @@ use Rattle.wavelet.specs.Bands.{Band, across, down}
 use Rattle.wavelet.specs.Order.{lastSet}
 use Rattle.level.specs.Tried.{failed, outcome}
 use Rattle.level.specs.Stretch.{local, rowOfSet, halfPlace, rowPlace, bandFed, rowIn}
-use Rattle.level.specs.Work.{admitted, setWorked}
-use Rattle.level.specs.Rebuilding.{widest, tallest, workAnswer, Kept, workable, workLeft}
+use Rattle.five_three_rebuilding.specs.Work.{admitted, setWorked}
+use Rattle.level.specs.Rebuilding.{widest, tallest, workAnswer, Kept}
+use Rattle.five_three_rebuilding.specs.Rebuilding.{workable, workLeft}
 use Rattle.nine_seven_rebuilding.specs.Work as work97
 use Rattle.nine_seven_rebuilding.specs.Rebuilding as rebuilding97
 use Rattle.level.proofs.WorkedPast.{Keeps}
-use Rattle.level.proofs.WorkedPast as past
+use Rattle.five_three_rebuilding.proofs.WorkedPast as past
 use Rattle.nine_seven_rebuilding.proofs.WorkedPast as past97
 use Rattle.level.proofs.RowsIn.{row-end}
 use Rattle.level.proofs.RebuildingLaws.{workable-is}
 use Rattle.level.proofs.ReaderLaws.{ReaderLawsBy}
-use Rattle.level.proofs.FiveThreeBackLaws.{five-three-back-laws}
+use Rattle.five_three_rebuilding.proofs.FiveThreeBackLaws.{five-three-back-laws}
 use Rattle.nine_seven_rebuilding.proofs.NineSevenBackLaws.{nine-seven-back-laws}
 use Rattle.filters.specs.Back.{backOf, standsOf, rowPlaceOf, workableOf, workLeftOf}
 

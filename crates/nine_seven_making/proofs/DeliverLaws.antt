@@ -13,7 +13,7 @@ use Rattle.lifting.specs.GridHalves.{partedInto}
 use Rattle.wavelet.specs.Levels.{next}
 use Rattle.level.specs.Level.{rest}
 use Rattle.level.proofs.RestLaws.{join-splice}
-use Rattle.level.proofs.DeliverLaws.{parted-any}
+use Rattle.level.proofs.PartedLaws.{parted-any}
 use Rattle.nine_seven_making.specs.NineSevenLevel.{slot, rowPut, waitsAt, bandPlace}
 use Rattle.nine_seven_making.specs.Making.{delivered}
 

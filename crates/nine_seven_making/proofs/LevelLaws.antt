@@ -21,7 +21,7 @@ use Rattle.wavelet.specs.Bands.{Grid, Band, across, down, columnsLifted, subban
 use Rattle.wavelet.specs.Order.{firstSet, lastSet, setRow, unmade}
 use Rattle.level.specs.Level.{Memory, completes, SetStands}
 use Rattle.level.proofs.LevelLaws.{LevelLaws}
-use Rattle.level.proofs.Slots.{spot-apart}
+use Rattle.level.proofs.Spots.{spot-apart}
 use Rattle.nine_seven_making.specs.NineSevenLevel.{cellOf, rowPut, setMade, rowsTo, bandPlace}
 use Rattle.nine_seven_making.specs.NineSevenLevel.{RowStands, Kept, Left, nineSevenLevel}
 use Rattle.nine_seven_making.proofs.Places.{place-room}

@@ -27,7 +27,7 @@ use Rattle.nine_seven.proofs.FiveRows as five
 use Rattle.nine_seven.proofs.MirrorLaws.{farBefore, farAfter, far-more, far-less}
 use Rattle.wavelet.specs.Order.{firstSet}
 use Rattle.wavelet.proofs.SideLaws.{count-lo, count-hi}
-use Rattle.level.proofs.SetLaws.{row-doubled}
+use Rattle.level.proofs.RowSteps.{row-doubled}
 use Rattle.nine_seven_making.specs.NineSevenLevel.{slot, rowBefore, rowAfter, rowHigh, rowLow, rowCopied, rowLifted, hasRow}
 use Rattle.nine_seven_making.specs.NineSevenLevel.{highMade, lowWaits, highWaits, setMade, rowsTo, waitsAt}
 use Rattle.nine_seven_making.specs.Making.{levelFits, nextFits}

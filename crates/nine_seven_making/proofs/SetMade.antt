@@ -21,8 +21,8 @@ use Rattle.wavelet.specs.Bands.{Grid, LL, HL, LH, HH, across, down, columnsLift
 use Rattle.wavelet.specs.Order.{firstSet, setRow}
 use Rattle.wavelet.proofs.SideLaws.{count-lo, count-hi, count-sum}
 use Rattle.level.specs.Level.{Memory, SetStands}
-use Rattle.level.specs.FiveThreeLevel.{doubled}
-use Rattle.level.proofs.SetRows.{ap₃}
+use Rattle.level.specs.Moves.{doubled}
+use Rattle.level.proofs.RowSteps.{ap₃}
 use Rattle.nine_seven_making.specs.NineSevenLevel.{slot, cellOf, rowBefore, rowAfter, rowHigh, rowLow, rowCopied, rowLifted, hasRow}
 use Rattle.nine_seven_making.specs.NineSevenLevel.{highMade, lowWaits, highWaits, setMade, waitsAt, bandPlace, RowStands, Left, nineSevenLevel}
 use Rattle.nine_seven_making.proofs.NearRows.{high-place, low-place, before-high, after-high, far-before-high, far-after-high, before-low, after-low}

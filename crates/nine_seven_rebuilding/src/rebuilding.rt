@@ -4,7 +4,7 @@ use crate::range;
 use crate::rows;
 use crate::work;
 use areas::copies;
-use level::rebuilding as limits;
+use level::bounds as limits;
 use wavelet::sizes;
 ghost use mathlib.Core.Path.{_≡_};
 ghost use Prim.Native.Nat.{_+_, _*_, _≤_};

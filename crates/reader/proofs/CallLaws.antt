@@ -27,7 +27,7 @@ use Rattle.reader.specs.declared.walk.Spot.{Spot}
 use Rattle.areas.specs.Areas.{height16}
 use Rattle.reader.specs.Answers.{gives, refused, impossible, Want, row, drawNow, done, ended, aRow, nothing}
 use Rattle.level.specs.Tried.{Tried, failed, passed, fits, memory}
-use Rattle.level.specs.Slots.{local}
+use Rattle.level.specs.Stretch.{local}
 use Rattle.reader.specs.Store.{zeroed}
 use Rattle.reader.specs.Machine.{spot, placeOf, dive, enter, spotFed}
 use Rattle.reader.specs.State.{columns, rows, next, nextRow, nextLength, unfinished, rowDue, drawDue, wants, settles, feeds, movedTo}

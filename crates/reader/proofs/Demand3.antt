@@ -53,7 +53,7 @@ use Rattle.reader.specs.Demand3.{OneOf, this, that, written, Draws, Dema
 use Rattle.reader.specs.Demand3 as demand
 use Rattle.reader.proofs.ReadyLaws.{ready-enter, ready-back}
 use Rattle.reader.proofs.StepsLeft.{stepsLeft, left-first}
-use Rattle.level.proofs.SetMade.{Outcome}
+use Rattle.level.proofs.TriedRows.{Outcome}
 use Rattle.reader.proofs.Outcomes.{outcome-failed, outcome-passed, settles-outcome, feeds-worked, kept-last}
 use Rattle.reader.proofs.Holds.{by-outcome, Fits, LeavesAt, Held, HeldAt, Worked, first-holds, set-fits, set-has}
 use Rattle.reader.proofs.CallViews.{Limits, limits, here, at, nextOf, nameOf, Due, View, at-end, at-height, at-row, view, counts, want-says}

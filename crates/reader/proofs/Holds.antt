@@ -38,7 +38,7 @@ use Rattle.reader.proofs.OpenedSets.{waits-here, waits-finer, waiting-r
 use Rattle.reader.proofs.CellLaws.{cells-yes, cells-are, cells-before, no-low}
 use Rattle.reader.proofs.ReadyLaws.{ready-up}
 use Rattle.reader.proofs.StepsLeft.{last-none, begins-is}
-use Rattle.level.proofs.SetMade.{Outcome, stops, goes, bind-outcome}
+use Rattle.level.proofs.TriedRows.{Outcome, stops, goes, bind-outcome}
 use Rattle.wavelet.proofs.StepLaws.{set-there, before-zero, before-suc}
 use Rattle.wavelet.specs.Steps.{setOf, setsBefore}
 use Rattle.level.specs.Sets.{opens}

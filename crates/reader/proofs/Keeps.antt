@@ -29,7 +29,7 @@ use Rattle.reader.specs.Calls.{fresh, setUpReply, setUpStore, feedReply,
 use Rattle.reader.specs.Holds.{Ready, Holds, FeedDue, WantedFits, DrawnFits, IsWanted, SetUpHolds, FeedKeeps, DrawKeeps}
 use Rattle.reader.proofs.Looks.{named-code}
 use Rattle.reader.proofs.StepsLeft.{stepsLeft}
-use Rattle.level.proofs.SetMade.{Outcome}
+use Rattle.level.proofs.TriedRows.{Outcome}
 use Rattle.reader.proofs.Holds.{NextFits, Held, HeldAt, first-holds, enter-holds}
 use Rattle.reader.proofs.ReadyLaws.{ready-back, ready-beyond, ready-enter}
 use Rattle.reader.proofs.CallViews.{Limits, here, at, nextOf, nameOf, Due, view, FeedView, feed-away, feed-onward, feed-view}

@@ -12,7 +12,7 @@ use Rattle.numbers.proofs.Parts.{splice-past}
 use Rattle.lifting.specs.Grid.{Side, count}
 use Rattle.wavelet.specs.Bands.{across, down}
 use Rattle.wavelet.specs.Levels.{sideAt}
-use Rattle.level.specs.Slots.{rowOfSet, halfPlace}
+use Rattle.level.specs.Stretch.{rowOfSet, halfPlace}
 use Rattle.level.specs.Rebuilding.{Kept}
 use Rattle.level.proofs.RowsIn.{half-end}
 use Rattle.nine_seven.specs.Filters.{filterOf}

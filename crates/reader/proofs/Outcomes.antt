@@ -24,7 +24,7 @@ use Rattle.reader.specs.Machine.{Spot, Place, settled, fedOn, beyond}
 use Rattle.reader.specs.Holds.{Ready, FeedDue}
 use Rattle.reader.specs.State.{next, settles, feeds}
 use Rattle.reader.specs.Calls.{heightRow}
-use Rattle.level.proofs.SetMade.{Outcome, stops, goes, bind-outcome}
+use Rattle.level.proofs.TriedRows.{Outcome, stops, goes, bind-outcome}
 use Rattle.reader.proofs.CellLaws.{asked-has}
 use Rattle.reader.proofs.Holds.{by-outcome, Held, HeldAt, HeldNext, NextFits, FedHeld, settle-holds, fed-holds, height-made, height-fit}
 use Rattle.reader.proofs.CallViews.{here, at, nextOf, nameOf, Due}

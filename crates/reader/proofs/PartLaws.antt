@@ -23,7 +23,7 @@ use Rattle.wavelet.specs.Order.{lastSet}
 use Rattle.wavelet.proofs.SideLaws.{length-suc, size-le}
 use Rattle.areas.proofs.AreaLaws.{front-at}
 use Rattle.level.specs.Tried.{Tried, passed, outcome, onto}
-use Rattle.level.specs.Slots.{rowOfSet, halfPlace}
+use Rattle.level.specs.Stretch.{rowOfSet, halfPlace}
 use Rattle.level.proofs.RowsIn.{half-end}
 use Rattle.nine_seven.specs.Filters.{filterOf}
 use Rattle.filters.specs.Back.{backOf, rowPlaceOf}

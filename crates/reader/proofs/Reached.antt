@@ -51,7 +51,7 @@ use Rattle.reader.proofs.Looks.{code-lt}
 use Rattle.reader.proofs.CellLaws.{asked-has, has-row}
 use Rattle.reader.proofs.ReadyLaws.{ready-beyond, ready-enter, ready-back, enter-end}
 use Rattle.reader.proofs.StepsLeft.{stepsLeft, left-done}
-use Rattle.level.proofs.SetMade.{Outcome}
+use Rattle.level.proofs.TriedRows.{Outcome}
 use Rattle.reader.proofs.Holds.{Live, Fits, NextFits, Held, HeldAt, enter-holds, height-fit, sets-fitting, due-fitting, sets-tested}
 use Rattle.reader.proofs.Outcomes.{outcome-failed, outcome-passed, settles-outcome, feeds-outcome, row-out}
 use Rattle.reader.proofs.CallViews.{Limits, here, at, nextOf, nameOf, Due, View, view, FeedView, feed-away, feed-onward, feed-view}

@@ -14,7 +14,7 @@ use Rattle.wavelet.specs.Steps.{setTo, setOf, setsBefore}
 use Rattle.wavelet.proofs.StepLaws.{to-first, to-later, set-of, before-suc}
 use Rattle.nine_seven.specs.Filters.{filterOf}
 use Rattle.level.specs.Sets.{opens}
-use Rattle.level.specs.Slots.{rowOfSet, halfPlace}
+use Rattle.level.specs.Stretch.{rowOfSet, halfPlace}
 use Rattle.reader.specs.Sets.{ahead, rowTo, firstRow}
 use Rattle.reader.specs.Asked.{named}
 use Rattle.reader.specs.Store.{hasCells}

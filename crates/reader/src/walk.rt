@@ -22,7 +22,7 @@ ghost use Rattle.nine_seven.specs.Filters.{filterOf};
 ghost use Rattle.filters.specs.Figures.{storeBy};
 ghost use Rattle.filters.specs.Back.{rowPlaceOf};
 ghost use Rattle.level.specs.Tried.{outcome};
-ghost use Rattle.level.specs.Slots.{rowOfSet, halfPlace};
+ghost use Rattle.level.specs.Stretch.{rowOfSet, halfPlace};
 ghost use Rattle.level.specs.Rebuilding.{Kept};
 ghost use Rattle.reader.specs.Asked.{named};
 ghost use Rattle.reader.specs.Store.{fedAt, workedAt};
