@@ -1,10 +1,10 @@
--- `compare_reader::reading::turns` is safe and ends. In the loop the areas keep their lengths. Assumes nothing.
+-- `compare_maps::reading::turns` is safe and ends. In the loop the areas keep their lengths. Assumes nothing.
 use mathlib.Core.Path.{_≡_}
 use native.Mathlib.Omega.{arith}
 use borrow.Author.Needs.{needs}
 use lib.ListN.{length}
-use Rattle.compare_reader.proofs.reading.turns.Statement.{statement}
-use Rattle.compare_reader.proofs.reading.turns.Tie as tie
+use Rattle.compare_maps.proofs.reading.turns.Statement.{statement}
+use Rattle.compare_maps.proofs.reading.turns.Tie as tie
 
 abbrev Inv-loop : tie.InvT-loop
 Inv-loop map book plane store₀ out₀ t₀ left₀ store out t left = (length store ≡ length store₀) × (length out ≡ length out₀)

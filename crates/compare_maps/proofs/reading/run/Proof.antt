@@ -1,8 +1,8 @@
--- `compare_reader::reading::run` is safe and ends: the maps are counted up. Assumes nothing.
+-- `compare_maps::reading::run` is safe and ends: the maps are counted up. Assumes nothing.
 use Prim.Native.Nat.{_-_}
 use native.Mathlib.Omega.{arith}
-use Rattle.compare_reader.proofs.reading.run.Statement.{statement}
-use Rattle.compare_reader.proofs.reading.run.Tie as tie
+use Rattle.compare_maps.proofs.reading.run.Statement.{statement}
+use Rattle.compare_maps.proofs.reading.run.Tie as tie
 
 abbrev Inv-loop : tie.InvT-loop
 Inv-loop t₀ i₀ t i = Unit {0}

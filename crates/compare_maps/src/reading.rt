@@ -71,17 +71,17 @@ impl Turn {
 const NOTHING: u8 = 100;
 
 // A call's answer as a number: 0 where it passed, NOTHING, 14, or the question that refused it. With it the heights drawn, and the reader after the call.
-struct Answer {
-    no: u8,
+pub struct Answer {
+    pub no: u8,
     count: usize,
-    reader: Reader,
+    pub reader: Reader,
 }
 
 fn gives(no: u8, count: usize, reader: Reader) -> Answer {
     Answer { no, count, reader }
 }
 
-fn fed(r: Reader, store: &mut [i32], run: &[i32]) -> Answer {
+pub fn fed(r: Reader, store: &mut [i32], run: &[i32]) -> Answer {
     match r.feed(store, run) {
         Fed::Passed(next) => gives(0, 0, next),
         Fed::Impossible(next) => gives(14, 0, next),
