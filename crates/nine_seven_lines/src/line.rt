@@ -1,5 +1,6 @@
 // Line calls: a whole line lifted, in place in halves, or from one area to another. A line starts at a coordinate of the grid, any number: only whether it is
 // odd counts. A line of one number or none is as the 5/3 has it.
+use crate::near;
 use crate::place;
 use crate::put;
 use areas::lines;
@@ -24,11 +25,8 @@ fn predict_end(line: &mut [i32], low: usize, o: usize, n: usize)
     ensures { λ _. ⌜ now (line .exit) ≡ set (now (line .entry)) (low + n)
         (highBy (predicted wrap32) o low (length (now (line .entry))) (at (now (line .entry))) n) ⌝ }
 {
-    let a = place::left(low, o, n);
-    let b = place::nearest(low, n + o);
-    let c = place::far_left(low, o, n);
-    let e = place::far_right(low, line.len() - low, o, n);
-    place::predict_at(line, low + n, a, b, c, e);
+    let by = near::around(low, line.len() - low, o, n);
+    place::predict_at(line, low + n, by.left, by.right, by.before, by.after);
 }
 
 fn predict_ends(line: &mut [i32], low: usize, o: usize, from: usize, to: usize)
@@ -73,11 +71,8 @@ fn unpredict_end(line: &mut [i32], low: usize, o: usize, n: usize)
     ensures { λ _. ⌜ now (line .exit) ≡ set (now (line .entry)) (low + n)
         (highBy (unpredicted wrap32) o low (length (now (line .entry))) (at (now (line .entry))) n) ⌝ }
 {
-    let a = place::left(low, o, n);
-    let b = place::nearest(low, n + o);
-    let c = place::far_left(low, o, n);
-    let e = place::far_right(low, line.len() - low, o, n);
-    place::unpredict_at(line, low + n, a, b, c, e);
+    let by = near::around(low, line.len() - low, o, n);
+    place::unpredict_at(line, low + n, by.left, by.right, by.before, by.after);
 }
 
 fn unpredict_ends(line: &mut [i32], low: usize, o: usize, from: usize, to: usize)
@@ -125,7 +120,7 @@ fn update_lows(line: &mut [i32], low: usize, o: usize)
 {
     let high = line.len() - low;
     let end = high - o;
-    place::update_at(line, 0, low, low + place::nearest(high, o));
+    place::update_at(line, 0, low, low + near::nearest(high, o));
     let mut n = 1;
     while n < end {
         place::update_at(line, n, low + n + o - 1, low + n + o);
@@ -142,7 +137,7 @@ fn unupdate_lows(line: &mut [i32], low: usize, o: usize)
 {
     let high = line.len() - low;
     let end = high - o;
-    place::unupdate_at(line, 0, low, low + place::nearest(high, o));
+    place::unupdate_at(line, 0, low, low + near::nearest(high, o));
     let mut n = 1;
     while n < end {
         place::unupdate_at(line, n, low + n + o - 1, low + n + o);
@@ -165,7 +160,7 @@ pub fn lift(line: &mut [i32], start: usize)
         return;
     }
     let b = start % 2;
-    let low = place::lows(n, start);
+    let low = near::lows(n, start);
     predict_highs(line, low, 1 - b);
     update_lows(line, low, b);
 }
@@ -181,7 +176,7 @@ pub fn unlift(line: &mut [i32], start: usize) -> u8
         return short::unlift(line, start);
     }
     let b = start % 2;
-    let low = place::lows(n, start);
+    let low = near::lows(n, start);
     unupdate_lows(line, low, b);
     unpredict_highs(line, low, 1 - b);
     0

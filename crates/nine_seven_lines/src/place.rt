@@ -1,16 +1,12 @@
-// The lifting steps on one place of an area, changed by others, and which low numbers a high one goes by.
+// The lifting steps on one place of an area, changed by others.
 // The module is private: only the loops of this crate, which meet what is required, can call it.
 use nine_seven::sample;
 ghost use mathlib.Core.Path.{_≡_};
-ghost use Prim.Native.Nat.{ℕ, _+_, _-_, _<_, _≤_};
+ghost use Prim.Native.Nat.{_<_};
 ghost use lib.ListN.{length, set};
 ghost use Rattle.numbers.specs.Signal.{at};
 ghost use Rattle.numbers.specs.Word.{wrap32};
-ghost use Rattle.lifting.specs.Line.{lo};
-ghost use Rattle.lifting.specs.Grid.{side, count};
-ghost use Rattle.lifting.specs.Passes.{near};
 ghost use Rattle.nine_seven.specs.NineSeven.{predicted, unpredicted, updated, unupdated};
-ghost use Rattle.nine_seven.specs.Passes.{farLeft, farRight};
 
 pub fn predict_at(area: &mut [i32], p: usize, a: usize, b: usize, c: usize, e: usize)
     requires { ⌜ (p < length (now area)) × (a < length (now area)) × (b < length (now area)) × (c < length (now area)) × (e < length (now area)) ⌝ }
@@ -42,65 +38,4 @@ pub fn unupdate_at(area: &mut [i32], p: usize, a: usize, b: usize)
         (at (now (area .entry)) b)) ⌝ }
 {
     area[p] = sample::unupdate(area[p], area[a], area[b]);
-}
-
-// How many of n samples are low, the first of them at coordinate `start`.
-pub fn lows(n: usize, start: usize) -> usize
-    ensures { λ r. ⌜ r ≡ count lo (side start n) ⌝ }
-{
-    if start % 2 == 0 {
-        return n - n / 2;
-    }
-    n / 2
-}
-
-// The number of m that is nearest to k.
-pub fn nearest(m: usize, k: usize) -> usize
-    requires { ⌜ 0 < m ⌝ }
-    ensures { λ r. ⌜ r ≡ near m k ⌝ }
-{
-    if k < m {
-        return k;
-    }
-    m - 1
-}
-
-// Of `low` low numbers the one before high number n,
-pub fn left(low: usize, o: usize, n: usize) -> usize
-    requires { ⌜ (0 < low) × (o ≤ 1) ⌝ }
-    ensures { λ r. ⌜ r ≡ near low (n + o - 1) ⌝ }
-{
-    if n == 0 {
-        return 0;
-    }
-    nearest(low, n - 1 + o)
-}
-
-// the one before that, mirrored at the first,
-pub fn far_left(low: usize, o: usize, n: usize) -> usize
-    requires { ⌜ (0 < low) × (o ≤ 1) ⌝ }
-    ensures { λ r. ⌜ r ≡ farLeft low o n ⌝ }
-{
-    if n == 0 {
-        return nearest(low, 1);
-    }
-    let k = n - 1 + o;
-    if k == 0 {
-        return 0;
-    }
-    k - 1
-}
-
-// and the second after it, mirrored at the last.
-pub fn far_right(low: usize, high: usize, o: usize, n: usize) -> usize
-    requires { ⌜ (0 < low) × (o ≤ 1) × (n < high) ⌝ }
-    ensures { λ r. ⌜ r ≡ farRight low high o n ⌝ }
-{
-    if n + 1 < high {
-        return nearest(low, n + 1 + o);
-    }
-    if low < 2 {
-        return 0;
-    }
-    low - 2
 }

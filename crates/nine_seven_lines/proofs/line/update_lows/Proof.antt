@@ -23,7 +23,7 @@ sub-end : tie.Need-sub-end Inv-loop μ-loop
 sub-end c = omega arith
 
 nearest-requires : tie.Need-nearest-requires Inv-loop μ-loop
-nearest-requires c κs = omega arith
+nearest-requires c κs = tt
 
 add-update-at : tie.Need-add-update-at Inv-loop μ-loop
 add-update-at c = let e = c .nearest .ensures in omega arith

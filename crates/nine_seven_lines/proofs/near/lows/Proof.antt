@@ -1,8 +1,8 @@
--- `nine_seven_lines::place::lows` meets its contract, by the parity of the start. Assumes nothing.
+-- `nine_seven_lines::near::lows` meets its contract, by the parity of the start. Assumes nothing.
 use native.Mathlib.Omega.{arith}
 use Rattle.lifting.specs.Grid.{count}
-use Rattle.nine_seven_lines.proofs.place.lows.Statement.{statement}
-use Rattle.nine_seven_lines.proofs.place.lows.Tie as tie
+use Rattle.nine_seven_lines.proofs.near.lows.Statement.{statement}
+use Rattle.nine_seven_lines.proofs.near.lows.Tie as tie
 
 sub-result : tie.Need-sub-result
 sub-result c = omega arith
