@@ -3,6 +3,8 @@ use mathlib.Core.Path.{_≡_, _∙_, ap}
 use Prim.Native.Nat.{ℕ, _+_, _-_, _*_, _%_, _≤_, _<_}
 use native.Mathlib.Omega.{arith}
 use lib.IntN.{ℤ}
+use mir.Syntax.{w64}
+use mir.Val.{Fits}
 use borrow.Author.Tests.{lt-ltb, le-ltb, le-leb, lt-leb}
 use Rattle.lifting.specs.Line.{Half, lo, hi}
 use Rattle.lifting.specs.Grid.{Side, count, place}
@@ -50,21 +52,59 @@ module _ (N s w : ℕ) (H : Side) (n low : ℕ) (x x′ : ℕ → ℤ) (el : low
     unfolding place
     low-in-order is = cc (is, el, highs, by .left, by .right)
 
--- the rows that a call is given are there
-module _ (H : Side) (low n : ℕ) (more : 1 < H .length) (el : low ≡ count lo H) where
-  pub low-rooms : (l r : ℕ) → Beside (H .length - low) (H .start % 2) n l r → n < count lo H
-      → (low + l < H .length) × (low + r < H .length)
-      × (2 * n + H .start % 2 < H .length) × (2 * l + (1 - H .start % 2) < H .length) × (2 * r + (1 - H .start % 2) < H .length)
-  unfolding count
-  low-rooms l r by b = let two = two-there (H .length - low) (H .start % 2) n l r by (omega arith) in (omega arith, omega arith, omega arith, omega arith, omega arith)
+-- the rows that a call is given are there, in halves and in their own order, and their numbers fit a word
+pub fits-below : (k h : ℕ) → k < h → Fits w64 h → Fits w64 k
+fits-below k h b f = omega arith
 
-  pub high-rooms : (l r b a : ℕ) → Around low (H .length - low) (1 - H .start % 2) n l r b a → n < count hi H
-      → (2 * n + (1 - H .start % 2) < H .length) × (2 * l + H .start % 2 < H .length) × (2 * r + H .start % 2 < H .length)
-      × (2 * b + H .start % 2 < H .length) × (2 * a + H .start % 2 < H .length)
+module _ (H : Side) (fits : Fits w64 (H .length)) where
+  abbrev Places : ℕ → ℕ → Type 0
+  Places o k = Fits w64 (2 * k) × Fits w64 (2 * k + o)
+
+  low-there : (k : ℕ) → k < count lo H → Places (H .start % 2) k
   unfolding count
-  high-rooms l r b a by h =
-      let four = four-there low (H .length - low) (1 - H .start % 2) n l r b a by (omega arith) (omega arith) (high-room H low n el h) in
-      (omega arith, omega arith, omega arith, omega arith, omega arith)
+  low-there k b = (omega arith, omega arith)
+
+  high-there : (k : ℕ) → k < count hi H → Places (1 - H .start % 2) k
+  unfolding count
+  high-there k b = (omega arith, omega arith)
+
+  pub sum-there : (low n : ℕ) → low ≡ count lo H → n < count hi H → Fits w64 (low + n)
+  sum-there low n e b = let both = counts H in omega arith
+
+  module _ (low n : ℕ) (more : 1 < H .length) (el : low ≡ count lo H) where
+    highs-are : H .length - low ≡ count hi H
+    highs-are = let both = counts H in omega arith
+
+    some-high : 0 < H .length - low
+    unfolding count
+    some-high = omega arith
+
+    some-low : 0 < low
+    unfolding count
+    some-low = omega arith
+
+    near-low : n < count hi H → n + (1 - H .start % 2) ≤ low
+    unfolding count
+    near-low b = omega arith
+
+    sum-below : (k : ℕ) → k < H .length - low → Fits w64 (low + k)
+    sum-below k b = omega arith
+
+    module _ (l r : ℕ) (by : Beside (H .length - low) (H .start % 2) n l r) where
+      two : (l < H .length - low) × (r < H .length - low)
+      two = two-there (H .length - low) (H .start % 2) n l r by some-high
+
+      pub low-sums : Fits w64 (low + l) × Fits w64 (low + r)
+      low-sums = (sum-below l (two .0), sum-below r (two .1))
+
+      pub low-places : n < count lo H → Places (H .start % 2) n × Places (1 - H .start % 2) l × Places (1 - H .start % 2) r
+      low-places b = (low-there n b, high-there l (rw highs-are at (two .0)), high-there r (rw highs-are at (two .1)))
+
+    pub high-places : (l r b a : ℕ) → Around low (H .length - low) (1 - H .start % 2) n l r b a → n < count hi H
+        → Places (1 - H .start % 2) n × Places (H .start % 2) l × Places (H .start % 2) r × Places (H .start % 2) b × Places (H .start % 2) a
+    high-places l r b a by h =
+        let f = four-there low (H .length - low) (1 - H .start % 2) n l r b a by some-low (near-low h) (high-room H low n el h) in
+        (high-there n h, low-there l (rw el at (f .0)), low-there r (rw el at (f .1)), low-there b (rw el at (f .2)), low-there a (rw el at (f .3)))
 
 -- a turn's own row, d behind it, and a turn that has none
 module _ (P : Half → ℕ → ℕ) (N s w : ℕ) (H : Side) (k d : ℕ) (x x′ : ℕ → ℤ) where

@@ -1,7 +1,7 @@
 -- `forth::predict` meets its contract: the call by the rows that it goes by. Assumes nothing.
 use native.Mathlib.Omega.{arith}
 use Rattle.lifting.specs.Grid.{side}
-use Rattle.nine_seven_sweep.proofs.CallLaws.{lows-within, high-room, few-other, high-in-halves}
+use Rattle.nine_seven_sweep.proofs.CallLaws.{lows-within, high-room, few-other, sum-there, high-in-halves}
 use Rattle.nine_seven_sweep.proofs.forth.predict.Statement.{statement}
 use Rattle.nine_seven_sweep.proofs.forth.predict.Tie as tie
 
@@ -19,10 +19,9 @@ around-requires c κs = tt
 
 add-predict-row : tie.Need-add-predict-row
 add-predict-row c =
-    let low = c .before in
-    let a = low .before .args in
-    let h = high-room (side (a .y) (a .height)) _ (a .n) (low .lows .ensures) (low .before .pre .1) in
-    omega arith
+    let low = c .before .before in
+    let s = low .before in
+    sum-there (side (s .args .y) (s .args .height)) (s .fits .height) _ (s .args .n) (low .lows .ensures) (s .pre .1)
 
 predict-row-requires : tie.Need-predict-row-requires
 predict-row-requires c κs = tt

@@ -1,7 +1,6 @@
 -- `forth::update` meets its contract: the call by the rows that it goes by. Assumes nothing.
-use native.Mathlib.Omega.{arith}
 use Rattle.lifting.specs.Grid.{side}
-use Rattle.nine_seven_sweep.proofs.CallLaws.{lows-within, few, low-rooms, low-in-halves}
+use Rattle.nine_seven_sweep.proofs.CallLaws.{lows-within, few, low-sums, low-in-halves}
 use Rattle.nine_seven_sweep.proofs.forth.update.Statement.{statement}
 use Rattle.nine_seven_sweep.proofs.forth.update.Tie as tie
 
@@ -15,10 +14,18 @@ beside-requires : tie.Need-beside-requires
 beside-requires c κs = tt
 
 add-update-row : tie.Need-add-update-row
-add-update-row c = ?
+add-update-row c =
+    let q = c .before .before in
+    let low = q .before in
+    let s = low .before in
+    low-sums (side (s .args .y) (s .args .height)) (s .fits .height) _ (s .args .n) (s .pre .0) (low .lows .ensures) _ _ (q .beside .ensures (few (s .args .y))) .0
 
 add-update-row-2 : tie.Need-add-update-row-2
-add-update-row-2 c = ?
+add-update-row-2 c =
+    let q = c .before .before .before in
+    let low = q .before in
+    let s = low .before in
+    low-sums (side (s .args .y) (s .args .height)) (s .fits .height) _ (s .args .n) (s .pre .0) (low .lows .ensures) _ _ (q .beside .ensures (few (s .args .y))) .1
 
 update-row-requires : tie.Need-update-row-requires
 update-row-requires c κs = tt
@@ -27,7 +34,13 @@ same-length : tie.Need-same-length
 same-length c = c .before .update-row .kept .0
 
 returns : tie.Need-returns
-returns c = ?
+returns c =
+    let row = c .before in
+    let q = row .before .before .before .before in
+    let low = q .before in
+    let s = low .before in
+    low-in-halves _ _ _ (side (s .args .y) (s .args .height)) (s .args .n) _ _ _ (low .lows .ensures) _ _ _
+    (q .beside .ensures (few (s .args .y))) (row .update-row .ensures .1)
 
 pub update-spec : {M : Type 1} → statement M
 update-spec =
