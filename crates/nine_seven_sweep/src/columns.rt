@@ -3,8 +3,8 @@
 use crate::back;
 use crate::forth;
 use crate::lone;
-use crate::near;
 use lifting::rows;
+use nine_seven_lines::near;
 ghost use mathlib.Core.Path.{_≡_};
 ghost use mathlib.Core.Bool.{true};
 ghost use Prim.Native.Nat.{ℕ, _-_, _≤_};

@@ -537,7 +537,7 @@ fn unlift_rows(work: &mut [i32], stride: usize, x: usize, width: usize, height: 
     while r < height {
         let a = r * stride;
         let e = a + width;
-        nine_seven::line::unlift(&mut work[a..e], x);
+        nine_seven_lines::line::unlift(&mut work[a..e], x);
         r += 1;
     }
 }

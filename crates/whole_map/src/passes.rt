@@ -200,7 +200,7 @@ fn lift_rows(area: &mut [i32], stride: usize, x: usize, width: usize, height: us
     while r < height {
         let a = r * stride;
         let e = a + width;
-        nine_seven::line::lift(&mut area[a..e], x);
+        nine_seven_lines::line::lift(&mut area[a..e], x);
         r += 1;
     }
 }
