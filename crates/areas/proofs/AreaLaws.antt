@@ -1,11 +1,11 @@
 -- The laws of numbers at the front of an area, of a test gathered number by number, and of a call that has room or has not. Assumes nothing.
-use mathlib.Core.Path.{_≡_, refl, ap, _∙_}
-use mathlib.Core.Bool.{Bool, true, false, _&&_}
+use mathlib.Core.Path.{_≡_, refl, sym, ap, _∙_}
+use mathlib.Core.Bool.{Bool, true, false, not, _&&_}
 use Prim.Native.Nat.{ℕ, suc, _+_, _-_, _≤_, _<_}
 use native.Mathlib.Omega.{arith}
 use lib.IntN.{ℤ}
 use lib.Signed.{leZ}
-use borrow.Author.Tests.{lt-ltb, le-ltb, le-leb, lt-leb, leb-true}
+use borrow.Author.Tests.{lt-ltb, le-ltb, le-leb, lt-leb, leb-true, not-true, not-false}
 use lib.Dec.{leb}
 use native.Mathlib.Decide.{decLe}
 use Rattle.numbers.proofs.Sweep.{both as both-hold}
@@ -32,6 +32,13 @@ module _ (len from to n : ℕ) where
   apart-is e =
       let h = both-hold (leb (to + n) from) (leb (from + n) len) e in
       (leb-true (to + n) from (h .0), leb-true (from + n) len (h .1))
+
+  -- where the call that asks it goes on, and where it does not
+  pub apart-on : (b : Bool) → b ≡ both (leb (to + n) from) (leb (from + n) len) → not b ≡ false → (to + n ≤ from) × (from + n ≤ len)
+  apart-on b e h = apart-is (sym e ∙ not-false b h)
+
+  pub apart-off : (b : Bool) → b ≡ both (leb (to + n) from) (leb (from + n) len) → not b ≡ true → both (leb (to + n) from) (leb (from + n) len) ≡ false
+  apart-off b e h = sym e ∙ not-true b h
 
   pub apart-in : to + n ≤ from → from + n ≤ len → both (leb (to + n) from) (leb (from + n) len) ≡ true
   apart-in p q = rw (le-leb (to + n) from p, le-leb (from + n) len q) refl

@@ -102,11 +102,18 @@ pub record Halves (S : Side) (from e o : ℕ) : Type 0 where
   pub even-fits : e + (S .length - S .length / 2) ≤ from + S .length
   pub odd-fits : o + S .length / 2 ≤ from + S .length
 
-pub halves-of : (S : Side) (from e o : ℕ) → e ≡ from + begins S (evens S) → o ≡ from + begins S (odds S) → Halves S from e o
+halves-of : (S : Side) (from e o : ℕ) → e ≡ from + begins S (evens S) → o ≡ from + begins S (odds S) → Halves S from e o
 halves-of S from e o i j =
     let h = evens-fit S in
     let k = odds-fit S in
     record { even = i; odd = j; even-fits = omega arith; odd-fits = omega arith }
+
+-- what it asks at the front of an area, and at place `from`
+pub halves-front : (S : Side) (e o : ℕ) → e ≡ begins S (evens S) → o ≡ begins S (odds S) → Halves S 0 e o
+halves-front S e o i j = halves-of S 0 e o (omega arith) (omega arith)
+
+pub halves-at : (S : Side) (from e o : ℕ) → e ≡ begins S (evens S) → o ≡ begins S (odds S) → Halves S from (from + e) (from + o)
+halves-at S from e o i j = halves-of S from (from + e) (from + o) (omega arith) (omega arith)
 
 -- ---- a line x laid in halves in memory z: its even places first, then its odd places
 module _ (S : Side) (x z : ℕ → ℤ) where
