@@ -13,9 +13,11 @@ use Rattle.numbers.proofs.Parts.{window-in, splice-below, splice-in, splice-pas
 use Rattle.lifting.specs.Grid.{Side, joined}
 use Rattle.lifting.specs.GridHalves.{halvesOf}
 use Rattle.lifting.specs.Halves.{fronted}
-use Rattle.areas.specs.Areas.{begins, alternated, inTurn, heightsAt, wholes}
+use Rattle.half_places.specs.Places.{begins}
+use Rattle.areas.specs.Areas.{alternated, inTurn, heightsAt, wholes}
 use Rattle.areas.proofs.AreaLaws.{front-at, front-rest}
-use Rattle.areas.proofs.PartLaws.{evens, odds, half-at, even-place, odd-place, Halves}
+use Rattle.half_places.proofs.HalfLaws.{evens, odds}
+use Rattle.areas.proofs.PartLaws.{half-at, even-place, odd-place, Halves}
 use Rattle.areas.proofs.HeightLaws.{finish-heights}
 
 -- two places stored

@@ -7,8 +7,6 @@ use lib.Signed.{shrZ, leZ}
 use lib.ListN.{getD}
 use lib.Dec.{eqb}
 use Rattle.numbers.specs.Signal.{pick, both}
-use Rattle.lifting.specs.Line.{Half, lo, hi}
-use Rattle.lifting.specs.Grid.{Side, count}
 
 -- a number from low to high
 unfoldable pub between : ℤ → ℤ → ℤ → Bool
@@ -24,11 +22,6 @@ wholes l = map pos l
 -- z modulo 65,536, what a u16 keeps: "a made height row is then drawn modulo 65,536"
 unfoldable pub height16 : ℤ → ℤ
 height16 z = z -ℤ pos 65536 *ℤ shrZ z 65536
-
--- where a half begins in a row in halves
-unfoldable pub begins : Side → Half → ℕ
-begins S lo = 0
-begins S hi = count lo S
 
 -- the numbers of a and of b in turn, a's first
 unfoldable pub alternated : (ℕ → ℤ) → (ℕ → ℤ) → ℕ → ℤ

@@ -1,5 +1,6 @@
 // Lines that start at any coordinate, laid in halves and woven into their own order. Of the start its parity counts.
 use crate::place;
+use half_places::rows;
 ghost use mathlib.Core.Path.{_≡_};
 ghost use Prim.Native.Nat.{_+_, _-_, _*_, _/_, _≤_};
 ghost use lib.ListN.{length};
@@ -52,8 +53,8 @@ pub fn part_line(line: &[i32], start: usize, row: &mut [i32]) -> u8
     if row.len() < n {
         return 5;
     }
-    part_evens(line, row, place::evens(n, start));
-    part_odds(line, row, place::odds(n, start));
+    part_evens(line, row, rows::evens(n, start));
+    part_odds(line, row, rows::odds(n, start));
     0
 }
 
@@ -91,8 +92,8 @@ pub fn weave_line(row: &[i32], start: usize, line: &mut [i32]) -> u8
     if line.len() < n {
         return 5;
     }
-    let a = place::evens(n, start);
-    let b = place::odds(n, start);
+    let a = rows::evens(n, start);
+    let b = rows::odds(n, start);
     let e = a + (n - n / 2);
     let f = b + n / 2;
     put_pairs(&row[a..e], &row[b..f], line);
@@ -143,11 +144,11 @@ pub fn weave_down(area: &mut [i32], start: usize, from: usize, to: usize, n: usi
         (spliced to n (joined (side start n) (halvesOf (side start n) (windowed from n (at (now (area .entry)))))) (at (now (area .entry))))
         (at (now (area .entry))) ⌝ }
 {
-    if !place::apart(area.len(), from, to, n) {
+    if !rows::apart(area.len(), from, to, n) {
         return 5;
     }
-    let even = from + place::evens(n, start);
-    let odd = from + place::odds(n, start);
+    let even = from + rows::evens(n, start);
+    let odd = from + rows::odds(n, start);
     weave_pairs(area, to, even, odd, n);
     0
 }

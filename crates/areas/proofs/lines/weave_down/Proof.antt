@@ -4,8 +4,10 @@ use native.Mathlib.Omega.{arith}
 use lib.ListN.{length}
 use Rattle.numbers.specs.Signal.{at}
 use Rattle.lifting.specs.Grid.{side}
-use Rattle.areas.proofs.AreaLaws.{went, turned, apart-on, apart-off, apart-in}
-use Rattle.areas.proofs.PartLaws.{halves-at, evens-fit, odds-fit}
+use Rattle.half_places.proofs.ApartLaws.{apart-on, apart-off}
+use Rattle.areas.proofs.AreaLaws.{went, turned, apart-in}
+use Rattle.half_places.proofs.HalfLaws.{evens-fit, odds-fit}
+use Rattle.areas.proofs.PartLaws.{halves-at}
 use Rattle.areas.proofs.WeaveLaws.{woven-line}
 use Rattle.areas.proofs.lines.weave_down.Statement.{statement}
 use Rattle.areas.proofs.lines.weave_down.Tie as tie

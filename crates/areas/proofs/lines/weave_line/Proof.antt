@@ -8,7 +8,8 @@ use Rattle.numbers.specs.Signal.{at}
 use Rattle.numbers.proofs.Parts.{length-mid, at-mid}
 use Rattle.lifting.specs.Grid.{side}
 use Rattle.areas.proofs.AreaLaws.{went, turned}
-use Rattle.areas.proofs.PartLaws.{evens-within, odds-within, halves-front}
+use Rattle.half_places.proofs.HalfLaws.{evens-within, odds-within}
+use Rattle.areas.proofs.PartLaws.{halves-front}
 use Rattle.areas.proofs.WeaveLaws.{turns-are}
 use Rattle.areas.proofs.lines.weave_line.Statement.{statement}
 use Rattle.areas.proofs.lines.weave_line.Tie as tie

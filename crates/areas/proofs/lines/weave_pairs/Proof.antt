@@ -11,7 +11,7 @@ use Rattle.areas.proofs.lines.weave_pairs.Statement.{statement}
 use Rattle.areas.proofs.lines.weave_pairs.Tie as tie
 
 abbrev Inv-loop : tie.InvT-loop
-Inv-loop area₀ to even odd n end j₀ area j = 
+Inv-loop area₀ to even odd n end j₀ area j =
     (to + n ≤ even) × (to + n ≤ odd) × (even + (n - n / 2) ≤ length area₀) × (odd + n / 2 ≤ length area₀) × (end ≡ n / 2) × (j ≤ end)
     × (length area ≡ length area₀) × Swept (length area₀) (woven to even odd n (at area₀)) (at area₀) (to + 2 * j) area
 
@@ -20,15 +20,15 @@ abbrev μ-loop : tie.MeasureT-loop
 
 loop-holds : tie.Need-loop-holds Inv-loop μ-loop
 loop-holds c = (
-      omega arith,
-      omega arith,
-      omega arith,
-      omega arith,
-      omega arith,
-      omega arith,
-      omega arith,
-      start _ _ _ (λ j lt. splice-below _ _ _ _ j (omega arith)),
-    )
+  omega arith,
+  omega arith,
+  omega arith,
+  omega arith,
+  omega arith,
+  omega arith,
+  omega arith,
+  start _ _ _ (λ j lt. splice-below _ _ _ _ j (omega arith)),
+)
 
 add-loop : tie.Need-add-loop Inv-loop μ-loop
 add-loop c = omega arith
@@ -58,7 +58,7 @@ loop-less : tie.Need-loop-less Inv-loop μ-loop
 loop-less c = omega arith
 
 loop-again : tie.Need-loop-again Inv-loop μ-loop
-loop-again c = 
+loop-again c =
     let put = c .before in
     let read = put .before .before in
     let head = read .before .before .before in
@@ -100,7 +100,7 @@ same-length : tie.Need-same-length Inv-loop μ-loop
 same-length c = c .before .weave-rest .kept .0 ∙ c .before .before .before .before .loop .inv .6
 
 returns : tie.Need-returns Inv-loop μ-loop
-returns c = 
+returns c =
     let rest = c .before in
     let head = rest .before .before .before in
     let inv = head .loop .inv in

@@ -12,7 +12,7 @@ use Rattle.areas.proofs.lines.weave_rest.Statement.{statement}
 use Rattle.areas.proofs.lines.weave_rest.Tie as tie
 
 abbrev Inv-loop : tie.InvT-loop
-Inv-loop area₀ to even odd n end j₀ area j = 
+Inv-loop area₀ to even odd n end j₀ area j =
     (to + n ≤ even) × (to + n ≤ odd) × (even + (n - n / 2) ≤ length area₀) × (odd + n / 2 ≤ length area₀) × (end ≡ n / 2) × (j ≤ end)
     × (length area ≡ length area₀) × Swept (length area₀) (woven to even odd n (at area₀)) (at area₀) (to + 2 * j) area
 
@@ -21,15 +21,15 @@ abbrev μ-loop : tie.MeasureT-loop
 
 loop-holds : tie.Need-loop-holds Inv-loop μ-loop
 loop-holds c = (
-      omega arith,
-      omega arith,
-      omega arith,
-      omega arith,
-      omega arith,
-      omega arith,
-      omega arith,
-      start _ _ _ (λ j lt. splice-below _ _ _ _ j (omega arith)),
-    )
+  omega arith,
+  omega arith,
+  omega arith,
+  omega arith,
+  omega arith,
+  omega arith,
+  omega arith,
+  start _ _ _ (λ j lt. splice-below _ _ _ _ j (omega arith)),
+)
 
 add-a : tie.Need-add-a Inv-loop μ-loop
 add-a c = omega arith
@@ -83,7 +83,7 @@ loop-less : tie.Need-loop-less Inv-loop μ-loop
 loop-less c = omega arith
 
 loop-again : tie.Need-loop-again Inv-loop μ-loop
-loop-again c = 
+loop-again c =
     let head = c .before .before .before in
     let args = head .before .args in
     let l = head .loop .area in
@@ -128,7 +128,7 @@ same-length : tie.Need-same-length Inv-loop μ-loop
 same-length c = let head = c .before .before .before in length-set (head .loop .area) _ _ ∙ head .loop .inv .6
 
 returns : tie.Need-returns Inv-loop μ-loop
-returns c = 
+returns c =
     let head = c .before .before .before in
     let args = head .before .args in
     let l = head .loop .area in

@@ -12,7 +12,7 @@ use Rattle.areas.proofs.place.eight_at.Statement.{statement}
 use Rattle.areas.proofs.place.eight_at.Tie as tie
 
 abbrev Inv-loop : tie.InvT-loop
-Inv-loop area a b v₀ i₀ v i = 
+Inv-loop area a b v₀ i₀ v i =
     (a + 4 ≤ length area) × (b + 4 ≤ length area) × (i ≤ 4)
     × Swept 8 (turns 8 (λ k. at area (a + k)) (λ k. at area (b + k)) (at v₀)) (at v₀) (2 * i) v
 
@@ -68,7 +68,7 @@ loop-less : tie.Need-loop-less Inv-loop μ-loop
 loop-less c = omega arith
 
 loop-again : tie.Need-loop-again Inv-loop μ-loop
-loop-again c = 
+loop-again c =
     let head = c .before .before .before in
     let args = head .before .args in
     let x = args .area .now in

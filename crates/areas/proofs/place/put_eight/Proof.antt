@@ -11,7 +11,7 @@ use Rattle.areas.proofs.place.put_eight.Statement.{statement}
 use Rattle.areas.proofs.place.put_eight.Tie as tie
 
 abbrev Inv-loop : tie.InvT-loop
-Inv-loop area₀ p eight i₀ area i = 
+Inv-loop area₀ p eight i₀ area i =
     (p + 8 ≤ length area₀) × (i ≤ 8) × Swept (length area₀) (spliced p 8 (at eight) (at area₀)) (at area₀) (p + i) area
 
 abbrev μ-loop : tie.MeasureT-loop
@@ -42,7 +42,7 @@ loop-less : tie.Need-loop-less Inv-loop μ-loop
 loop-less c = omega arith
 
 loop-again : tie.Need-loop-again Inv-loop μ-loop
-loop-again c = 
+loop-again c =
     let head = c .before .before in
     let v = head .before .args .t3 in
     let i = head .loop .i in
