@@ -9,7 +9,8 @@ use Rattle.lifting.specs.Grid.{side}
 use Rattle.areas.specs.Areas.{heightsAt}
 use Rattle.areas.proofs.AreaLaws.{went, turned}
 use Rattle.areas.proofs.Splices.{splice-swap}
-use Rattle.areas.proofs.PartLaws.{evens-last, odds-first, evens-fit, odds-fit, parted-is}
+use Rattle.half_places.proofs.HalfLaws.{evens-last, odds-first, evens-fit, odds-fit}
+use Rattle.areas.proofs.PartLaws.{parted-is}
 use Rattle.areas.proofs.height_rows.load_heights.Statement.{statement}
 use Rattle.areas.proofs.height_rows.load_heights.Tie as tie
 

@@ -8,7 +8,8 @@ use Rattle.numbers.specs.Signal.{at}
 use Rattle.numbers.proofs.Parts.{length-mid, at-mid}
 use Rattle.lifting.specs.Grid.{side}
 use Rattle.areas.proofs.AreaLaws.{went, turned}
-use Rattle.areas.proofs.PartLaws.{evens-within, odds-within, halves-of}
+use Rattle.half_places.proofs.HalfLaws.{evens-within, odds-within}
+use Rattle.areas.proofs.PartLaws.{halves-front}
 use Rattle.areas.proofs.WeaveLaws.{turns-are}
 use Rattle.areas.proofs.lines.weave_line.Statement.{statement}
 use Rattle.areas.proofs.lines.weave_line.Tie as tie
@@ -101,7 +102,7 @@ returns-2 c =
     let q = b + N / 2 - b in
     let la = length-mid a p x (omega arith) in
     let lb = length-mid b q x (omega arith) in
-    let h = halves-of S 0 a b (omega (arith, odd .before .evens .ensures)) (omega (arith, odd .odds .ensures)) in
+    let h = halves-front S a b (odd .before .evens .ensures) (odd .odds .ensures) in
     went _ _ _ _ (le-leb N (length (args .line .now)) (omega arith))
     (cc (
       pairs .put-pairs .ensures,

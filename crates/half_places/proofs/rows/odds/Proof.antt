@@ -1,9 +1,9 @@
--- `areas::place::odds` meets its contract: by the parity of the start. Assumes nothing.
+-- `half_places::rows::odds` meets its contract: by the parity of the start. Assumes nothing.
 use native.Mathlib.Omega.{arith}
 use Rattle.lifting.specs.Grid.{side}
-use Rattle.areas.proofs.PartLaws.{odds-first, odds-last}
-use Rattle.areas.proofs.place.odds.Statement.{statement}
-use Rattle.areas.proofs.place.odds.Tie as tie
+use Rattle.half_places.proofs.HalfLaws.{odds-first, odds-last}
+use Rattle.half_places.proofs.rows.odds.Statement.{statement}
+use Rattle.half_places.proofs.rows.odds.Tie as tie
 
 sub-result : tie.Need-sub-result
 sub-result c = omega arith

@@ -1,8 +1,8 @@
--- `areas::place::apart` meets its contract: each difference says what the sum says. Assumes nothing.
+-- `half_places::rows::apart` meets its contract: each difference says what the sum says. Assumes nothing.
 use native.Mathlib.Omega.{arith}
-use Rattle.areas.proofs.AreaLaws.{not-apart, apart-last}
-use Rattle.areas.proofs.place.apart.Statement.{statement}
-use Rattle.areas.proofs.place.apart.Tie as tie
+use Rattle.half_places.proofs.ApartLaws.{not-apart, apart-last}
+use Rattle.half_places.proofs.rows.apart.Statement.{statement}
+use Rattle.half_places.proofs.rows.apart.Tie as tie
 
 returns : tie.Need-returns
 returns c = let args = c .before .args in not-apart (args .len) (args .from) (args .to) (args .n) (λ a b. omega arith)

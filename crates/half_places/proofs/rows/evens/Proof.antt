@@ -1,9 +1,9 @@
--- `areas::place::evens` meets its contract: by the parity of the start. Assumes nothing.
+-- `half_places::rows::evens` meets its contract: by the parity of the start. Assumes nothing.
 use native.Mathlib.Omega.{arith}
 use Rattle.lifting.specs.Grid.{side}
-use Rattle.areas.proofs.PartLaws.{evens-first, evens-last}
-use Rattle.areas.proofs.place.evens.Statement.{statement}
-use Rattle.areas.proofs.place.evens.Tie as tie
+use Rattle.half_places.proofs.HalfLaws.{evens-first, evens-last}
+use Rattle.half_places.proofs.rows.evens.Statement.{statement}
+use Rattle.half_places.proofs.rows.evens.Tie as tie
 
 returns : tie.Need-returns
 returns c = let args = c .before .args in evens-first (side (args .start) (args .n)) (omega arith)
