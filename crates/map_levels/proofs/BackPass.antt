@@ -48,6 +48,13 @@ splice-over b n u y x below past =
           ]
     ]
 
+-- ---- the turns: r is the high row whose turn it is
+pub first-high : (y h : ℕ) → 1 < h → ((y + (1 - y % 2)) % 2 ≡ 1) × (1 - y % 2 < h)
+first-high y h more = (omega arith, omega arith)
+
+pub next-high : (y r h : ℕ) → (y + r) % 2 ≡ 1 → r + 2 < h → ((y + (r + 2)) % 2 ≡ 1) × (r + 1 < h)
+next-high y r h e below = (omega arith, omega arith)
+
 -- ---- a row fetched and lifted back: what is left of its low half is copied, and its high half read from the plane
 module _ (S : Side) (y z : ℕ → ℤ) (j : ℕ) where
   laid-low : j < count lo S → highsLaid S y z j ≡ z j

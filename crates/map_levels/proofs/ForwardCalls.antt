@@ -1,7 +1,9 @@
 -- What the calls of the way forward come to: heights laid in halves, a grid copied and spread, a row lifted. Assumes nothing.
 use mathlib.Core.Path.{_≡_, refl, sym, ap, _∙_, fun-ext}
 use mathlib.Core.List.{List}
-use Prim.Native.Nat.{ℕ, _+_, _-_, _*_, _/_, _%_, _≤_, _<_}
+use Prim.Native.Nat.{ℕ, _+_, _-_, _*_, _/_, _%_, _^_, _≤_, _<_}
+use mir.Syntax.{w64}
+use mir.Val.{Fits}
 use native.Mathlib.Decide.{decLt, ℕ-discrete}
 use native.Mathlib.Omega.{arith}
 use lib.IntN.{ℤ}
@@ -23,7 +25,7 @@ use Rattle.wavelet.specs.Bands.{Grid}
 use Rattle.wavelet.specs.Plane.{cells, flat}
 use Rattle.map_levels.specs.Rowwise.{heightsAt, cut, partedInPlace}
 use Rattle.map_levels.specs.Passes.{Rows, levelRow, gridHalved, gridCopied}
-use Rattle.map_levels.proofs.GridSweep.{RowSwept, Fronts, fronts-turn, fronts-end, fronts-last, fronts-high}
+use Rattle.map_levels.proofs.GridSweep.{RowSwept, Fronts, row-room, few as rows-few, fronts-turn, fronts-end, fronts-last, fronts-high}
 use Rattle.map_levels.proofs.RowwiseLaws.{cut-in, cut-parted}
 use Rattle.map_levels.proofs.HeightRows.{heights-length, heights-row}
 use Rattle.map_levels.proofs.CellLaws.{level-low, level-high, outside-rows, halved-in, halved-out, copied-in, copied-out, outside-columns}
@@ -116,6 +118,67 @@ second-row low b p h e =
           let m : (1 - b) * low ≡ 0 = rw n (omega arith) in
           omega arith
     ]
+
+-- ---- the rows of a map read two at a turn: b is the parity of the first, and an area of m numbers takes them
+pub record Pairs (m y height b low pairs : ℕ) : Type 0 where
+  pub parity : b ≡ y % 2
+  pub lows : low ≡ count lo (side y height)
+  pub half : pairs ≡ height / 2
+  pub firsts : b * low + pairs + height % 2 ≤ height
+  pub seconds : (1 - b) * low + pairs ≤ height
+  pub few : height ≤ m + 1
+  pub small : m < 2 ^ 63
+
+pub pairs-of : (m w y height low : ℕ) → Rows m w w height → low ≡ count lo (side y height) → m < 2 ^ 63 → Pairs m y height (y % 2) low (height / 2)
+unfolding count
+pairs-of m w y height low R e small =
+    record {
+      parity = refl;
+      lows = e;
+      half = refl;
+      firsts = last-row (side y height) low (y % 2) e refl;
+      seconds = second-row low (y % 2) (height / 2) height (omega arith);
+      few = rows-few m w w height R;
+      small = small;
+    }
+
+module _ (m y height b low pairs n : ℕ) (P : Pairs m y height b low pairs) where
+  -- the sums and products of a turn
+  pub pair-sums : n < pairs → Fits w64 (2 * n) × Fits w64 (b * low) × Fits w64 (b * low + n) × Fits w64 (2 * n + 1) × (b ≤ 1) × Fits w64 ((1 - b) * low)
+      × Fits w64 ((1 - b) * low + n) × Fits w64 (n + 1)
+  pair-sums below = omega arith
+
+  pub last-sums : n ≤ pairs → Fits w64 (2 * n)
+  last-sums below = omega arith
+
+  pub odd-sums : n ≤ pairs → 2 * n < height → Fits w64 (b * low) × Fits w64 (b * low + n)
+  odd-sums below odd = omega arith
+
+  -- and the rows: k numbers of heights, and the plane as long as it was
+  module _ (k m′ w : ℕ) (R : Rows k w w height) (Q : Rows m w w height) (size : m′ ≡ m) where
+    pub first-load : n < pairs → (0 < w) × (2 * n * w + w ≤ k) × ((b * low + n) * w + w ≤ m′)
+    first-load below =
+        let h = P .half in
+        let f = P .firsts in
+        (R .apart, row-room k w w height (2 * n) R (omega arith), rw size (row-room m w w height (b * low + n) Q (omega arith)))
+
+    pub second-load : n < pairs → (0 < w) × ((2 * n + 1) * w + w ≤ k) × (((1 - b) * low + n) * w + w ≤ m′)
+    second-load below =
+        let h = P .half in
+        let f = P .seconds in
+        (R .apart, row-room k w w height (2 * n + 1) R (omega arith), rw size (row-room m w w height ((1 - b) * low + n) Q (omega arith)))
+
+    pub odd-load : n ≤ pairs → 2 * n < height → (0 < w) × (2 * n * w + w ≤ k) × ((b * low + n) * w + w ≤ m′)
+    odd-load below odd =
+        let h = P .half in
+        let f = P .firsts in
+        (R .apart, row-room k w w height (2 * n) R odd, rw size (row-room m w w height (b * low + n) Q (omega arith)))
+
+  pub pairs-on : n < pairs → (n + 1 ≤ pairs) × (n < height / 2)
+  pairs-on below = let h = P .half in (omega arith, omega arith)
+
+  pub pairs-end : n ≤ pairs → pairs ≤ n → 2 * n < height → 2 * n + 1 ≡ height
+  pairs-end below past odd = let h = P .half in omega arith
 
 -- the grid of them, a low row and a high one a turn; the last of an odd number is alone
 module _ (W H : Side) (G : Grid) (x₀ : ℕ → ℤ) where

@@ -79,6 +79,9 @@ module _ (n n′ s : ℕ) (W H : Side) (w′ h′ : ℕ) (ew : w′ ≡ count lo
 pub part-room : (n s : ℕ) (W H : Side) → 0 < count lo H → Rows n s (W .length) (H .length) → H .start % 2 * s ≤ n
 part-room n s W H some R = omega (arith, next-end s W H some, R .room)
 
+pub mid-fits : (a n : ℕ) → a ≤ n → a + (n - a) ≤ n
+mid-fits a n b = omega arith
+
 module _ (F : Filter) (laws : FilterLaws F) where
   -- ---- back: one level, its low-low part being rebuilt before column `from`, and in the plane from there on; y₀ is the work area before its rows are fetched
   back-none : (L : ℕ) (W H : Side) (x : Grid) (r c : ℕ) → L ≡ 0 → x r c ≡ mapBack F wrap32 L W H x r c

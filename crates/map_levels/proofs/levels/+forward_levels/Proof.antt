@@ -42,7 +42,8 @@ forward-levels-below t =
     (falls 2 forward-levels-kinds.ps _<_ μ-forward-levels t)
     forward-levels.Pre
 
-forward-levels-lift-by-requires : (t : ℕ) → forward-levels-lts.Need-lift-by-requires (
+abbrev claims : ℕ → forward-levels-lts.Claims
+claims t = (
   lift-by-reads.Asked,
   lift-by-reads.Learnt,
   low-count-reads.Asked,
@@ -57,97 +58,24 @@ forward-levels-lift-by-requires : (t : ℕ) → forward-levels-lts.Need-lift-by-
   spread-reads.Learnt,
   forward-levels-below t,
   forward-levels.Post,
-) (forward-levels-at t) forward-levels.Post
+)
+
+forward-levels-lift-by-requires : (t : ℕ) → forward-levels-lts.Need-lift-by-requires (claims t) (forward-levels-at t) forward-levels.Post
 forward-levels-lift-by-requires t c κs = c .before .pre .1 .0
 
-forward-levels-low-count-requires : (t : ℕ) → forward-levels-lts.Need-low-count-requires (
-  lift-by-reads.Asked,
-  lift-by-reads.Learnt,
-  low-count-reads.Asked,
-  low-count-reads.Learnt,
-  goes-on-reads.Asked,
-  goes-on-reads.Learnt,
-  next-start-reads.Asked,
-  next-start-reads.Learnt,
-  save-reads.Asked,
-  save-reads.Learnt,
-  spread-reads.Asked,
-  spread-reads.Learnt,
-  forward-levels-below t,
-  forward-levels.Post,
-) (forward-levels-at t) forward-levels.Post
+forward-levels-low-count-requires : (t : ℕ) → forward-levels-lts.Need-low-count-requires (claims t) (forward-levels-at t) forward-levels.Post
 forward-levels-low-count-requires t c κs = tt
 
-forward-levels-low-count-requires-2 : (t : ℕ) → forward-levels-lts.Need-low-count-requires-2 (
-  lift-by-reads.Asked,
-  lift-by-reads.Learnt,
-  low-count-reads.Asked,
-  low-count-reads.Learnt,
-  goes-on-reads.Asked,
-  goes-on-reads.Learnt,
-  next-start-reads.Asked,
-  next-start-reads.Learnt,
-  save-reads.Asked,
-  save-reads.Learnt,
-  spread-reads.Asked,
-  spread-reads.Learnt,
-  forward-levels-below t,
-  forward-levels.Post,
-) (forward-levels-at t) forward-levels.Post
+forward-levels-low-count-requires-2 : (t : ℕ) → forward-levels-lts.Need-low-count-requires-2 (claims t) (forward-levels-at t) forward-levels.Post
 forward-levels-low-count-requires-2 t c κs = tt
 
-forward-levels-goes-on-requires : (t : ℕ) → forward-levels-lts.Need-goes-on-requires (
-  lift-by-reads.Asked,
-  lift-by-reads.Learnt,
-  low-count-reads.Asked,
-  low-count-reads.Learnt,
-  goes-on-reads.Asked,
-  goes-on-reads.Learnt,
-  next-start-reads.Asked,
-  next-start-reads.Learnt,
-  save-reads.Asked,
-  save-reads.Learnt,
-  spread-reads.Asked,
-  spread-reads.Learnt,
-  forward-levels-below t,
-  forward-levels.Post,
-) (forward-levels-at t) forward-levels.Post
+forward-levels-goes-on-requires : (t : ℕ) → forward-levels-lts.Need-goes-on-requires (claims t) (forward-levels-at t) forward-levels.Post
 forward-levels-goes-on-requires t c κs = tt
 
-forward-levels-same-length : (t : ℕ) → forward-levels-lts.Need-same-length (
-  lift-by-reads.Asked,
-  lift-by-reads.Learnt,
-  low-count-reads.Asked,
-  low-count-reads.Learnt,
-  goes-on-reads.Asked,
-  goes-on-reads.Learnt,
-  next-start-reads.Asked,
-  next-start-reads.Learnt,
-  save-reads.Asked,
-  save-reads.Learnt,
-  spread-reads.Asked,
-  spread-reads.Learnt,
-  forward-levels-below t,
-  forward-levels.Post,
-) (forward-levels-at t) forward-levels.Post
+forward-levels-same-length : (t : ℕ) → forward-levels-lts.Need-same-length (claims t) (forward-levels-at t) forward-levels.Post
 forward-levels-same-length t c = search needs
 
-forward-levels-returns : (t : ℕ) → forward-levels-lts.Need-returns (
-  lift-by-reads.Asked,
-  lift-by-reads.Learnt,
-  low-count-reads.Asked,
-  low-count-reads.Learnt,
-  goes-on-reads.Asked,
-  goes-on-reads.Learnt,
-  next-start-reads.Asked,
-  next-start-reads.Learnt,
-  save-reads.Asked,
-  save-reads.Learnt,
-  spread-reads.Asked,
-  spread-reads.Learnt,
-  forward-levels-below t,
-  forward-levels.Post,
-) (forward-levels-at t) forward-levels.Post
+forward-levels-returns : (t : ℕ) → forward-levels-lts.Need-returns (claims t) (forward-levels-at t) forward-levels.Post
 forward-levels-returns t c =
     let goes = c .before in
     let low2 = goes .before in
@@ -164,58 +92,13 @@ forward-levels-returns t c =
       record { kept = λ j b. refl },
     )
 
-forward-levels-next-start-requires : (t : ℕ) → forward-levels-lts.Need-next-start-requires (
-  lift-by-reads.Asked,
-  lift-by-reads.Learnt,
-  low-count-reads.Asked,
-  low-count-reads.Learnt,
-  goes-on-reads.Asked,
-  goes-on-reads.Learnt,
-  next-start-reads.Asked,
-  next-start-reads.Learnt,
-  save-reads.Asked,
-  save-reads.Learnt,
-  spread-reads.Asked,
-  spread-reads.Learnt,
-  forward-levels-below t,
-  forward-levels.Post,
-) (forward-levels-at t) forward-levels.Post
+forward-levels-next-start-requires : (t : ℕ) → forward-levels-lts.Need-next-start-requires (claims t) (forward-levels-at t) forward-levels.Post
 forward-levels-next-start-requires t c κs = tt
 
-forward-levels-next-start-requires-2 : (t : ℕ) → forward-levels-lts.Need-next-start-requires-2 (
-  lift-by-reads.Asked,
-  lift-by-reads.Learnt,
-  low-count-reads.Asked,
-  low-count-reads.Learnt,
-  goes-on-reads.Asked,
-  goes-on-reads.Learnt,
-  next-start-reads.Asked,
-  next-start-reads.Learnt,
-  save-reads.Asked,
-  save-reads.Learnt,
-  spread-reads.Asked,
-  spread-reads.Learnt,
-  forward-levels-below t,
-  forward-levels.Post,
-) (forward-levels-at t) forward-levels.Post
+forward-levels-next-start-requires-2 : (t : ℕ) → forward-levels-lts.Need-next-start-requires-2 (claims t) (forward-levels-at t) forward-levels.Post
 forward-levels-next-start-requires-2 t c κs = tt
 
-forward-levels-save-requires : (t : ℕ) → forward-levels-lts.Need-save-requires (
-  lift-by-reads.Asked,
-  lift-by-reads.Learnt,
-  low-count-reads.Asked,
-  low-count-reads.Learnt,
-  goes-on-reads.Asked,
-  goes-on-reads.Learnt,
-  next-start-reads.Asked,
-  next-start-reads.Learnt,
-  save-reads.Asked,
-  save-reads.Learnt,
-  spread-reads.Asked,
-  spread-reads.Learnt,
-  forward-levels-below t,
-  forward-levels.Post,
-) (forward-levels-at t) forward-levels.Post
+forward-levels-save-requires : (t : ℕ) → forward-levels-lts.Need-save-requires (claims t) (forward-levels-at t) forward-levels.Post
 forward-levels-save-requires t c κs =
     let next2 = c .before .before in
     let next = next2 .before in
@@ -232,22 +115,7 @@ forward-levels-save-requires t c κs =
       own-rows _ _ W H _ _ refl (low .low-count .ensures) (low2 .low-count2 .ensures) (on .1) (on .2) (start .pre .1 .1),
     )
 
-forward-levels-spread-requires : (t : ℕ) → forward-levels-lts.Need-spread-requires (
-  lift-by-reads.Asked,
-  lift-by-reads.Learnt,
-  low-count-reads.Asked,
-  low-count-reads.Learnt,
-  goes-on-reads.Asked,
-  goes-on-reads.Learnt,
-  next-start-reads.Asked,
-  next-start-reads.Learnt,
-  save-reads.Asked,
-  save-reads.Learnt,
-  spread-reads.Asked,
-  spread-reads.Learnt,
-  forward-levels-below t,
-  forward-levels.Post,
-) (forward-levels-at t) forward-levels.Post
+forward-levels-spread-requires : (t : ℕ) → forward-levels-lts.Need-spread-requires (claims t) (forward-levels-at t) forward-levels.Post
 forward-levels-spread-requires t c κs =
     let save = c .before .before .before in
     let next2 = save .before .before .before in
@@ -265,40 +133,10 @@ forward-levels-spread-requires t c κs =
       rows-corner _ _ _ W H _ _ (low .low-count .ensures) (low2 .low-count2 .ensures) (on .2) (start .pre .1 .0) (lift .lift-by .kept .0),
     )
 
-forward-levels-sub-forward-levels : (t : ℕ) → forward-levels-lts.Need-sub-forward-levels (
-  lift-by-reads.Asked,
-  lift-by-reads.Learnt,
-  low-count-reads.Asked,
-  low-count-reads.Learnt,
-  goes-on-reads.Asked,
-  goes-on-reads.Learnt,
-  next-start-reads.Asked,
-  next-start-reads.Learnt,
-  save-reads.Asked,
-  save-reads.Learnt,
-  spread-reads.Asked,
-  spread-reads.Learnt,
-  forward-levels-below t,
-  forward-levels.Post,
-) (forward-levels-at t) forward-levels.Post
+forward-levels-sub-forward-levels : (t : ℕ) → forward-levels-lts.Need-sub-forward-levels (claims t) (forward-levels-at t) forward-levels.Post
 forward-levels-sub-forward-levels t c = omega arith
 
-forward-levels-forward-levels-requires : (t : ℕ) → forward-levels-lts.Need-forward-levels-requires (
-  lift-by-reads.Asked,
-  lift-by-reads.Learnt,
-  low-count-reads.Asked,
-  low-count-reads.Learnt,
-  goes-on-reads.Asked,
-  goes-on-reads.Learnt,
-  next-start-reads.Asked,
-  next-start-reads.Learnt,
-  save-reads.Asked,
-  save-reads.Learnt,
-  spread-reads.Asked,
-  spread-reads.Learnt,
-  forward-levels-below t,
-  forward-levels.Post,
-) (forward-levels-at t) forward-levels.Post
+forward-levels-forward-levels-requires : (t : ℕ) → forward-levels-lts.Need-forward-levels-requires (claims t) (forward-levels-at t) forward-levels.Post
 forward-levels-forward-levels-requires t c κs =
     let spread = c .before .before .before in
     let save = spread .before .before .before .before in
@@ -322,58 +160,13 @@ forward-levels-forward-levels-requires t c κs =
       ),
     )
 
-forward-levels-same-length-2 : (t : ℕ) → forward-levels-lts.Need-same-length-2 (
-  lift-by-reads.Asked,
-  lift-by-reads.Learnt,
-  low-count-reads.Asked,
-  low-count-reads.Learnt,
-  goes-on-reads.Asked,
-  goes-on-reads.Learnt,
-  next-start-reads.Asked,
-  next-start-reads.Learnt,
-  save-reads.Asked,
-  save-reads.Learnt,
-  spread-reads.Asked,
-  spread-reads.Learnt,
-  forward-levels-below t,
-  forward-levels.Post,
-) (forward-levels-at t) forward-levels.Post
+forward-levels-same-length-2 : (t : ℕ) → forward-levels-lts.Need-same-length-2 (claims t) (forward-levels-at t) forward-levels.Post
 forward-levels-same-length-2 t c = search needs
 
-forward-levels-same-length-3 : (t : ℕ) → forward-levels-lts.Need-same-length-3 (
-  lift-by-reads.Asked,
-  lift-by-reads.Learnt,
-  low-count-reads.Asked,
-  low-count-reads.Learnt,
-  goes-on-reads.Asked,
-  goes-on-reads.Learnt,
-  next-start-reads.Asked,
-  next-start-reads.Learnt,
-  save-reads.Asked,
-  save-reads.Learnt,
-  spread-reads.Asked,
-  spread-reads.Learnt,
-  forward-levels-below t,
-  forward-levels.Post,
-) (forward-levels-at t) forward-levels.Post
+forward-levels-same-length-3 : (t : ℕ) → forward-levels-lts.Need-same-length-3 (claims t) (forward-levels-at t) forward-levels.Post
 forward-levels-same-length-3 t c = search needs
 
-forward-levels-returns-2 : (t : ℕ) → forward-levels-lts.Need-returns-2 (
-  lift-by-reads.Asked,
-  lift-by-reads.Learnt,
-  low-count-reads.Asked,
-  low-count-reads.Learnt,
-  goes-on-reads.Asked,
-  goes-on-reads.Learnt,
-  next-start-reads.Asked,
-  next-start-reads.Learnt,
-  save-reads.Asked,
-  save-reads.Learnt,
-  spread-reads.Asked,
-  spread-reads.Learnt,
-  forward-levels-below t,
-  forward-levels.Post,
-) (forward-levels-at t) forward-levels.Post
+forward-levels-returns-2 : (t : ℕ) → forward-levels-lts.Need-returns-2 (claims t) (forward-levels-at t) forward-levels.Post
 forward-levels-returns-2 t c =
     let again = c .before .before in
     let spread = again .before .before .before .before in
@@ -397,22 +190,7 @@ forward-levels-returns-2 t c =
     (on .1) (on .2) (save .save .ensures) (spread .spread .ensures) (again .forward-levels .ensures .0) (again .forward-levels .ensures .1)
 
 pub +forward-levels-spec : {M : Type 1} → statement M
-+forward-levels-spec = close μ-forward-levels λ t. forward-levels-lts.spec (
-  lift-by-reads.Asked,
-  lift-by-reads.Learnt,
-  low-count-reads.Asked,
-  low-count-reads.Learnt,
-  goes-on-reads.Asked,
-  goes-on-reads.Learnt,
-  next-start-reads.Asked,
-  next-start-reads.Learnt,
-  save-reads.Asked,
-  save-reads.Learnt,
-  spread-reads.Asked,
-  spread-reads.Learnt,
-  forward-levels-below t,
-  forward-levels.Post,
-)
++forward-levels-spec = close μ-forward-levels λ t. forward-levels-lts.spec (claims t)
     (forward-levels-at t)
     forward-levels.Post
     (forward-levels-lift-by-requires t)

@@ -34,7 +34,8 @@ abbrev in-range-below : ℕ → In 1 in-range-kinds.ps
 in-range-below t =
     and 1 in-range-kinds.ps (falls 1 in-range-kinds.ps _<_ μ-in-range t) in-range.Pre
 
-in-range-low-count-requires : (t : ℕ) → in-range-lts.Need-low-count-requires (
+abbrev claims : ℕ → in-range-lts.Claims
+claims t = (
   low-count-reads.Asked,
   low-count-reads.Learnt,
   goes-on-reads.Asked,
@@ -45,63 +46,21 @@ in-range-low-count-requires : (t : ℕ) → in-range-lts.Need-low-count-requires
   next-start-reads.Learnt,
   in-range-below t,
   in-range.Post,
-) (in-range-at t) in-range.Post
+)
+
+in-range-low-count-requires : (t : ℕ) → in-range-lts.Need-low-count-requires (claims t) (in-range-at t) in-range.Post
 in-range-low-count-requires t c κs = tt
 
-in-range-low-count-requires-2 : (t : ℕ) → in-range-lts.Need-low-count-requires-2 (
-  low-count-reads.Asked,
-  low-count-reads.Learnt,
-  goes-on-reads.Asked,
-  goes-on-reads.Learnt,
-  rows-in-range-reads.Asked,
-  rows-in-range-reads.Learnt,
-  next-start-reads.Asked,
-  next-start-reads.Learnt,
-  in-range-below t,
-  in-range.Post,
-) (in-range-at t) in-range.Post
+in-range-low-count-requires-2 : (t : ℕ) → in-range-lts.Need-low-count-requires-2 (claims t) (in-range-at t) in-range.Post
 in-range-low-count-requires-2 t c κs = tt
 
-in-range-goes-on-requires : (t : ℕ) → in-range-lts.Need-goes-on-requires (
-  low-count-reads.Asked,
-  low-count-reads.Learnt,
-  goes-on-reads.Asked,
-  goes-on-reads.Learnt,
-  rows-in-range-reads.Asked,
-  rows-in-range-reads.Learnt,
-  next-start-reads.Asked,
-  next-start-reads.Learnt,
-  in-range-below t,
-  in-range.Post,
-) (in-range-at t) in-range.Post
+in-range-goes-on-requires : (t : ℕ) → in-range-lts.Need-goes-on-requires (claims t) (in-range-at t) in-range.Post
 in-range-goes-on-requires t c κs = tt
 
-in-range-rows-in-range-requires : (t : ℕ) → in-range-lts.Need-rows-in-range-requires (
-  low-count-reads.Asked,
-  low-count-reads.Learnt,
-  goes-on-reads.Asked,
-  goes-on-reads.Learnt,
-  rows-in-range-reads.Asked,
-  rows-in-range-reads.Learnt,
-  next-start-reads.Asked,
-  next-start-reads.Learnt,
-  in-range-below t,
-  in-range.Post,
-) (in-range-at t) in-range.Post
+in-range-rows-in-range-requires : (t : ℕ) → in-range-lts.Need-rows-in-range-requires (claims t) (in-range-at t) in-range.Post
 in-range-rows-in-range-requires t c κs = (c .before .before .before .before .pre .1 .0, omega arith, omega arith, omega arith)
 
-in-range-returns : (t : ℕ) → in-range-lts.Need-returns (
-  low-count-reads.Asked,
-  low-count-reads.Learnt,
-  goes-on-reads.Asked,
-  goes-on-reads.Learnt,
-  rows-in-range-reads.Asked,
-  rows-in-range-reads.Learnt,
-  next-start-reads.Asked,
-  next-start-reads.Learnt,
-  in-range-below t,
-  in-range.Post,
-) (in-range-at t) in-range.Post
+in-range-returns : (t : ℕ) → in-range-lts.Need-returns (claims t) (in-range-at t) in-range.Post
 in-range-returns t c =
     let goes = c .before .before in
     let low2 = goes .before in
@@ -112,78 +71,23 @@ in-range-returns t c =
     (goes-as _ _ _ _ _ _ _ (low .low-count .ensures) (low2 .low-count2 .ensures) (goes .goes-on .ensures) (not-true _ (c .before .if1 .taken)))
     (c .rows-in-range .ensures)
 
-in-range-next-start-requires : (t : ℕ) → in-range-lts.Need-next-start-requires (
-  low-count-reads.Asked,
-  low-count-reads.Learnt,
-  goes-on-reads.Asked,
-  goes-on-reads.Learnt,
-  rows-in-range-reads.Asked,
-  rows-in-range-reads.Learnt,
-  next-start-reads.Asked,
-  next-start-reads.Learnt,
-  in-range-below t,
-  in-range.Post,
-) (in-range-at t) in-range.Post
+in-range-next-start-requires : (t : ℕ) → in-range-lts.Need-next-start-requires (claims t) (in-range-at t) in-range.Post
 in-range-next-start-requires t c κs = tt
 
-in-range-next-start-requires-2 : (t : ℕ) → in-range-lts.Need-next-start-requires-2 (
-  low-count-reads.Asked,
-  low-count-reads.Learnt,
-  goes-on-reads.Asked,
-  goes-on-reads.Learnt,
-  rows-in-range-reads.Asked,
-  rows-in-range-reads.Learnt,
-  next-start-reads.Asked,
-  next-start-reads.Learnt,
-  in-range-below t,
-  in-range.Post,
-) (in-range-at t) in-range.Post
+in-range-next-start-requires-2 : (t : ℕ) → in-range-lts.Need-next-start-requires-2 (claims t) (in-range-at t) in-range.Post
 in-range-next-start-requires-2 t c κs = tt
 
-in-range-sub-in-range : (t : ℕ) → in-range-lts.Need-sub-in-range (
-  low-count-reads.Asked,
-  low-count-reads.Learnt,
-  goes-on-reads.Asked,
-  goes-on-reads.Learnt,
-  rows-in-range-reads.Asked,
-  rows-in-range-reads.Learnt,
-  next-start-reads.Asked,
-  next-start-reads.Learnt,
-  in-range-below t,
-  in-range.Post,
-) (in-range-at t) in-range.Post
+in-range-sub-in-range : (t : ℕ) → in-range-lts.Need-sub-in-range (claims t) (in-range-at t) in-range.Post
 in-range-sub-in-range t c =
     let left = c .before .before in
     let goes = left .before in
     let yes′ = goes-yes _ _ _ (sym (goes .goes-on .ensures) ∙ not-false _ (left .if1 .left)) in
     omega arith
 
-in-range-add-in-range : (t : ℕ) → in-range-lts.Need-add-in-range (
-  low-count-reads.Asked,
-  low-count-reads.Learnt,
-  goes-on-reads.Asked,
-  goes-on-reads.Learnt,
-  rows-in-range-reads.Asked,
-  rows-in-range-reads.Learnt,
-  next-start-reads.Asked,
-  next-start-reads.Learnt,
-  in-range-below t,
-  in-range.Post,
-) (in-range-at t) in-range.Post
+in-range-add-in-range : (t : ℕ) → in-range-lts.Need-add-in-range (claims t) (in-range-at t) in-range.Post
 in-range-add-in-range t c = omega (arith, levels-small, levels-most (c .before .before .before .before .before .before .args .filter))
 
-in-range-in-range-requires : (t : ℕ) → in-range-lts.Need-in-range-requires (
-  low-count-reads.Asked,
-  low-count-reads.Learnt,
-  goes-on-reads.Asked,
-  goes-on-reads.Learnt,
-  rows-in-range-reads.Asked,
-  rows-in-range-reads.Learnt,
-  next-start-reads.Asked,
-  next-start-reads.Learnt,
-  in-range-below t,
-  in-range.Post,
-) (in-range-at t) in-range.Post
+in-range-in-range-requires : (t : ℕ) → in-range-lts.Need-in-range-requires (claims t) (in-range-at t) in-range.Post
 in-range-in-range-requires t c κs =
     let left = c .before .before in
     let goes = left .before in
@@ -201,18 +105,7 @@ in-range-in-range-requires t c κs =
       ),
     )
 
-in-range-returns-2 : (t : ℕ) → in-range-lts.Need-returns-2 (
-  low-count-reads.Asked,
-  low-count-reads.Learnt,
-  goes-on-reads.Asked,
-  goes-on-reads.Learnt,
-  rows-in-range-reads.Asked,
-  rows-in-range-reads.Learnt,
-  next-start-reads.Asked,
-  next-start-reads.Learnt,
-  in-range-below t,
-  in-range.Post,
-) (in-range-at t) in-range.Post
+in-range-returns-2 : (t : ℕ) → in-range-lts.Need-returns-2 (claims t) (in-range-at t) in-range.Post
 in-range-returns-2 t c =
     let again = c .before in
     let next2 = again .before in
@@ -229,18 +122,7 @@ in-range-returns-2 t c =
     (next-side W _ _ (next .next-start .ensures) (low .low-count .ensures))
     (next-side H _ _ (next2 .next-start2 .ensures) (low2 .low-count2 .ensures)) (again .in-range .ensures) (not-true _ (c .if2 .taken))
 
-in-range-rows-in-range-requires-2 : (t : ℕ) → in-range-lts.Need-rows-in-range-requires-2 (
-  low-count-reads.Asked,
-  low-count-reads.Learnt,
-  goes-on-reads.Asked,
-  goes-on-reads.Learnt,
-  rows-in-range-reads.Asked,
-  rows-in-range-reads.Learnt,
-  next-start-reads.Asked,
-  next-start-reads.Learnt,
-  in-range-below t,
-  in-range.Post,
-) (in-range-at t) in-range.Post
+in-range-rows-in-range-requires-2 : (t : ℕ) → in-range-lts.Need-rows-in-range-requires-2 (claims t) (in-range-at t) in-range.Post
 in-range-rows-in-range-requires-2 t c κs =
     let again = c .before in
     let next2 = again .before in
@@ -261,18 +143,7 @@ in-range-rows-in-range-requires-2 t c κs =
       omega arith,
     )
 
-in-range-returns-3 : (t : ℕ) → in-range-lts.Need-returns-3 (
-  low-count-reads.Asked,
-  low-count-reads.Learnt,
-  goes-on-reads.Asked,
-  goes-on-reads.Learnt,
-  rows-in-range-reads.Asked,
-  rows-in-range-reads.Learnt,
-  next-start-reads.Asked,
-  next-start-reads.Learnt,
-  in-range-below t,
-  in-range.Post,
-) (in-range-at t) in-range.Post
+in-range-returns-3 : (t : ℕ) → in-range-lts.Need-returns-3 (claims t) (in-range-at t) in-range.Post
 in-range-returns-3 t c =
     let again = c .before .before .before in
     let next2 = again .before in
@@ -290,18 +161,7 @@ in-range-returns-3 t c =
     (next-side H _ _ (next2 .next-start2 .ensures) (low2 .low-count2 .ensures)) (again .in-range .ensures)
     (not-false _ (c .before .before .if2 .left)) _ (c .before .rows-in-range2 .ensures) (not-true _ (c .if3 .taken))
 
-in-range-rows-in-range-requires-3 : (t : ℕ) → in-range-lts.Need-rows-in-range-requires-3 (
-  low-count-reads.Asked,
-  low-count-reads.Learnt,
-  goes-on-reads.Asked,
-  goes-on-reads.Learnt,
-  rows-in-range-reads.Asked,
-  rows-in-range-reads.Learnt,
-  next-start-reads.Asked,
-  next-start-reads.Learnt,
-  in-range-below t,
-  in-range.Post,
-) (in-range-at t) in-range.Post
+in-range-rows-in-range-requires-3 : (t : ℕ) → in-range-lts.Need-rows-in-range-requires-3 (claims t) (in-range-at t) in-range.Post
 in-range-rows-in-range-requires-3 t c κs =
     let again = c .before .before .before in
     let next2 = again .before in
@@ -317,18 +177,7 @@ in-range-rows-in-range-requires-3 t c κs =
     let lh = counts H in
     (start .pre .1 .0, omega (arith, low2 .low-count2 .ensures), omega arith, omega arith)
 
-in-range-returns-4 : (t : ℕ) → in-range-lts.Need-returns-4 (
-  low-count-reads.Asked,
-  low-count-reads.Learnt,
-  goes-on-reads.Asked,
-  goes-on-reads.Learnt,
-  rows-in-range-reads.Asked,
-  rows-in-range-reads.Learnt,
-  next-start-reads.Asked,
-  next-start-reads.Learnt,
-  in-range-below t,
-  in-range.Post,
-) (in-range-at t) in-range.Post
+in-range-returns-4 : (t : ℕ) → in-range-lts.Need-returns-4 (claims t) (in-range-at t) in-range.Post
 in-range-returns-4 t c =
     let rows = c .before .before in
     let again = rows .before .before in
@@ -348,18 +197,7 @@ in-range-returns-4 t c =
     (not-false _ (rows .before .if2 .left)) _ (rows .rows-in-range2 .ensures) (not-false _ (c .before .if3 .left)) _ (c .rows-in-range3 .ensures)
 
 pub +in-range-spec : {M : Type 1} → statement M
-+in-range-spec = close μ-in-range λ t. in-range-lts.spec (
-  low-count-reads.Asked,
-  low-count-reads.Learnt,
-  goes-on-reads.Asked,
-  goes-on-reads.Learnt,
-  rows-in-range-reads.Asked,
-  rows-in-range-reads.Learnt,
-  next-start-reads.Asked,
-  next-start-reads.Learnt,
-  in-range-below t,
-  in-range.Post,
-)
++in-range-spec = close μ-in-range λ t. in-range-lts.spec (claims t)
     (in-range-at t)
     in-range.Post
     (in-range-low-count-requires t)

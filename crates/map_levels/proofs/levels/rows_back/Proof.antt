@@ -12,7 +12,7 @@ use Rattle.wavelet.specs.Plane.{cells}
 use Rattle.map_levels.specs.Passes.{Rows}
 use Rattle.map_levels.specs.LevelPasses.{rowsEven}
 use Rattle.map_levels.proofs.GridSweep.{rows-kept, few}
-use Rattle.map_levels.proofs.BackPass.{Zoned, first-back, turn-back, last-back}
+use Rattle.map_levels.proofs.BackPass.{Zoned, first-high, next-high, first-back, turn-back, last-back}
 use Rattle.map_levels.proofs.levels.rows_back.Statement.{statement}
 use Rattle.map_levels.proofs.levels.rows_back.Tie as tie
 
@@ -45,7 +45,8 @@ loop-holds c =
     let first = c .before in
     let pre = first .before .before .pre in
     let rows = rows-kept (first .first-rows .kept .1 .0) (pre .1) in
-    (omega arith, omega arith, pre .3, few _ _ _ _ rows, refl, pre .0, rows, pre .2, pre .4, λ x s. s)
+    let high = first-high _ _ (pre .3) in
+    (high .0, high .1, pre .3, few _ _ _ _ rows, refl, pre .0, rows, pre .2, pre .4, λ x s. s)
 
 add-loop : tie.Need-add-loop Inv-loop μ-loop
 add-loop c = omega arith
@@ -54,7 +55,10 @@ add-fetch-row : tie.Need-add-fetch-row Inv-loop μ-loop
 add-fetch-row c = omega arith
 
 fetch-row-requires : tie.Need-fetch-row-requires Inv-loop μ-loop
-fetch-row-requires c κs = let inv = c .before .before .loop .inv in (inv .5, rows-kept (inv .4) (inv .6), inv .7, omega arith, inv .8)
+fetch-row-requires c κs =
+    let turn = c .before in
+    let inv = turn .before .loop .inv in
+    (inv .5, rows-kept (inv .4) (inv .6), inv .7, next-high _ _ _ (inv .0) (turn .loop-test .taken) .1, inv .8)
 
 add-fetch-row-2 : tie.Need-add-fetch-row-2 Inv-loop μ-loop
 add-fetch-row-2 c = omega arith
@@ -62,11 +66,12 @@ add-fetch-row-2 c = omega arith
 fetch-row-requires-2 : tie.Need-fetch-row-requires-2 Inv-loop μ-loop
 fetch-row-requires-2 c κs =
     let three = c .before .before in
-    let inv = three .before .before .before .loop .inv in
-    (inv .5, rows-kept (three .fetch-row .kept .1 .0 ∙ inv .4) (inv .6), inv .7, omega arith, inv .8)
+    let turn = three .before .before in
+    let inv = turn .before .loop .inv in
+    (inv .5, rows-kept (three .fetch-row .kept .1 .0 ∙ inv .4) (inv .6), inv .7, turn .loop-test .taken, inv .8)
 
 unlift-pair-requires : tie.Need-unlift-pair-requires Inv-loop μ-loop
-unlift-pair-requires c κs = omega arith
+unlift-pair-requires c κs = let inv = c .before .before .before .before .before .before .before .before .loop .inv in (inv .1, inv .2)
 
 add-r : tie.Need-add-r Inv-loop μ-loop
 add-r c = let four = c .before .before .before .before in omega (arith, add-fetch-row-2 (four .before))
@@ -82,8 +87,8 @@ loop-again c =
     let row = three .before .before in
     let inv = row .before .loop .inv in
     let size = four .fetch-row2 .kept .1 .0 ∙ three .fetch-row .kept .1 .0 ∙ inv .4 in (
-      omega arith,
-      omega arith,
+      next-high _ _ _ (inv .0) (row .loop-test .taken) .0,
+      row .loop-test .taken,
       inv .2,
       inv .3,
       pair .unlift-pair .kept .0 ∙ size,
@@ -102,7 +107,7 @@ fetch-last-requires : tie.Need-fetch-last-requires Inv-loop μ-loop
 fetch-last-requires c κs = let inv = c .before .before .loop .inv in (inv .5, rows-kept (inv .4) (inv .6), inv .7, inv .8)
 
 unlift-pair-requires-2 : tie.Need-unlift-pair-requires-2 Inv-loop μ-loop
-unlift-pair-requires-2 c κs = omega arith
+unlift-pair-requires-2 c κs = let inv = c .before .before .before .before .before .loop .inv in (inv .1, inv .2)
 
 same-length : tie.Need-same-length Inv-loop μ-loop
 same-length c =
