@@ -18,11 +18,13 @@ use borrow.Author.Tests.{lt-ltb, le-ltb}
 use borrow.Rule.Slice.PartMut.{midOf, putMid, same-len-mid}
 use Rattle.numbers.specs.Signal.{at, spliced}
 use Rattle.numbers.proofs.Parts.{splice-below, splice-in, splice-past, length-mid, at-mid, at-put}
+use Rattle.lifting.specs.Grid.{Side}
 use Rattle.lifting.proofs.RowLaws.{row-order}
 use Rattle.wavelet.specs.Bands.{Grid}
 use Rattle.wavelet.specs.Plane.{cells, flat}
 use Rattle.map_levels.specs.Rowwise.{cut}
 use Rattle.map_levels.specs.Passes.{Rows, KeptFrom, within, rowsMapped}
+use Rattle.map_levels.specs.LevelPasses.{LevelRoom}
 use Rattle.map_levels.proofs.RowwiseLaws.{window-cut}
 
 -- ---- rows in an area
@@ -32,6 +34,9 @@ row-room n s w h r g lt = let m : r * s ≤ (h - 1) * s = mul-le-mul-right s (om
 -- an area that kept its length
 pub rows-kept : {n n′ s w h : ℕ} → n′ ≡ n → Rows n s w h → Rows n′ s w h
 rows-kept e g = rw e g
+
+pub room-kept : {n m m′ A s from : ℕ} {W H : Side} → m′ ≡ m → LevelRoom n m A s from W H → LevelRoom n m′ A s from W H
+room-kept e R = record { plane = R .plane; work = rows-kept e (R .work); few = R .few }
 
 pub few : (n s w h : ℕ) → Rows n s w h → h ≤ n + 1
 few n s w h g = let m : (h - 1) * 1 ≤ (h - 1) * s = mul-le-mul-left (h - 1) (g .apart) in omega (arith, g .room)

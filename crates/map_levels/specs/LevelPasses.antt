@@ -7,9 +7,9 @@ use lib.Dec.{ltb, leb, eqb}
 use Rattle.numbers.specs.Signal.{pick, both, windowed, spliced}
 use Rattle.numbers.specs.Tests.{every}
 use Rattle.numbers.specs.Word.{wrap32}
-use Rattle.lifting.specs.Line.{predicted, updated, unupdated, unpredicted}
+use Rattle.lifting.specs.Line.{lo, predicted, updated, unupdated, unpredicted}
 use Rattle.lifting.specs.Halves.{fronted}
-use Rattle.lifting.specs.Grid.{Side, joined, loneHigh, isEven}
+use Rattle.lifting.specs.Grid.{Side, count, joined, loneHigh, isEven}
 use Rattle.lifting.specs.GridHalves.{halvesOf, liftedInPlace, unliftedInPlace}
 use Rattle.lifting.specs.Rows.{rowsChanged}
 use Rattle.lifting.specs.Filter.{Filter}
@@ -21,7 +21,7 @@ use Rattle.wavelet.specs.Maps.{everyCell, valueFits, rebuiltFits}
 use Rattle.wavelet.specs.Levels.{next}
 use Rattle.map_levels.specs.Rowwise.{cut, between, halvedInPlace}
 use Rattle.map_levels.specs.ByFilter.{unliftedBy, levelUnliftedBy}
-use Rattle.map_levels.specs.Passes.{within, highRowsChanged, lowRowsChanged, rowsMapped, rowsFetched, rowsReturned, KeptFrom}
+use Rattle.map_levels.specs.Passes.{within, highRowsChanged, lowRowsChanged, rowsMapped, rowsFetched, rowsReturned, Rows, KeptFrom}
 
 -- the grid of the columns W whose rows stand in X, each in halves
 unfoldable pub levelGrid : Side → Grid → Grid
@@ -103,6 +103,12 @@ rowsBetween first last from to low high x =
 -- question 7 of the corner of a plane, k being the level of its own bands
 unfoldable pub regionInRange : Filter → ℕ → ℕ → Side → Side → Grid → Bool
 regionInRange F k L W H x = everyCell (W .length) (H .length) (λ r c. leb (natAbs (x r c)) (range F (k - 1 + levelAt L W H r c)))
+
+-- room for a level back: its rows in a plane of n numbers, A apart, and in a work area of m numbers, s apart, `from` columns of the low ones being made
+pub record LevelRoom (n m A s from : ℕ) (W H : Side) : Type 0 where
+  pub plane : Rows n A (W .length) (H .length)
+  pub work : Rows m s (W .length) (H .length)
+  pub few : from ≤ count lo W
 
 -- L levels of rows of w numbers, s apart: strides double from level to level, and stay small
 pub record Doubling (L s w : ℕ) : Type 0 where

@@ -18,8 +18,7 @@ ghost use lib.Dec.{ltb};
 ghost use lib.ListN.{length};
 ghost use Rattle.numbers.specs.Signal.{at, pick, windowed, spliced};
 ghost use Rattle.numbers.specs.Tests.{every};
-ghost use Rattle.lifting.specs.Line.{lo};
-ghost use Rattle.lifting.specs.Grid.{side, count, loneHigh, isEven};
+ghost use Rattle.lifting.specs.Grid.{side, loneHigh, isEven};
 ghost use Rattle.lifting.specs.GridHalves.{unliftedInPlace, hasLineIn, highsLaid};
 ghost use Rattle.nine_seven.specs.Memory.{unliftedInPlace as nineSevenBack};
 ghost use Rattle.nine_seven.specs.NineSevenFilter.{nineSevenFilter};
@@ -31,7 +30,7 @@ ghost use Rattle.map_levels.specs.Passes.{Rows, KeptFrom, isLow, planeRo
 ghost use Rattle.nine_seven.specs.Filters.{filterOf};
 ghost use Rattle.map_levels.specs.ByFilter.{rowCopied};
 ghost use Rattle.map_levels.specs.LevelPasses.{cornerGrid, levelUnlifted, rowBack, firstBack, planeWritten, goesOn, rowsEven, rowsBetween};
-ghost use Rattle.map_levels.specs.LevelPasses.{regionInRange, Doubling, LevelMade, LevelMadeBy, LevelsBack};
+ghost use Rattle.map_levels.specs.LevelPasses.{regionInRange, LevelRoom, Doubling, LevelMade, LevelMadeBy, LevelsBack};
 
 // The plane's row for row r of a level: the low rows come first.
 fn plane_row(y: usize, height: usize, r: usize) -> usize
@@ -158,8 +157,8 @@ fn fetch_row(
     height: usize,
     r: usize,
 )
-    requires { ⌜ Rows (length (now plane)) across width height × Rows (length (now work)) stride width height × (from ≤ count lo (side x width)) × (r < height)
-        × (rowsEven (side x width) height (cells across (at (now plane))) ≡ true) ⌝ }
+    requires { ⌜ LevelRoom (length (now plane)) (length (now work)) across stride from (side x width) (side y height)
+        × (r < height) × (rowsEven (side x width) height (cells across (at (now plane))) ≡ true) ⌝ }
     ensures { λ _. ⌜ at (now (work .exit)) ≡
         rowBack from (side x width) (side y height) stride (cells across (at (now (plane .entry)))) (at (now (work .entry))) r ⌝ }
 {
@@ -184,7 +183,7 @@ fn fetch_last(
     height: usize,
     r: usize,
 )
-    requires { ⌜ Rows (length (now plane)) across width height × Rows (length (now work)) stride width height × (from ≤ count lo (side x width))
+    requires { ⌜ LevelRoom (length (now plane)) (length (now work)) across stride from (side x width) (side y height)
         × (rowsEven (side x width) height (cells across (at (now plane))) ≡ true) ⌝ }
     ensures { λ _. ⌜ at (now (work .exit)) ≡
         pick (ltb r height)
@@ -230,20 +229,12 @@ pub fn forward_levels(
     forward_levels(plane, work, across, u, w, v, h, levels - 1, filter);
 }
 
-// The largest magnitude of a level's numbers.
-fn range_by(level: usize, filter: usize) -> i32
-    requires { ⌜ level ≤ filterOf filter .levels ⌝ }
-    ensures { λ r. ⌜ r ≡ pos (range (filterOf filter) level) ⌝ }
-{
-    figures::range_of(filter, level)
-}
-
-// And as the least of them.
+// The least number of a level's range.
 fn lowest(level: usize, filter: usize) -> i32
     requires { ⌜ level ≤ filterOf filter .levels ⌝ }
     ensures { λ r. ⌜ r ≡ negℤ (pos (range (filterOf filter) level)) ⌝ }
 {
-    0 - range_by(level, filter)
+    0 - figures::range_of(filter, level)
 }
 
 // Whether the numbers of some rows lie from `low` to `high`: rows `first` up to `last`, columns `from` up to `to`.
@@ -295,7 +286,7 @@ fn rows_in_range(
         from,
         to,
         lowest(level, filter),
-        range_by(level, filter),
+        figures::range_of(filter, level),
     )
 }
 
@@ -322,7 +313,7 @@ fn weave_low(
         width,
         height,
         lowest(level, filter),
-        range_by(level, filter),
+        figures::range_of(filter, level),
     )
 }
 
@@ -380,8 +371,8 @@ fn first_rows(
     y: usize,
     height: usize,
 )
-    requires { ⌜ Rows (length (now plane)) across width height × Rows (length (now work)) stride width height × (from ≤ count lo (side x width)) × (1 < height)
-        × (rowsEven (side x width) height (cells across (at (now plane))) ≡ true) ⌝ }
+    requires { ⌜ LevelRoom (length (now plane)) (length (now work)) across stride from (side x width) (side y height)
+        × (1 < height) × (rowsEven (side x width) height (cells across (at (now plane))) ≡ true) ⌝ }
     ensures { λ _. ⌜ at (now (work .exit)) ≡
         firstBack (length (now (work .entry))) from (side x width) (side y height) stride (cells across (at (now (plane .entry)))) (at (now (work .entry))) ⌝ }
 {
@@ -406,8 +397,8 @@ fn rows_back(
     y: usize,
     height: usize,
 )
-    requires { ⌜ Rows (length (now plane)) across width height × Rows (length (now work)) stride width height × (from ≤ count lo (side x width)) × (1 < height)
-        × (rowsEven (side x width) height (cells across (at (now plane))) ≡ true) ⌝ }
+    requires { ⌜ LevelRoom (length (now plane)) (length (now work)) across stride from (side x width) (side y height)
+        × (1 < height) × (rowsEven (side x width) height (cells across (at (now plane))) ≡ true) ⌝ }
     ensures { λ _. ⌜ at (now (work .exit)) ≡
         flat stride (levelUnlifted (side x width) (side y height) (cells stride (flat stride (rowsFetched from width (side y height)
         (cells across (at (now (plane .entry)))) (cells stride (at (now (work .entry)))))))) ⌝ }
@@ -469,7 +460,7 @@ fn level_back(
     y: usize,
     height: usize,
 ) -> bool
-    requires { ⌜ Rows (length (now plane)) across width height × Rows (length (now work)) stride width height × (from ≤ count lo (side x width)) ⌝ }
+    requires { ⌜ LevelRoom (length (now plane)) (length (now work)) across stride from (side x width) (side y height) ⌝ }
     ensures { λ ok. ⌜ LevelMade ok from stride (side x width) (side y height) (cells across (at (now (plane .entry))))
         (at (now (work .entry))) (at (now (work .exit))) ⌝ }
 {
@@ -553,7 +544,7 @@ fn nine_seven_back(
     y: usize,
     height: usize,
 ) -> bool
-    requires { ⌜ Rows (length (now plane)) across width height × Rows (length (now work)) stride width height × (from ≤ count lo (side x width)) ⌝ }
+    requires { ⌜ LevelRoom (length (now plane)) (length (now work)) across stride from (side x width) (side y height) ⌝ }
     ensures { λ ok. ⌜ LevelMadeBy nineSevenFilter ok from stride (side x width) (side y height) (cells across (at (now (plane .entry))))
         (at (now (work .entry))) (at (now (work .exit))) ⌝ }
 {
@@ -578,7 +569,7 @@ fn back_by(
     height: usize,
     filter: usize,
 ) -> bool
-    requires { ⌜ Rows (length (now plane)) across width height × Rows (length (now work)) stride width height × (from ≤ count lo (side x width)) ⌝ }
+    requires { ⌜ LevelRoom (length (now plane)) (length (now work)) across stride from (side x width) (side y height) ⌝ }
     ensures { λ ok. ⌜ LevelMadeBy (filterOf filter) ok from stride (side x width) (side y height) (cells across (at (now (plane .entry))))
         (at (now (work .entry))) (at (now (work .exit))) ⌝ }
 {

@@ -24,7 +24,7 @@ same-length-2 c = search needs
 
 returns : tie.Need-returns
 unfolding forwardQuestion
-returns c = c .before .before .before .lift-map .ensures
+returns c = c .before .before .lift-map .ensures
 
 pub forward-spec : {M : Type 1} → statement M
 forward-spec = tie.close (tie.spec cast-lift-map cast-lift-map-2 cast-lift-map-3 lift-map-requires same-length same-length-2 returns)

@@ -73,7 +73,9 @@ back-levels-goes-on-requires : (t : ℕ) → back-levels-lts.Need-goes-on-requir
 back-levels-goes-on-requires t c κs = tt
 
 back-levels-back-by-requires : (t : ℕ) → back-levels-lts.Need-back-by-requires (claims t) (back-levels-at t) back-levels.Post
-back-levels-back-by-requires t c κs = let start = c .before .before .before .before .before in (start .pre .1 .0, start .pre .1 .1, omega arith)
+back-levels-back-by-requires t c κs =
+    let pre = c .before .before .before .before .before .pre .1 in
+    record { plane = pre .0; work = pre .1; few = omega arith }
 
 back-levels-same-length : (t : ℕ) → back-levels-lts.Need-same-length (claims t) (back-levels-at t) back-levels.Post
 back-levels-same-length t c = c .before .back-by .kept .1 .0
@@ -276,7 +278,7 @@ back-levels-back-by-requires-2 t c κs =
     let tested = c .before .before in
     let here = then t (called t tested) in
     let pre = begun t here .pre .1 in
-    (pre .0, rows-kept (same₂ t tested) (pre .1), omega (arith, low2 t here .before .low-count .ensures))
+    record { plane = pre .0; work = rows-kept (same₂ t tested) (pre .1); few = omega (arith, low2 t here .before .low-count .ensures) }
 
 back-levels-same-length-4 : (t : ℕ) → back-levels-lts.Need-same-length-4 (claims t) (back-levels-at t) back-levels.Post
 back-levels-same-length-4 t c = c .before .back-by2 .kept .1 .0 ∙ same₂ t (c .before .before .before .before)

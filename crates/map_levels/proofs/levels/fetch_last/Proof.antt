@@ -1,7 +1,5 @@
 -- `levels::fetch_last` meets its contract: the definition by the test. Assumes nothing.
-use native.Mathlib.Omega.{arith}
 use borrow.Author.Tests.{lt-ltb, le-ltb}
-use borrow.Author.Needs.{needs}
 use Rattle.map_levels.proofs.levels.fetch_last.Statement.{statement}
 use Rattle.map_levels.proofs.levels.fetch_last.Tie as tie
 
@@ -9,10 +7,10 @@ returns : tie.Need-returns
 returns c = simp (le-ltb _ _ (c .if1 .taken))
 
 fetch-row-requires : tie.Need-fetch-row-requires
-fetch-row-requires c κs = let start = c .before .before in (start .pre .0, start .pre .1, start .pre .2, omega arith, start .pre .3)
+fetch-row-requires c κs = let pre = c .before .before .pre in (pre .0, c .before .if1 .left, pre .1)
 
 same-length : tie.Need-same-length
-same-length c = search needs
+same-length c = c .before .fetch-row .kept .1 .0
 
 returns-2 : tie.Need-returns-2
 returns-2 c =

@@ -3,12 +3,12 @@ use mathlib.Core.Path.{_∙_}
 use Prim.Native.Nat.{_%_}
 use native.Mathlib.Omega.{arith}
 use borrow.Author.Tests.{eq-eqb, ne-eqb}
-use Rattle.map_levels.proofs.GridSweep.{rows-kept}
+use Rattle.map_levels.proofs.GridSweep.{room-kept}
 use Rattle.map_levels.proofs.levels.first_rows.Statement.{statement}
 use Rattle.map_levels.proofs.levels.first_rows.Tie as tie
 
 fetch-row-requires : tie.Need-fetch-row-requires
-fetch-row-requires c κs = let pre = c .before .pre in (pre .0, pre .1, pre .2, omega arith, pre .4)
+fetch-row-requires c κs = let pre = c .before .pre in (pre .0, omega arith, pre .2)
 
 same-length : tie.Need-same-length
 same-length c = c .before .before .fetch-row .kept .1 .0
@@ -23,7 +23,7 @@ fetch-row-requires-2 : tie.Need-fetch-row-requires-2
 fetch-row-requires-2 c κs =
     let one = c .before .before .before in
     let pre = one .before .before .pre in
-    (pre .0, rows-kept (one .fetch-row .kept .1 .0) (pre .1), pre .2, pre .3, pre .4)
+    (room-kept (one .fetch-row .kept .1 .0) (pre .0), pre .1, pre .2)
 
 unupdate-row-requires : tie.Need-unupdate-row-requires
 unupdate-row-requires c κs = tt

@@ -10,26 +10,26 @@ use Rattle.map_levels.proofs.levels.level_back.Statement.{statement}
 use Rattle.map_levels.proofs.levels.level_back.Tie as tie
 
 rows-even-requires : tie.Need-rows-even-requires
-rows-even-requires c κs = c .pre .0
+rows-even-requires c κs = c .pre .plane
 
 returns : tie.Need-returns
 returns c =
     let even = c .before in
     let pre = even .before .pre in
-    made-no _ _ _ _ _ _ _ (pre .1) _ (even .rows-even .ensures) (not-true _ (c .if1 .taken))
+    made-no _ _ _ _ _ _ _ (pre .work) _ (even .rows-even .ensures) (not-true _ (c .if1 .taken))
 
 fetch-row-requires : tie.Need-fetch-row-requires
 fetch-row-requires c κs =
     let left = c .before .before in
     let even = left .before in
     let pre = even .before .pre in
-    (pre .0, pre .1, pre .2, pre .1 .some, sym (even .rows-even .ensures) ∙ not-false _ (left .if1 .left))
+    (pre, pre .work .some, sym (even .rows-even .ensures) ∙ not-false _ (left .if1 .left))
 
 unlift-lone-requires : tie.Need-unlift-lone-requires
 unlift-lone-requires c κs =
     let fetched = c .before .before in
     let pre = fetched .before .before .before .before .before .pre in
-    omega (arith, fetched .fetch-row .kept .1 .0, row-room _ _ _ _ 0 (pre .1) (pre .1 .some))
+    omega (arith, fetched .fetch-row .kept .1 .0, row-room _ _ _ _ 0 (pre .work) (pre .work .some))
 
 same-length : tie.Need-same-length
 same-length c = search needs
@@ -43,8 +43,8 @@ returns-2 c =
     let even = left .before in
     let start = even .before in
     let a = start .args in
-    let h : a .height ≡ 1 = omega (arith, start .pre .1 .some) in
-    made-one _ _ (side (a .x) (a .width)) (side (a .y) (a .height)) _ _ _ (start .pre .1) _ (even .rows-even .ensures) (not-false _ (left .if1 .left)) _ _ _
+    let h : a .height ≡ 1 = omega (arith, start .pre .work .some) in
+    made-one _ _ (side (a .x) (a .width)) (side (a .y) (a .height)) _ _ _ (start .pre .work) _ (even .rows-even .ensures) (not-false _ (left .if1 .left)) _ _ _
     (one .if2 .taken) (fetched .fetch-row .ensures) (lone .unlift-lone .ensures .0 ∙ rw h refl) (lone .unlift-lone .ensures .1 ∙ rw h refl)
 
 rows-back-requires : tie.Need-rows-back-requires
@@ -52,7 +52,7 @@ rows-back-requires c κs =
     let left = c .before .before in
     let even = left .before in
     let pre = even .before .pre in
-    (pre .0, pre .1, pre .2, omega arith, sym (even .rows-even .ensures) ∙ not-false _ (left .if1 .left))
+    (pre, omega arith, sym (even .rows-even .ensures) ∙ not-false _ (left .if1 .left))
 
 same-length-2 : tie.Need-same-length-2
 same-length-2 c = search needs
@@ -64,7 +64,7 @@ returns-3 c =
     let left = more .before in
     let even = left .before in
     let start = even .before in
-    made-many _ _ _ _ _ _ _ (start .pre .1) _ (even .rows-even .ensures) (not-false _ (left .if1 .left)) _ (omega arith) (back .rows-back .ensures)
+    made-many _ _ _ _ _ _ _ (start .pre .work) _ (even .rows-even .ensures) (not-false _ (left .if1 .left)) _ (omega arith) (back .rows-back .ensures)
 
 pub level-back-spec : {M : Type 1} → statement M
 level-back-spec =

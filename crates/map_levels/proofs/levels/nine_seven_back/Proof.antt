@@ -10,19 +10,19 @@ use Rattle.map_levels.proofs.levels.nine_seven_back.Statement.{statemen
 use Rattle.map_levels.proofs.levels.nine_seven_back.Tie as tie
 
 rows-even-requires : tie.Need-rows-even-requires
-rows-even-requires c κs = c .pre .0
+rows-even-requires c κs = c .pre .plane
 
 returns : tie.Need-returns
 returns c =
     let even = c .before in
     let pre = even .before .pre in
-    nine-none _ _ _ _ _ _ _ _ (pre .1) (pre .2) _ (even .rows-even .ensures) (not-true _ (c .if1 .taken))
+    nine-none _ _ _ _ _ _ _ _ (pre .work) (pre .few) _ (even .rows-even .ensures) (not-true _ (c .if1 .taken))
 
 copy-rows-requires : tie.Need-copy-rows-requires
 copy-rows-requires c κs =
     let start = c .before .before .before in
     let pre = start .pre in
-    (pre .0, pre .1, omega (arith, pre .2, counts (side (start .args .x) (start .args .width))))
+    (pre .plane, pre .work, omega (arith, pre .few, counts (side (start .args .x) (start .args .width))))
 
 unlift-rows-requires : tie.Need-unlift-rows-requires
 unlift-rows-requires c κs =
@@ -32,9 +32,9 @@ unlift-rows-requires c κs =
     let start = even .before in
     let a = start .args in
     let pre = start .pre in
-    let R = rows-kept (copy .copy-rows .kept .1 .0) (pre .1) in (
+    let R = rows-kept (copy .copy-rows .kept .1 .0) (pre .work) in (
       R,
-      fetched-even _ (a .stride) (a .across) _ (side (a .x) (a .width)) (side (a .y) (a .height)) _ _ R (pre .2) _ (copy .copy-rows .ensures)
+      fetched-even _ (a .stride) (a .across) _ (side (a .x) (a .width)) (side (a .y) (a .height)) _ _ R (pre .few) _ (copy .copy-rows .ensures)
           (sym (even .rows-even .ensures) ∙ not-false _ (left .if1 .left)),
     )
 
@@ -56,8 +56,8 @@ returns-2 c =
     let start = even .before in
     let a = start .args in
     let pre = start .pre in
-    let R = rows-kept (rows .unlift-rows .kept .0 ∙ copy .copy-rows .kept .1 .0) (pre .1) in
-    nine-made _ (a .stride) (a .across) _ (side (a .x) (a .width)) (side (a .y) (a .height)) _ _ R (pre .2) _ (copy .copy-rows .ensures)
+    let R = rows-kept (rows .unlift-rows .kept .0 ∙ copy .copy-rows .kept .1 .0) (pre .work) in
+    nine-made _ (a .stride) (a .across) _ (side (a .x) (a .width)) (side (a .y) (a .height)) _ _ R (pre .few) _ (copy .copy-rows .ensures)
     (sym (even .rows-even .ensures) ∙ not-false _ (left .if1 .left)) _ _ (rows .unlift-rows .ensures) _ (columns .unlift-columns .ensures .0)
     (columns .unlift-columns .ensures .1)
 

@@ -6,12 +6,10 @@ use native.Mathlib.Omega.{arith}
 use lib.IntN.{ℤ}
 use lib.ListN.{length}
 use Rattle.numbers.specs.Signal.{at}
-use Rattle.lifting.specs.Line.{lo}
-use Rattle.lifting.specs.Grid.{side, count}
+use Rattle.lifting.specs.Grid.{side}
 use Rattle.wavelet.specs.Plane.{cells}
-use Rattle.map_levels.specs.Passes.{Rows}
-use Rattle.map_levels.specs.LevelPasses.{rowsEven}
-use Rattle.map_levels.proofs.GridSweep.{rows-kept, few}
+use Rattle.map_levels.specs.LevelPasses.{LevelRoom, rowsEven}
+use Rattle.map_levels.proofs.GridSweep.{rows-kept, room-kept, few}
 use Rattle.map_levels.proofs.BackPass.{Zoned, first-high, next-high, first-back, turn-back, last-back}
 use Rattle.map_levels.proofs.levels.rows_back.Statement.{statement}
 use Rattle.map_levels.proofs.levels.rows_back.Tie as tie
@@ -23,9 +21,7 @@ Inv-loop plane work₀ across stride from x width y height r₀ work r =
     × (1 < height)
     × (height ≤ length work₀ + 1)
     × (length work ≡ length work₀)
-    × Rows (length plane) across width height
-    × Rows (length work₀) stride width height
-    × (from ≤ count lo (side x width))
+    × LevelRoom (length plane) (length work₀) across stride from (side x width) (side y height)
     × (rowsEven (side x width) height (cells across (at plane)) ≡ true)
     × ((x₀ : ℕ → ℤ) →
     Zoned stride from (side x width) (side y height) (cells across (at plane)) x₀ (1 - y % 2) (1 - y % 2 + 1) (at work₀) →
@@ -44,9 +40,9 @@ loop-holds : tie.Need-loop-holds Inv-loop μ-loop
 loop-holds c =
     let first = c .before in
     let pre = first .before .before .pre in
-    let rows = rows-kept (first .first-rows .kept .1 .0) (pre .1) in
-    let high = first-high _ _ (pre .3) in
-    (high .0, high .1, pre .3, few _ _ _ _ rows, refl, pre .0, rows, pre .2, pre .4, λ x s. s)
+    let room = room-kept (first .first-rows .kept .1 .0) (pre .0) in
+    let high = first-high _ _ (pre .1) in
+    (high .0, high .1, pre .1, few _ _ _ _ (room .work), refl, room, pre .2, λ x s. s)
 
 add-loop : tie.Need-add-loop Inv-loop μ-loop
 add-loop c = omega arith
@@ -58,7 +54,7 @@ fetch-row-requires : tie.Need-fetch-row-requires Inv-loop μ-loop
 fetch-row-requires c κs =
     let turn = c .before in
     let inv = turn .before .loop .inv in
-    (inv .5, rows-kept (inv .4) (inv .6), inv .7, next-high _ _ _ (inv .0) (turn .loop-test .taken) .1, inv .8)
+    (room-kept (inv .4) (inv .5), next-high _ _ _ (inv .0) (turn .loop-test .taken) .1, inv .6)
 
 add-fetch-row-2 : tie.Need-add-fetch-row-2 Inv-loop μ-loop
 add-fetch-row-2 c = omega arith
@@ -68,7 +64,7 @@ fetch-row-requires-2 c κs =
     let three = c .before .before in
     let turn = three .before .before in
     let inv = turn .before .loop .inv in
-    (inv .5, rows-kept (three .fetch-row .kept .1 .0 ∙ inv .4) (inv .6), inv .7, turn .loop-test .taken, inv .8)
+    (room-kept (three .fetch-row .kept .1 .0 ∙ inv .4) (inv .5), turn .loop-test .taken, inv .6)
 
 unlift-pair-requires : tie.Need-unlift-pair-requires Inv-loop μ-loop
 unlift-pair-requires c κs = let inv = c .before .before .before .before .before .before .before .before .loop .inv in (inv .1, inv .2)
@@ -94,17 +90,15 @@ loop-again c =
       pair .unlift-pair .kept .0 ∙ size,
       inv .5,
       inv .6,
-      inv .7,
-      inv .8,
-      λ x s. turn-back _ _ _ _ _ x _ (rows-kept size (inv .6)) (inv .2) _ _ _ _ _ (inv .0) (row .loop-test .taken) (three .fetch-row .ensures)
-          (four .fetch-row2 .ensures) (pair .unlift-pair .ensures) (inv .9 x s),
+      λ x s. turn-back _ _ _ _ _ x _ (rows-kept size (inv .5 .work)) (inv .2) _ _ _ _ _ (inv .0) (row .loop-test .taken) (three .fetch-row .ensures)
+          (four .fetch-row2 .ensures) (pair .unlift-pair .ensures) (inv .7 x s),
     )
 
 add-fetch-last : tie.Need-add-fetch-last Inv-loop μ-loop
 add-fetch-last c = omega arith
 
 fetch-last-requires : tie.Need-fetch-last-requires Inv-loop μ-loop
-fetch-last-requires c κs = let inv = c .before .before .loop .inv in (inv .5, rows-kept (inv .4) (inv .6), inv .7, inv .8)
+fetch-last-requires c κs = let inv = c .before .before .loop .inv in (room-kept (inv .4) (inv .5), inv .6)
 
 unlift-pair-requires-2 : tie.Need-unlift-pair-requires-2 Inv-loop μ-loop
 unlift-pair-requires-2 c κs = let inv = c .before .before .before .before .before .loop .inv in (inv .1, inv .2)
@@ -126,9 +120,9 @@ returns c =
     let first = past .before .before .before in
     let start = first .before .before in
     let pre = start .pre in
-    let z = first-back _ _ _ _ _ _ _ (pre .1) (pre .3) (start .args .y % 2) _ refl (first .first-rows .ensures) in
-    last-back _ _ _ _ _ _ _ (rows-kept (last .fetch-last .kept .1 .0 ∙ inv .4) (inv .6)) (inv .2) _ _ _ _ (inv .0) (inv .1) (past .loop-test .left)
-    (last .fetch-last .ensures) (pair .unlift-pair2 .ensures) (inv .9 _ z)
+    let z = first-back _ _ _ _ _ _ _ (pre .0 .work) (pre .1) (start .args .y % 2) _ refl (first .first-rows .ensures) in
+    last-back _ _ _ _ _ _ _ (rows-kept (last .fetch-last .kept .1 .0 ∙ inv .4) (inv .5 .work)) (inv .2) _ _ _ _ (inv .0) (inv .1) (past .loop-test .left)
+    (last .fetch-last .ensures) (pair .unlift-pair2 .ensures) (inv .7 _ z)
 
 pub rows-back-spec : {M : Type 1} → statement M
 rows-back-spec =
