@@ -36,7 +36,7 @@ use Rattle.writer.specs.History as writer
 use Rattle.writer.specs.Demand3.{HasValues, MapOf, answered}
 use Rattle.writer.specs.Questions as writer-asks
 use Rattle.writer.specs.Demand3 as writes
-use Rattle.writer.proofs.CountLaws.{code-one}
+use Rattle.progress.proofs.CountLaws.{code-one}
 use Rattle.writer.proofs.CallLaws.{set-up-passed}
 use Rattle.writer.proofs.Demand3 as writer-holds
 use Rattle.reader.specs.Questions as reader-asks

@@ -34,7 +34,7 @@ use Rattle.writer.specs.Taking.{columnsOf}
 use Rattle.writer.specs.Questions.{inRanges, setUpQuestion}
 use Rattle.writer.specs.History.{Call, row, Event, World, event, events, final, freshWorld, taken, finishes, finishedBy, DrawnRow, drawn}
 use Rattle.writer.specs.Demand3.{wholeRows, madeOf, waitingOf, answered, Begins, MapOf, HasValues, PlaneDrawn, Demand3}
-use Rattle.writer.proofs.CountLaws.{code-one}
+use Rattle.progress.proofs.CountLaws.{code-one}
 use Rattle.writer.proofs.StateHolds.{differ, st}
 use Rattle.writer.proofs.CallLaws.{set-up-passed}
 use Rattle.writer.proofs.CallList.{Fits, coming, Right, At, own-sound, in-ranges, rows-all}

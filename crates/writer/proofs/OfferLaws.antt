@@ -20,7 +20,7 @@ use Rattle.level.specs.Heights.{heightAt}
 use Rattle.filters.specs.Forward.{heightsPut}
 use Rattle.filters.proofs.ForwardLaws.{height-more, height-none}
 use Rattle.writer.specs.declared.Writer.{Writer}
-use Rattle.writer.specs.declared.cascade.Wait.{Wait}
+use Rattle.progress.specs.declared.waits.Wait.{Wait}
 use Rattle.writer.specs.Machine.{arrive}
 use Rattle.writer.specs.Taking.{kind, columnsOf, Taking, none, oneMore, takes, begun, complete, heightPut, rowMakes, offering}
 use Rattle.writer.specs.Questions.{offerQuestion, either, inRanges, longEnough}

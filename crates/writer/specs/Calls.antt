@@ -12,7 +12,7 @@ use Rattle.level.specs.Level.{Memory, rest}
 use Rattle.filters.specs.Figures.{storeBy}
 use Rattle.writer.specs.declared.Writer.{Writer}
 use Rattle.writer.specs.declared.BandRow.{BandRow}
-use Rattle.writer.specs.Counts.{startOf}
+use Rattle.progress.specs.Counts.{startOf}
 use Rattle.writer.specs.Machine.{Out}
 use Rattle.writer.specs.Draws.{Waiting, pull}
 use Rattle.writer.specs.Closing.{Shut, shut}

@@ -6,8 +6,11 @@ use lib.ListN.{length}
 use Rattle.numbers.specs.Signal.{at}
 use Rattle.wavelet.proofs.LimitLaws.{width-small, height-small}
 use Rattle.level.specs.Level.{rest}
+use Rattle.writer.specs.Taking.{columnsOf}
 use Rattle.writer.specs.Gate.{stateQuestion}
+use Rattle.writer.specs.Steps.{Walk, Drawable}
 use Rattle.writer.proofs.GateLaws.{sound}
+use Rattle.writer.proofs.DrawLaws.{reached}
 use Rattle.writer.proofs.CallLaws.{draw-refused, draw-nothing, draw-no-room, draw-row}
 use Rattle.writer.proofs.CallsKeep.{draw-kept}
 use Rattle.writer.proofs.Writer.draw.Statement.{statement}
@@ -28,18 +31,15 @@ returns-2 c = let t = draw-nothing _ _ _ _ _ _ (c .before .before .before .state
     (t .0, (t .1, (t .2, draw-kept _ _ _ _ _ _ _ _ (t .0) (t .1) (t .2))))
 
 level-of-requires : tie.Need-level-of-requires
-level-of-requires c κs =
-    let a = c .before .before .before .before .before .args in
-    let q : stateQuestion (a .self) (length (a .store .now)) ≡ 0 = omega arith in
-    let f = sound (a .self) (length (a .store .now)) q in
-    omega (arith, width-small, height-small)
+level-of-requires c κs = tt
 
 waiting-requires : tie.Need-waiting-requires
 waiting-requires c κs =
     let a = c .before .before .before .before .before .before .args in
     let q : stateQuestion (a .self) (length (a .store .now)) ≡ 0 = omega arith in
     let f = sound (a .self) (length (a .store .now)) q in
-    (omega (arith, width-small, height-small), f .placed, c .level-of .ensures)
+    let walk : Walk (a .self .levels) (columnsOf (a .self)) (a .self .level) (a .self .rows) = omega (arith, width-small, height-small) in
+    (walk, f .placed, reached (a .self .filter) _ _ _ _ _ _ _ walk (c .level-of .ensures))
 
 returns-3 : tie.Need-returns-3
 returns-3 c =
@@ -61,7 +61,8 @@ draw-on-requires c κs =
     let a = c .before .before .before .before .before .before .before .before .before .before .before .before .before .before .args in
     let q : stateQuestion (a .self) (length (a .store .now)) ≡ 0 = omega arith in
     let f = sound (a .self) (length (a .store .now)) q in
-    (omega (arith, width-small, height-small), c .before .before .before .before .before .before .before .before .level-of .ensures)
+    let d : Drawable (a .self) (length (a .store .now)) = omega (arith, width-small, height-small) in
+    (d, reached (a .self .filter) _ _ _ _ _ _ _ (d .walk) (c .before .before .before .before .before .before .before .before .level-of .ensures))
 
 same-length : tie.Need-same-length
 same-length c = search needs

@@ -14,8 +14,8 @@ use Rattle.filters.specs.Figures.{storeBy}
 use Rattle.filters.proofs.FigureLaws.{row-few}
 use Rattle.filters.proofs.ForwardLaws.{next-done}
 use Rattle.level.proofs.RestLaws.{at-rest, at-join}
-use Rattle.writer.proofs.CountLaws.{next-is, start-is}
-use Rattle.writer.proofs.CascadeLaws.{left-still, left-small, goes, pass-none, passed-goes}
+use Rattle.progress.proofs.CountLaws.{next-is, start-is}
+use Rattle.writer.proofs.CascadeLaws.{left-still, goes, pass-none, passed-goes}
 use borrow.Author.Needs.{needs}
 use Rattle.writer.proofs.cascade.pass_on.Statement.{statement}
 use Rattle.writer.proofs.cascade.pass_on.Tie as tie
@@ -92,29 +92,15 @@ arrive-requires c κs =
           (λ (S : Side). storeBy (a .filter) S (a .l)) v,
     )
 
-deeper-requires : tie.Need-deeper-requires
-deeper-requires c κs =
-    omega (arith, c .before .arrive .ensures .within, c .before .before .before .before .before .before .before .before .before .before .before .before .pre)
-
-further-requires : tie.Need-further-requires
-further-requires c κs =
-    let st = c .before .before .before .before .before .before in
-    let start = st .before .before .before .before .before .before .before in
-    let a = start .args in
-    let e : st .stretch .result ≡ filterOf (a .filter) .rows * a .w = st .stretch .ensures in
-    let v = c .before .before .before .before .low-count in
-    let o =
-    left-small (a .filter) (a .l) (side _ (v .result)) _ _ _ (omega (arith, start .pre, v .ensures, count-lo (side (a .x) (a .w)))) (omega (arith, start .pre))
-    (c .before .before .arrive .ensures) in
-    omega (arith, e, start .pre, row-few (a .filter) (a .w))
+seen-from-requires : tie.Need-seen-from-requires
+seen-from-requires c κs = tt
 
 same-length : tie.Need-same-length
 same-length c = search needs
 
 returns-2 : tie.Need-returns-2
 returns-2 c =
-    let e = c .before in
-    let below = e .before .before in
+    let below = c .before .before in
     let st = below .before .before .before .before in
     let sent = st .before .before in
     let first = sent .before .before in
@@ -127,7 +113,8 @@ returns-2 c =
     let q = store-back (filterOf (a .filter) .rows) (next (side (a .x) (a .w))) (a .l) (g .0) in
     let h = next-length (side (a .x) (a .w)) in
     let j : st .stretch .result ≡ filterOf (a .filter) .rows * a .w = st .stretch .ensures in
-    passed-goes (a .filter) (a .l) (side (a .x) (a .w)) (a .y) (a .n) _ _ _ _ _ _ _ _ _ (at l) (at (below .arrive .last .1 .0)) _ _ (g .0) (g .1)
+    passed-goes (a .filter) (a .l) (side (a .x) (a .w)) (a .y) (a .n) _ _ _ _ _ _ _ (at l) (at (below .arrive .last .1 .0)) _ _ _ (start .pre .wide)
+    (omega (arith, start .pre .deep)) (g .0) (g .1)
     (record {
       columns = next-is (a .x) (a .w) _ _ (below .before .next-start2 .ensures) (below .before .before .low-count .ensures);
       start = start-is (a .y) _ (first .next-start .ensures);
@@ -136,7 +123,7 @@ returns-2 c =
     (next-done (a .filter) (length (a .store .now)) (side (a .x) (a .w)) _ _ _ (omega (arith, start .pre)) (sent .deliver .ensures .1))
     (rw (at-rest (st .stretch .result) l) at (below .arrive .ensures))
     (at-join (st .stretch .result) l (below .arrive .last .1 .0) (omega (arith, start .pre, sent .deliver, j)))
-    (e .deeper .ensures) (c .further .ensures)
+    (c .seen-from .ensures)
 
 pub pass-on-spec : {M : Type 1} → statement M
 pass-on-spec =
@@ -157,7 +144,6 @@ pass-on-spec =
     low-count-requires
     next-start-requires-2
     arrive-requires
-    deeper-requires
-    further-requires
+    seen-from-requires
     same-length
     returns-2)

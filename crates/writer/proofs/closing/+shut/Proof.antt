@@ -13,20 +13,19 @@ use Rattle.nine_seven.specs.Filters.{filterOf}
 use Rattle.filters.specs.Figures.{storeBy}
 use Rattle.filters.proofs.FigureLaws.{steps-few, row-few}
 use Rattle.level.proofs.RestLaws.{at-rest, at-join}
-use Rattle.writer.proofs.CountLaws.{steps-more, next-is, start-is}
-use Rattle.writer.proofs.ClosingLaws.{closed-small, shut-none, shut-waits, shut-goes}
+use Rattle.progress.proofs.CountLaws.{steps-more, next-is, start-is}
+use Rattle.writer.proofs.ClosingLaws.{shut-none, shut-waits, shut-goes}
 use Rattle.writer.proofs.closing.shut.Reads as shut
 use Rattle.writer.proofs.closing.shut.Kinds as shut-kinds
 use Rattle.writer.proofs.closing.+shut.Lts-shut as shut-lts
 use Rattle.filters.proofs.figures.look_ahead.Reads as look-ahead-reads
+use Rattle.progress.proofs.counts.closed_below.Reads as closed-below-reads
+use Rattle.progress.proofs.waits.nothing.Reads as nothing-reads
+use Rattle.progress.proofs.waits.seen_from.Reads as seen-from-reads
 use Rattle.wavelet.proofs.sizes.low_count.Reads as low-count-reads
 use Rattle.wavelet.proofs.sizes.next_start.Reads as next-start-reads
 use Rattle.writer.proofs.closing.close_level.Reads as close-level-reads
-use Rattle.writer.proofs.closing.idle.Reads as idle-reads
-use Rattle.writer.proofs.counts.closed_below.Reads as closed-below-reads
-use Rattle.writer.proofs.counts.deeper.Reads as deeper-reads
-use Rattle.writer.proofs.counts.further.Reads as further-reads
-use Rattle.writer.proofs.counts.stretch.Reads as stretch-reads
+use Rattle.writer.proofs.cascade.stretch.Reads as stretch-reads
 use Rattle.writer.proofs.closing.+shut.{statement}
 use Rattle.writer.proofs.closing.+shut.Tie.{close}
 
@@ -42,8 +41,8 @@ shut-below t = and 1 shut-kinds.ps (falls 1 shut-kinds.ps _<_ μ-shut t) shut.Pr
 -- what is known of the calls, those of `shut` itself at fewer levels
 abbrev claims : ℕ → shut-lts.Claims
 claims t = (
-  idle-reads.Asked,
-  idle-reads.Learnt,
+  nothing-reads.Asked,
+  nothing-reads.Learnt,
   close-level-reads.Asked,
   close-level-reads.Learnt,
   stretch-reads.Asked,
@@ -58,19 +57,17 @@ claims t = (
   shut.Post,
   look-ahead-reads.Asked,
   look-ahead-reads.Learnt,
-  deeper-reads.Asked,
-  deeper-reads.Learnt,
-  further-reads.Asked,
-  further-reads.Learnt,
+  seen-from-reads.Asked,
+  seen-from-reads.Learnt,
 )
 
-shut-idle-requires : (t : ℕ) → shut-lts.Need-idle-requires (claims t) (shut-at t) shut.Post
-shut-idle-requires t c κs = tt
+shut-nothing-requires : (t : ℕ) → shut-lts.Need-nothing-requires (claims t) (shut-at t) shut.Post
+shut-nothing-requires t c κs = tt
 
 shut-returns : (t : ℕ) → shut-lts.Need-returns (claims t) (shut-at t) shut.Post
 shut-returns t c =
     let a = c .before .before .args in
-    shut-none (a .filter) (a .l) (side (a .x) (a .w)) (a .y) (a .c) (a .m) _ _ (c .idle .ensures) (omega arith) (omega arith)
+    shut-none (a .filter) (a .l) (side (a .x) (a .w)) (a .y) (a .c) (a .m) _ _ (c .nothing .ensures) (omega arith) (omega arith)
 
 shut-sub-close-level : (t : ℕ) → shut-lts.Need-sub-close-level (claims t) (shut-at t) shut.Post
 shut-sub-close-level t c = omega arith
@@ -157,8 +154,8 @@ shut-shut-requires t c κs =
 shut-look-ahead-requires : (t : ℕ) → shut-lts.Need-look-ahead-requires (claims t) (shut-at t) shut.Post
 shut-look-ahead-requires t c κs = tt
 
-shut-add-t25 : (t : ℕ) → shut-lts.Need-add-t25 (claims t) (shut-at t) shut.Post
-shut-add-t25 t c =
+shut-add-t26 : (t : ℕ) → shut-lts.Need-add-t26 (claims t) (shut-at t) shut.Post
+shut-add-t26 t c =
     let below = c .before .before .before in
     let some = below .before .before .before .before .before .before .before .before .before .before .before .before .before in
     let start = some .before in
@@ -172,33 +169,15 @@ shut-add-t25 t c =
       steps-few (a .filter) (a .l),
     )
 
-shut-deeper-requires : (t : ℕ) → shut-lts.Need-deeper-requires (claims t) (shut-at t) shut.Post
-shut-deeper-requires t c κs =
-    let below = c .before .before .before in
-    let start = below .before .before .before .before .before .before .before .before .before .before .before .before .before .before in
-    omega (arith, below .shut .ensures .within, start .pre)
-
-shut-further-requires : (t : ℕ) → shut-lts.Need-further-requires (claims t) (shut-at t) shut.Post
-shut-further-requires t c κs =
-    let below = c .before .before .before .before in
-    let st = below .before .before .before .before .before .before .before in
-    let start = st .before .before .before .before .before .before .before in
-    let a = start .args in
-    let v = below .before .before .before .before .before .low-count in
-    let e : st .stretch .result ≡ filterOf (a .filter) .rows * a .w = st .stretch .ensures in
-    let o =
-    closed-small (a .filter) (a .l - 1) (side _ (v .result)) _ _ _ (omega (arith, start .pre, v .ensures, count-lo (side (a .x) (a .w))))
-    (omega (arith, start .pre))
-    (below .shut .ensures) in
-    omega (arith, e, start .pre, row-few (a .filter) (a .w))
+shut-seen-from-requires : (t : ℕ) → shut-lts.Need-seen-from-requires (claims t) (shut-at t) shut.Post
+shut-seen-from-requires t c κs = tt
 
 shut-same-length-2 : (t : ℕ) → shut-lts.Need-same-length-2 (claims t) (shut-at t) shut.Post
 shut-same-length-2 t c = search needs
 
 shut-returns-3 : (t : ℕ) → shut-lts.Need-returns-3 (claims t) (shut-at t) shut.Post
 shut-returns-3 t c =
-    let e = c .before in
-    let ah = e .before .before in
+    let ah = c .before .before in
     let below = ah .before .before in
     let prev = below .before .before in
     let from = prev .before .before in
@@ -207,14 +186,14 @@ shut-returns-3 t c =
     let start = level .before .before .before in
     let a = start .args in
     let l = level .close-level .last .1 .0 in
-    let s = store-back (filterOf (a .filter) .rows) (side (a .x) (a .w)) (a .l) (omega (arith, e .before)) in
+    let s = store-back (filterOf (a .filter) .rows) (side (a .x) (a .w)) (a .l) (omega (arith, c .before)) in
     let j : st .stretch .result ≡ filterOf (a .filter) .rows * a .w = st .stretch .ensures in
-    shut-goes (a .filter) (a .l) (side (a .x) (a .w)) (a .y) (a .c) (a .m) _ (at l) _ (omega (arith, e .before)) (level .close-level .ensures) _ _ _ _ _ _ _ _
-    (at (below .shut .last .1 .0)) _ _ (omega (arith, e .before)) (st .stretch .ensures)
+    shut-goes (a .filter) (a .l) (side (a .x) (a .w)) (a .y) (a .c) (a .m) _ (at l) _ (omega (arith, c .before)) (level .close-level .ensures) _ _ _ _ _ _
+    (at (below .shut .last .1 .0)) _ _ _ (start .pre .1 .0 .wide) (start .pre .1 .0 .deep) (omega (arith, c .before)) (st .stretch .ensures)
     (next-is (a .x) (a .w) _ _ (from .next-start .ensures) (from .before .low-count .ensures)) (start-is (a .y) _ (prev .before .next-start2 .ensures))
     (prev .closed-below .ensures) (below .before .low-count2 .ensures)
-    (rw (at-rest (st .stretch .result) l) at (below .shut .ensures)) (at-join (st .stretch .result) l (below .shut .last .1 .0) (omega (arith, e .before, j)))
-    (ah .look-ahead .ensures) (e .deeper .ensures) (c .further .ensures)
+    (rw (at-rest (st .stretch .result) l) at (below .shut .ensures)) (at-join (st .stretch .result) l (below .shut .last .1 .0) (omega (arith, c .before, j)))
+    (ah .look-ahead .ensures) (c .seen-from .ensures)
 
 pub +shut-spec : {M : Type 1} → statement M
 +shut-spec =
@@ -224,7 +203,7 @@ pub +shut-spec : {M : Type 1} → statement M
     (claims t)
     (shut-at t)
     shut.Post
-    (shut-idle-requires t)
+    (shut-nothing-requires t)
     (shut-returns t)
     (shut-sub-close-level t)
     (shut-close-level-requires t)
@@ -243,8 +222,7 @@ pub +shut-spec : {M : Type 1} → statement M
     (shut-low-count-requires-2 t)
     (shut-shut-requires t)
     (shut-look-ahead-requires t)
-    (shut-add-t25 t)
-    (shut-deeper-requires t)
-    (shut-further-requires t)
+    (shut-add-t26 t)
+    (shut-seen-from-requires t)
     (shut-same-length-2 t)
     (shut-returns-3 t)

@@ -55,8 +55,8 @@ loop-again c =
           (step .close-step .ensures) _ refl (omega arith),
     )
 
-idle-requires : tie.Need-idle-requires Inv-loop μ-loop
-idle-requires c κs = tt
+nothing-requires : tie.Need-nothing-requires Inv-loop μ-loop
+nothing-requires c κs = tt
 
 same-length-2 : tie.Need-same-length-2 Inv-loop μ-loop
 same-length-2 c = search needs
@@ -65,7 +65,7 @@ returns-2 : tie.Need-returns-2 Inv-loop μ-loop
 returns-2 c =
     let loop = c .before .before .loop in
     let a = c .before .before .before .before .args in
-    level-done (a .filter) (a .l) (side (a .x) (a .w)) (a .y) (a .m) (a .c) (loop .k) _ (at (loop .store)) (loop .inv .2) _ (c .idle .ensures)
+    level-done (a .filter) (a .l) (side (a .x) (a .w)) (a .y) (a .m) (a .c) (loop .k) _ (at (loop .store)) (loop .inv .2) _ (c .nothing .ensures)
     (omega (arith, loop .inv .1))
 
 pub close-level-spec : {M : Type 1} → statement M
@@ -82,6 +82,6 @@ close-level-spec =
     returns
     loop-less
     loop-again
-    idle-requires
+    nothing-requires
     same-length-2
     returns-2)

@@ -6,7 +6,7 @@ use Rattle.lifting.specs.Grid.{side}
 use Rattle.wavelet.proofs.StoreLaws.{store-next}
 use Rattle.nine_seven.specs.Filters.{filterOf}
 use Rattle.filters.proofs.ForwardLaws.{level-done}
-use Rattle.writer.proofs.CountLaws.{made-most}
+use Rattle.progress.proofs.CountLaws.{made-most}
 use Rattle.writer.proofs.CascadeLaws.{left-still}
 use Rattle.writer.proofs.ClosingLaws.{step-none, step-waits, step-goes}
 use borrow.Author.Needs.{needs}
@@ -14,7 +14,7 @@ use Rattle.writer.proofs.closing.close_step.Statement.{statement}
 use Rattle.writer.proofs.closing.close_step.Tie as tie
 
 made-requires : tie.Need-made-requires
-made-requires c κs = omega arith
+made-requires c κs = tt
 
 is-left-requires : tie.Need-is-left-requires
 is-left-requires c κs = tt

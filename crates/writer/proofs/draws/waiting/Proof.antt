@@ -1,10 +1,11 @@
 -- `draws::waiting` meets its contract: the row stands at its place from the offset on. Assumes nothing.
+use Prim.Native.Nat.{_-_}
 use native.Mathlib.Omega.{arith}
 use Rattle.wavelet.proofs.StoreLaws.{store-next}
 use Rattle.nine_seven.specs.Filters.{filterOf}
 use Rattle.filters.proofs.FigureLaws.{store-few}
 use Rattle.filters.proofs.ForwardLaws.{place-room, place-code}
-use Rattle.writer.specs.Counts.{bandAt}
+use Rattle.progress.specs.Counts.{bandAt}
 use Rattle.writer.specs.Taking.{columnsOf}
 use Rattle.writer.specs.Steps.{columns}
 use Rattle.writer.proofs.DrawLaws.{found}
@@ -40,7 +41,7 @@ add-t8 c =
       p,
       d .pre .1,
       d .pre .2 .room,
-      store-next (filterOf (a .s .filter) .rows) (columns (a .q)) (a .q .below),
+      store-next (filterOf (a .s .filter) .rows) (columns (a .q)) (a .s .levels - a .s .level),
       place-room (a .s .filter) (columns (a .q)) (a .q .y) (a .q .set) (bandAt (b .before .prev .result)),
       store-few (a .s .filter) (columnsOf (a .s)) (a .s .levels),
       d .pre .0,
