@@ -29,7 +29,7 @@ use Rattle.reader.specs.Answers.{gives, refused, impossible, Want, row, 
 use Rattle.level.specs.Tried.{Tried, failed, passed, fits, memory}
 use Rattle.level.specs.Stretch.{local}
 use Rattle.reader.specs.Store.{zeroed}
-use Rattle.reader.specs.Machine.{spot, placeOf, dive, enter, spotFed}
+use Rattle.reader_steps.specs.Places.{spot, placeOf, dive, enter, spotFed}
 use Rattle.reader.specs.State.{columns, rows, next, nextRow, nextLength, unfinished, rowDue, drawDue, wants, settles, feeds, movedTo}
 use Rattle.reader.specs.State.{fedReader, drawnReader, endedReader}
 use Rattle.reader.specs.Questions.{countsFit, storeFits, runFits, wantQuestion, feedQuestion, drawQuestion}

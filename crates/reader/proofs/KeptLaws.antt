@@ -20,7 +20,7 @@ use Rattle.filters.specs.Figures.{storeBy}
 use Rattle.filters.specs.Back.{rowPlaceOf}
 use Rattle.filters.proofs.BackLaws.{back-feed, place-room}
 use Rattle.reader.specs.declared.walk.Level.{Level}
-use Rattle.reader.specs.Asked.{named}
+use Rattle.reader_steps.specs.Asked.{named}
 use Rattle.reader.specs.Store.{stretchAt, from, fedAt}
 use Rattle.reader.specs.Inside.{IsLevel}
 use Rattle.reader.proofs.StoreLaws.{stretch-suc, stretch-is}

@@ -30,12 +30,13 @@ use Rattle.filters.specs.Back.{backOf, rowPlaceOf}
 use Rattle.filters.proofs.BackLaws.{back-feed, place-room}
 use Rattle.filters.specs.Figures.{storeBy}
 use Rattle.reader.specs.declared.walk.Level.{Level}
-use Rattle.reader.specs.Asked.{named}
-use Rattle.reader.specs.Store.{stretchAt, from, behind, fedAt, workedAt, hasSet, hasCells}
+use Rattle.reader_steps.specs.Asked.{named}
+use Rattle.reader_steps.specs.Places.{hasCells}
+use Rattle.reader.specs.Store.{stretchAt, from, behind, fedAt, workedAt, hasSet}
 use Rattle.reader.specs.Inside.{IsLevel}
 use Rattle.reader.proofs.SetLaws.{none-of}
 use Rattle.reader.proofs.StoreLaws.{stretch-suc, stretch-in, stretch-is, stretch-small}
-use Rattle.reader.proofs.CellLaws.{Empty, empty-not, cells-yes}
+use Rattle.reader_steps.proofs.CellLaws.{Empty, empty-not, cells-yes}
 
 module _ (a : ℕ) (x y : ℕ → ℤ) (j : ℕ) where
   pub behind-below : j < a → behind a x y j ≡ x j

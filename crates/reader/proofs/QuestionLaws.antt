@@ -22,7 +22,7 @@ use Rattle.reader.proofs.StoreLaws.{length-is}
 use Rattle.reader.specs.declared.Reader.{Reader}
 use Rattle.reader.specs.State.{columns, rows, next, nextLength, unfinished, rowDue, drawDue}
 use Rattle.reader.specs.Questions.{countsFit, storeFits, runFits, setUpQuestion}
-use Rattle.reader.specs.Sets.{ahead}
+use Rattle.reader_steps.specs.Sets.{ahead}
 use Rattle.reader.specs.Inside.{Counts, Small, storeQuestion, rowQuestion}
 
 -- the length that the code asks for, 0 outside the limits

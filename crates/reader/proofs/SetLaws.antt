@@ -15,11 +15,11 @@ use Rattle.wavelet.proofs.StepLaws.{to-first, to-later, set-of, before-suc}
 use Rattle.nine_seven.specs.Filters.{filterOf}
 use Rattle.level.specs.Sets.{opens}
 use Rattle.level.specs.Stretch.{rowOfSet, halfPlace}
-use Rattle.reader.specs.Sets.{ahead, rowTo, firstRow}
-use Rattle.reader.specs.Asked.{named}
-use Rattle.reader.specs.Store.{hasCells}
-use Rattle.reader.proofs.OpenedSets.{looks}
-use Rattle.reader.proofs.CellLaws.{Empty, wide, high, empty-not, cells-yes}
+use Rattle.reader_steps.specs.Sets.{ahead, rowTo, firstRow}
+use Rattle.reader_steps.specs.Asked.{named}
+use Rattle.reader_steps.specs.Places.{hasCells}
+use Rattle.reader_steps.proofs.OpenedSets.{looks}
+use Rattle.reader_steps.proofs.CellLaws.{Empty, wide, high, empty-not, cells-yes}
 
 -- ---- the set of a row, as the code finds it
 ahead-small : (f : ℕ) → ahead f ≤ 2 ^ 16

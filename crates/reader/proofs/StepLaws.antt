@@ -17,12 +17,13 @@ use Rattle.wavelet.specs.View.{bandColumns}
 use Rattle.reader.specs.declared.Reader.{Reader}
 use Rattle.reader.specs.declared.walk.Level.{Level}
 use Rattle.reader.specs.declared.walk.Spot.{Spot}
-use Rattle.reader.specs.Sets.{hasRow, rowOf, taking, firstRow, makes, waiting}
-use Rattle.reader.specs.Asked.{named}
+use Rattle.reader_steps.specs.Sets.{hasRow, rowOf, taking, firstRow, makes, waiting}
+use Rattle.reader_steps.specs.Asked.{named}
 use Rattle.level.specs.Tried.{failed, passed}
 use Rattle.reader.specs.Store.{fedAt}
-use Rattle.reader.specs.Machine.{spot, bandAt, nextUp, settled, lastOfSet, finished, past, beyond, dive, begins, fedOn, spotFed}
-use Rattle.reader.specs.Machine as machine
+use Rattle.reader_steps.specs.Places.{spot, bandAt, nextUp, lastOfSet, past, beyond, dive, begins, spotFed}
+use Rattle.reader.specs.Machine.{settled, finished, fedOn}
+use Rattle.reader_steps.specs.Places as machine
 use Rattle.reader.specs.State.{columns, rows, spotNow, next, nextRow, nextLength, settles, feeds}
 use Rattle.reader.specs.declared.walk.Next.{Next}
 use Rattle.reader.specs.Inside.{Counts, IsLevel, Is, IsNext}

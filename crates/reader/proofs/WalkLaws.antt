@@ -14,11 +14,12 @@ use Rattle.level.proofs.WorkLaws.{bind-failed, bind-passed}
 use Rattle.reader.specs.declared.walk.Level.{Level}
 use Rattle.reader.specs.declared.walk.Spot.{Spot}
 use Rattle.reader.specs.declared.walk.Next.{Next}
-use Rattle.reader.specs.Sets.{makes, waiting}
-use Rattle.reader.specs.Asked.{nextBand}
+use Rattle.reader_steps.specs.Sets.{makes, waiting}
+use Rattle.reader_steps.specs.Asked.{nextBand}
 use Rattle.reader.specs.Store.{workedAt}
-use Rattle.reader.specs.Machine.{spot, bandAt, lastOfSet, nextUp, settled, finished, past, beyond, begins}
-use Rattle.reader.specs.Machine as machine
+use Rattle.reader_steps.specs.Places.{spot, bandAt, lastOfSet, nextUp, past, beyond, begins}
+use Rattle.reader.specs.Machine.{settled, finished}
+use Rattle.reader_steps.specs.Places as machine
 use Rattle.reader.specs.Inside.{IsLevel, Is, IsNext}
 use Rattle.reader.proofs.PartLaws.{level-wide, level-high}
 

@@ -19,7 +19,7 @@ ghost use Rattle.numbers.specs.Signal.{at};
 ghost use Rattle.wavelet.specs.Limits.{maxWidth, maxHeight, maxLevels, maxOrigin};
 ghost use Rattle.wavelet.specs.Shape as shape;
 ghost use Rattle.areas.specs.Areas.{heightsAt};
-ghost use Rattle.reader.specs.Machine.{spot, placeOf};
+ghost use Rattle.reader_steps.specs.Places.{spot, placeOf};
 ghost use Rattle.reader.specs.Inside.{Small, Due};
 ghost use Rattle.reader.specs.State.{columns, rows, wants, movedTo, endedReader};
 ghost use Rattle.reader.specs.Questions.{setUpQuestion, wantQuestion, feedQuestion, drawQuestion};

@@ -11,9 +11,9 @@ ghost use Rattle.lifting.specs.Line.{lo};
 ghost use Rattle.wavelet.specs.Order.{firstSet, lastSet, setRow};
 ghost use Rattle.wavelet.specs.Steps.{setOf, setsBefore};
 ghost use Rattle.level.specs.Sets.{opens};
-ghost use Rattle.reader.specs.Sets.{ahead, firstRow, makes};
-ghost use Rattle.reader.specs.Asked.{named, nextBand};
-ghost use Rattle.reader.specs.Store.{hasCells};
+ghost use Rattle.reader_steps.specs.Sets.{ahead, firstRow, makes};
+ghost use Rattle.reader_steps.specs.Asked.{named, nextBand};
+ghost use Rattle.reader_steps.specs.Places.{hasCells};
 
 // a less b, 0 where b is more.
 pub fn less(a: usize, b: usize) -> usize

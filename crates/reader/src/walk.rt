@@ -24,10 +24,11 @@ ghost use Rattle.filters.specs.Back.{rowPlaceOf};
 ghost use Rattle.level.specs.Tried.{outcome};
 ghost use Rattle.level.specs.Stretch.{rowOfSet, halfPlace};
 ghost use Rattle.level.specs.Rebuilding.{Kept};
-ghost use Rattle.reader.specs.Asked.{named};
+ghost use Rattle.reader_steps.specs.Asked.{named};
 ghost use Rattle.reader.specs.Store.{fedAt, workedAt};
-ghost use Rattle.reader.specs.Sets.{waiting};
-ghost use Rattle.reader.specs.Machine.{spot, bandAt, nextUp, settled, dive};
+ghost use Rattle.reader_steps.specs.Sets.{waiting};
+ghost use Rattle.reader_steps.specs.Places.{spot, bandAt, nextUp, dive};
+ghost use Rattle.reader.specs.Machine.{settled};
 ghost use Rattle.reader.specs.Inside.{Small, IsLevel, IsAt, Is, IsNext};
 
 // A level: where its stretch begins, the columns and rows that it splits, the set that it is at, and the last that the row waited for needs.

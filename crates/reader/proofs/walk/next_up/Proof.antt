@@ -4,7 +4,7 @@ use Prim.Native.Nat.{_-_, _≤_, _<_}
 use native.Mathlib.Omega.{arith}
 use Rattle.lifting.specs.Grid.{side}
 use Rattle.wavelet.specs.Limits.{maxLevels}
-use Rattle.reader.specs.Machine.{nextUp}
+use Rattle.reader_steps.specs.Places.{nextUp}
 use Rattle.reader.specs.Inside.{Small, IsLevel}
 use Rattle.reader.proofs.WalkLaws.{no-next, up-here, up-finer, up-none, up-next}
 use Rattle.reader.proofs.walk.next_up.Statement.{statement}

@@ -7,7 +7,7 @@ use native.Mathlib.Omega.{arith}
 use lib.Dec.{T}
 use Rattle.numbers.specs.Signal.{pick}
 use Rattle.wavelet.specs.Bands.{Band, LL, HL, LH, HH, code}
-use Rattle.reader.specs.Asked.{bandsFrom, those, firstCode, named}
+use Rattle.reader_steps.specs.Asked.{bandsFrom, those, firstCode, named}
 
 pub named-code : (b : Band) → named (code b) ≡ b
 unfolding named code

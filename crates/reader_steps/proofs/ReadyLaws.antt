@@ -14,15 +14,13 @@ use Rattle.wavelet.specs.Order.{firstSet, lastSet}
 use Rattle.wavelet.specs.Steps.{setsBefore}
 use Rattle.wavelet.proofs.StepLaws.{set-there, set-last, before-suc}
 use Rattle.level.specs.Sets.{opens}
-use Rattle.reader.specs.Sets.{ahead, hasRow, rowOf, taking, firstRow, makes, needed, waiting, waitsAt}
-use Rattle.reader.specs.Asked.{asked, look, nextBand}
-use Rattle.reader.specs.Store.{hasCells}
-use Rattle.reader.specs.Machine.{Spot, spot, spotOf, placeOf, bandAt, lastOfSet, past, beyond, dive, begins, enter}
-use Rattle.reader.specs.Holds.{Ready}
-use Rattle.reader.proofs.Looks.{code-lt, first-le}
-use Rattle.reader.proofs.OpenedSets.{opens-yes, opened-row, row-next, makes-not, makes-last, taking-row, waits-finer, There}
-use Rattle.reader.proofs.OpenedSets.{waiting-there, in-back, looks}
-use Rattle.reader.proofs.CellLaws.{cells-are, cells-before, last-asks}
+use Rattle.reader_steps.specs.Sets.{ahead, hasRow, rowOf, taking, firstRow, makes, needed, waiting, waitsAt}
+use Rattle.reader_steps.specs.Asked.{asked, look, nextBand}
+use Rattle.reader_steps.specs.Places.{hasCells, Spot, spot, spotOf, placeOf, bandAt, lastOfSet, past, beyond, dive, begins, enter, Ready}
+use Rattle.reader_steps.proofs.Looks.{code-lt, first-le}
+use Rattle.reader_steps.proofs.OpenedSets.{opens-yes, opened-row, row-next, makes-not, makes-last, taking-row, waits-finer, There}
+use Rattle.reader_steps.proofs.OpenedSets.{waiting-there, in-back, looks}
+use Rattle.reader_steps.proofs.CellLaws.{cells-are, cells-before, last-asks}
 
 differ : true ≡ false → ⊥
 differ z = subst T z tt

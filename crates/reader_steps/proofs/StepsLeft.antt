@@ -16,15 +16,13 @@ use Rattle.wavelet.specs.Steps.{Step, feed, draw, feedAll, setOf, setsBefore, r
 use Rattle.wavelet.proofs.StepLaws.{before-suc}
 use Rattle.wavelet.specs.Levels.{next, sideAt}
 use Rattle.level.specs.Sets.{opens}
-use Rattle.reader.specs.Sets.{ahead, hasRow, rowOf, taking, firstRow, makes, waiting, waitsAt}
-use Rattle.reader.specs.Asked.{keptAt, asked, bandsFrom, those, look, firstCode, nextBand}
-use Rattle.reader.specs.Store.{hasCells}
-use Rattle.reader.specs.Machine.{Spot, spot, bandAt, lastOfSet, nextUp, past, beyond, dive, begins, enter}
-use Rattle.reader.specs.Holds.{Ready}
-use Rattle.reader.proofs.Looks.{code-lt, Look, nothing, first, look-is}
-use Rattle.reader.proofs.OpenedSets.{sets-none, opens-yes, opened-row, row-next, makes-yes, makes-not, taking-row}
-use Rattle.reader.proofs.CellLaws.{cells-not, Empty, empty-row, empty-set, no-low}
-use Rattle.reader.proofs.ReadyLaws.{ready-up, ready-band}
+use Rattle.reader_steps.specs.Sets.{ahead, hasRow, rowOf, taking, firstRow, makes, waiting, waitsAt}
+use Rattle.reader_steps.specs.Asked.{keptAt, asked, bandsFrom, those, look, firstCode, nextBand}
+use Rattle.reader_steps.specs.Places.{hasCells, Spot, spot, bandAt, lastOfSet, nextUp, past, beyond, dive, begins, enter, Ready}
+use Rattle.reader_steps.proofs.Looks.{code-lt, Look, nothing, first, look-is}
+use Rattle.reader_steps.proofs.OpenedSets.{sets-none, opens-yes, opened-row, row-next, makes-yes, makes-not, taking-row}
+use Rattle.reader_steps.proofs.CellLaws.{cells-not, Empty, empty-row, empty-set, no-low}
+use Rattle.reader_steps.proofs.ReadyLaws.{ready-up, ready-band}
 
 pub data Each {A : Type 0} (P : A → Type 0) : List A → Type 0 where
   none : Each P []

@@ -15,7 +15,7 @@ use Rattle.wavelet.specs.Steps.{setTo, setOf, setsBefore}
 use Rattle.wavelet.proofs.StepLaws.{to-first, to-later, set-of, set-there, set-rises, set-last, before-zero, before-suc, before-rises}
 use Rattle.nine_seven.proofs.Filters.{filter-laws}
 use Rattle.level.specs.Sets.{opens}
-use Rattle.reader.specs.Sets.{ahead, hasRow, rowOf, taking, needed, rowTo, firstRow, makes, waiting, waitsAt}
+use Rattle.reader_steps.specs.Sets.{ahead, hasRow, rowOf, taking, needed, rowTo, firstRow, makes, waiting, waitsAt}
 
 -- a filter looks ahead
 pub looks : (f : ℕ) → 1 ≤ ahead f

@@ -15,10 +15,10 @@ use Rattle.wavelet.specs.Bands.{Band, LH, HH, code, across, down}
 use Rattle.wavelet.specs.Order.{inTurn, firstSet, lastSet, setRow, setHas, rowsOf, setRows}
 use Rattle.wavelet.specs.Steps.{Step, feedAll, setSteps, rowSteps}
 use Rattle.wavelet.specs.Levels.{next, sideAt}
-use Rattle.reader.specs.Sets.{ahead}
-use Rattle.reader.specs.Asked.{keptAt, asked, bandsFrom, those, look, firstCode, nextBand}
-use Rattle.reader.specs.Store.{hasCells}
-use Rattle.reader.proofs.Looks.{code-lt, first-le}
+use Rattle.reader_steps.specs.Sets.{ahead}
+use Rattle.reader_steps.specs.Asked.{keptAt, asked, bandsFrom, those, look, firstCode, nextBand}
+use Rattle.reader_steps.specs.Places.{hasCells}
+use Rattle.reader_steps.proofs.Looks.{code-lt, first-le}
 
 both-no : (a b : Bool) → b ≡ false → both a b ≡ false
 both-no true b e = e
