@@ -77,33 +77,6 @@ unfolding backOf standsOf filterOf
 back-laws zero = five-three-back-laws
 back-laws (suc f) = nine-seven-back-laws
 
--- ---- the numbers of a filter
-module _ (f : ℕ) where
-  abbrev Figures : ℕ → ℕ → ℕ → Type 0
-  Figures l r a = (l ≡ filterOf f .levels) × (r ≡ filterOf f .rows) × (a ≡ filterOf f .ahead)
-
-  pub first-figures : f ≡ 0 → Figures 5 4 1
-  unfolding filterOf
-  first-figures e = rw e (refl, refl, refl)
-
-pub second-figures : (f : ℕ) → (f ≡ 0 → ⊥) → Figures f 4 8 2
-unfolding filterOf
-second-figures zero d = absurd (d refl)
-second-figures (suc f) d = (refl, refl, refl)
-
-abbrev Ranged : ℕ → ℕ → ℤ → Type 0
-Ranged f k z = z ≡ pos (range (filterOf f) (min k (filterOf f .levels)))
-
-pub first-ranged : (f k : ℕ) (z : ℤ) → f ≡ 0 → z ≡ pos (range fiveThreeFilter (min k maxLevels)) → Ranged f k z
-unfolding filterOf maxLevels
-first-ranged zero k z e p = p
-first-ranged (suc f) k z e p = absurd (omega arith)
-
-pub second-ranged : (f k : ℕ) (z : ℤ) → (f ≡ 0 → ⊥) → z ≡ pos (range nineSevenFilter (min k rebuilding97.maxLevels)) → Ranged f k z
-unfolding filterOf rebuilding97.maxLevels
-second-ranged zero k z d p = absurd (d refl)
-second-ranged (suc f) k z d p = p
-
 -- ---- where a row begins
 abbrev Placed : ℕ → ℕ → ℕ → ℕ → Type 0
 Placed f w r a = (a ≡ pick (leb w widest) (rowPlaceOf f w r) 0) × (a + w ≤ filterOf f .rows * w)

@@ -4,7 +4,6 @@
 // The module is private: only this crate, which meets what is required, can call it.
 use crate::passes;
 use crate::rowwise;
-use filters::figures;
 use lifting::halves;
 use lifting::rows;
 use lifting::sample;

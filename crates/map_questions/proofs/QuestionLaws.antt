@@ -14,7 +14,7 @@ use Rattle.wavelet.specs.Questions.{ask, within, Sized}
 use Rattle.wavelet.proofs.QuestionLaws.{within-true}
 use Rattle.nine_seven.specs.Filters.{filterOf, isFilter}
 use Rattle.map_questions.specs.Calls.{shapeQuestions, sizeQuestions, zeros, passed, rebuilt}
-use Rattle.filters.proofs.FigureLaws.{levels-most}
+use Rattle.figures.proofs.FigureLaws.{levels-most}
 
 -- ---- four questions, and what follows them
 abbrev asked : Bool → Bool → Bool → Bool → ℕ → ℕ

@@ -1,5 +1,4 @@
 // The questions that both ways of a whole map ask of its shape and its areas.
-use filters::figures;
 use wavelet::limits;
 ghost use mathlib.Core.Path.{_≡_};
 ghost use Rattle.map_questions.specs.Calls.{shapeQuestions, sizeQuestions};

@@ -10,7 +10,7 @@ ghost use Rattle.lifting.specs.Line.{lo};
 ghost use Rattle.lifting.specs.Grid.{side, count};
 ghost use Rattle.level.specs.Tried.{outcome};
 ghost use Rattle.level.specs.Rebuilding.{Kept};
-ghost use Rattle.nine_seven_rebuilding.specs.Rebuilding.{maxLevels};
+ghost use Rattle.figures.specs.Range.{maxLevels};
 ghost use Rattle.nine_seven_rebuilding.specs.Work.{lowTried, highTried, setUnlifted, evenDone, pairMade, ownEven, firstMade, earlierMade, ownMade};
 ghost use Rattle.nine_seven_rebuilding.specs.Work.{lastMade, restMade, rowsMade, setMade, lowTaken, setWorked};
 

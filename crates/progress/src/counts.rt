@@ -1,6 +1,5 @@
 // The numbers that the writer derives on its way down the levels. A level has w columns, the first at coordinate x, and has received m rows, the first at
 // coordinate y; `filter` is the number of the filter.
-use filters::figures;
 use wavelet::sizes;
 ghost use mathlib.Core.Path.{_≡_};
 ghost use Prim.Native.Nat.{_-_, _%_};

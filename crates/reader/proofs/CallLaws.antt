@@ -19,7 +19,7 @@ use Rattle.lifting.specs.GridHalves.{halvesOf}
 use Rattle.wavelet.specs.Questions.{ask}
 use Rattle.calls.specs.Lists.{all-none, all-more}
 use Rattle.calls.proofs.QuestionLaws.{asks, asks-no, asks-yes, asks-none}
-use Rattle.filters.specs.Figures.{storeBy}
+use Rattle.figures.specs.Figures.{storeBy}
 use Rattle.filters.specs.Back.{rowPlaceOf}
 use Rattle.filters.proofs.BackLaws.{back-made}
 use Rattle.reader.specs.declared.Reader.{Reader}

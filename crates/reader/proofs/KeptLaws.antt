@@ -16,7 +16,7 @@ use Rattle.level.specs.Stretch.{rowOfSet, halfPlace}
 use Rattle.level.specs.Rebuilding.{Kept}
 use Rattle.level.proofs.RowsIn.{half-end}
 use Rattle.nine_seven.specs.Filters.{filterOf}
-use Rattle.filters.specs.Figures.{storeBy}
+use Rattle.figures.specs.Figures.{storeBy}
 use Rattle.filters.specs.Back.{rowPlaceOf}
 use Rattle.filters.proofs.BackLaws.{back-feed, place-room}
 use Rattle.reader.specs.declared.walk.Level.{Level}

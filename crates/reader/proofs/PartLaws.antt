@@ -28,7 +28,7 @@ use Rattle.level.proofs.RowsIn.{half-end}
 use Rattle.nine_seven.specs.Filters.{filterOf}
 use Rattle.filters.specs.Back.{backOf, rowPlaceOf}
 use Rattle.filters.proofs.BackLaws.{back-feed, place-room}
-use Rattle.filters.specs.Figures.{storeBy}
+use Rattle.figures.specs.Figures.{storeBy}
 use Rattle.reader.specs.declared.walk.Level.{Level}
 use Rattle.reader_steps.specs.Asked.{named}
 use Rattle.reader_steps.specs.Places.{hasCells}

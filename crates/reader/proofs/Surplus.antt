@@ -13,7 +13,7 @@ use Rattle.wavelet.specs.Levels.{sideAt}
 use Rattle.nine_seven.specs.Filters.{filterOf}
 use Rattle.filters.specs.Back.{backOf}
 use Rattle.filters.proofs.BackLaws.{back-worked}
-use Rattle.filters.specs.Figures.{storeBy}
+use Rattle.figures.specs.Figures.{storeBy}
 use Rattle.reader.specs.declared.Reader.{Reader}
 use Rattle.reader_steps.specs.Sets.{waiting}
 use Rattle.level.specs.Tried.{Tried, passed, bind, onto, memory}

@@ -10,7 +10,7 @@ use Rattle.lifting.specs.Grid.{Side}
 use Rattle.wavelet.specs.Levels.{sideAt}
 use Rattle.wavelet.specs.Order.{lastSet}
 use Rattle.level.specs.Tried.{Tried, passed, onto}
-use Rattle.filters.specs.Figures.{storeBy}
+use Rattle.figures.specs.Figures.{storeBy}
 use Rattle.filters.specs.Back.{backOf}
 use Rattle.reader_steps.specs.Asked.{named}
 use Rattle.reader_steps.specs.Places.{hasCells}

@@ -7,7 +7,6 @@ mod walk;
 use areas::copies;
 use areas::height_rows;
 use filters::back;
-use filters::figures;
 use walk::Next;
 use walk::Spot;
 use wavelet::shape::Shape;

@@ -1,6 +1,5 @@
 // Sets of rows by the filter's number, and the bands that a set asks for: numbers alone. A side is its start and its length: x, w across and y, h down. The
 // module is private, as `walk` is.
-use filters::figures;
 use wavelet::sizes;
 ghost use mathlib.Core.Path.{_≡_};
 ghost use Prim.Native.Nat.{ℕ, _-_, _<_, _≤_, _^_};

@@ -4,7 +4,6 @@
 use crate::sets;
 use areas::copies;
 use filters::back;
-use filters::figures;
 use wavelet::sizes;
 ghost use mathlib.Core.Path.{_≡_};
 ghost use mathlib.Core.Bool.{true, false};
@@ -19,7 +18,7 @@ ghost use Rattle.lifting.specs.Line.{lo};
 ghost use Rattle.wavelet.specs.Order.{firstSet};
 ghost use Rattle.wavelet.specs.Levels.{next, sideAt};
 ghost use Rattle.nine_seven.specs.Filters.{filterOf};
-ghost use Rattle.filters.specs.Figures.{storeBy};
+ghost use Rattle.figures.specs.Figures.{storeBy};
 ghost use Rattle.filters.specs.Back.{rowPlaceOf};
 ghost use Rattle.level.specs.Tried.{outcome};
 ghost use Rattle.level.specs.Stretch.{rowOfSet, halfPlace};

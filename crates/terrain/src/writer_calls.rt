@@ -1,6 +1,5 @@
 // The writer's calls. The state is the caller's array: `writer_state` unpacks and packs it.
 use crate::writer_state;
-use filters::figures;
 use wavelet::shape::Shape;
 use writer::Drawn;
 use writer::Finished;
@@ -12,7 +11,7 @@ ghost use mathlib.Core.Path.{_≡_};
 ghost use lib.ListN.{length};
 ghost use Rattle.numbers.specs.Signal.{at, pick};
 ghost use Rattle.wavelet.specs.Shape.{columns};
-ghost use Rattle.filters.specs.Figures.{storeBy, streamable};
+ghost use Rattle.figures.specs.Figures.{storeBy, streamable};
 ghost use Rattle.writer.specs.Calls.{setUpReply, setUpStore};
 ghost use Rattle.terrain.specs.WriterCalls.{number, stateOf, offered, offeredStore, stateTook, takenOf, drawn, drawnStore, drawnArea, stateHanded, rowOf};
 ghost use Rattle.terrain.specs.WriterCalls.{waiting, lookOf, finished, finishedStore};

@@ -14,7 +14,7 @@ use Rattle.wavelet.proofs.SideLaws.{next-le}
 use Rattle.nine_seven.specs.Filters.{filterOf}
 use Rattle.level.specs.Level.{Memory, LevelKind, completes, rest, joinAt}
 use Rattle.filters.specs.Forward.{kindOf, delivered}
-use Rattle.filters.proofs.FigureLaws.{row-few}
+use Rattle.figures.proofs.FigureLaws.{row-few}
 use Rattle.filters.proofs.ForwardLaws.{passed-on}
 use Rattle.level.proofs.RestLaws.{rest-join, join-again}
 use Rattle.progress.specs.declared.waits.Wait.{Wait}

@@ -27,8 +27,8 @@ use Rattle.calls.proofs.AllLaws.{all-map, all-take, all-at}
 use Rattle.nine_seven.specs.Filters.{filterOf}
 use Rattle.nine_seven.proofs.Filters.{filter-laws}
 use Rattle.level.specs.Level.{Memory, rest}
-use Rattle.filters.specs.Figures.{storeBy, streamable}
-use Rattle.filters.proofs.FigureLaws.{streams}
+use Rattle.figures.specs.Figures.{storeBy, streamable}
+use Rattle.figures.proofs.FigureLaws.{streams}
 use Rattle.filters.proofs.ForwardLaws.{laws-of}
 use Rattle.writer.specs.Taking.{columnsOf}
 use Rattle.writer.specs.Questions.{inRanges, setUpQuestion}

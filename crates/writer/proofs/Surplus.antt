@@ -23,7 +23,7 @@ use Rattle.nine_seven.specs.Filters.{filterOf}
 use Rattle.level.specs.Level.{Memory, LevelKind, completes, prev, rest, joinAt, ahead}
 use Rattle.level.proofs.RestLaws.{rest-at, join-past}
 use Rattle.level.proofs.LevelLaws.{LevelLaws}
-use Rattle.filters.specs.Figures.{storeBy}
+use Rattle.figures.specs.Figures.{storeBy}
 use Rattle.filters.specs.Forward.{kindOf, heldOf, endedOf}
 use Rattle.filters.proofs.ForwardLaws.{laws-of}
 use Rattle.writer.specs.declared.Writer.{Writer}

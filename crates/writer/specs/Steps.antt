@@ -6,7 +6,7 @@ use Rattle.wavelet.specs.Bands.{across, code}
 use Rattle.wavelet.specs.Order.{setRow}
 use Rattle.nine_seven.specs.Filters.{filterOf}
 use Rattle.level.specs.Level.{Memory, prev, rest, joinAt}
-use Rattle.filters.specs.Figures.{storeBy}
+use Rattle.figures.specs.Figures.{storeBy}
 use Rattle.filters.specs.Forward.{kindOf}
 use Rattle.progress.specs.declared.waits.Wait.{Wait}
 use Rattle.progress.specs.declared.levels.Level.{Level}

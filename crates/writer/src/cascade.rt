@@ -1,7 +1,6 @@
 // What a row makes, down the levels. Each level works in its own stretch of the store; the rest of the store is lent on to the levels below.
 // A level has w columns, the first at coordinate x; its rows start at coordinate y; `filter` is the number of the filter.
 // The module is private: only this crate, which meets what is required, can call it.
-use filters::figures;
 use filters::forward;
 use progress::counts;
 use progress::waits;

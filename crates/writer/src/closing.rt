@@ -2,7 +2,6 @@
 // A level has w columns, the first at coordinate x, and m rows, the first at coordinate y; `filter` is the number of the filter.
 // The module is private: only this crate, which meets what is required, can call it.
 use crate::cascade;
-use filters::figures;
 use filters::forward;
 use progress::counts;
 use progress::waits;

@@ -1,7 +1,6 @@
 // The gate questions of the writer's calls, in order: 0, or the number of the first that says no.
 use crate::Writer;
 use crate::cascade;
-use filters::figures;
 use progress::counts;
 use wavelet::limits;
 use wavelet::sizes;
@@ -10,7 +9,7 @@ ghost use Prim.Native.Nat.{_^_, _<_, _≤_};
 ghost use lib.Dec.{leb, eqb};
 ghost use Rattle.numbers.specs.Signal.{both};
 ghost use Rattle.lifting.specs.Grid.{side};
-ghost use Rattle.filters.specs.Figures.{streamable};
+ghost use Rattle.figures.specs.Figures.{streamable};
 ghost use Rattle.progress.specs.Counts.{mostLeft, startOf};
 ghost use Rattle.writer.specs.Taking.{columnsOf};
 ghost use Rattle.writer.specs.Questions.{onGrid, inRanges, setUpQuestion, offerQuestion, finishQuestion};

@@ -7,7 +7,6 @@ mod draws;
 mod gate;
 mod offers;
 
-use filters::figures;
 use progress::levels;
 use wavelet::shape::Shape;
 ghost use mathlib.Core.Path.{_≡_};

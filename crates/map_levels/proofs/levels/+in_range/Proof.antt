@@ -6,7 +6,7 @@ use Rattle.lifting.specs.Grid.{side}
 use Rattle.lifting.proofs.GridLaws.{counts}
 use Rattle.wavelet.proofs.LimitLaws.{levels-small}
 use Rattle.nine_seven.proofs.Filters.{filter-laws}
-use Rattle.filters.proofs.FigureLaws.{levels-most}
+use Rattle.figures.proofs.FigureLaws.{levels-most}
 use Rattle.nine_seven.specs.Filters.{filterOf}
 use Rattle.map_levels.proofs.CellLaws.{fewer-rows}
 use Rattle.map_levels.proofs.TestLaws.{goes-as, goes-yes}

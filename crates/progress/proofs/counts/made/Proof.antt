@@ -2,7 +2,7 @@
 use native.Mathlib.Omega.{arith}
 use Rattle.nine_seven.specs.Filters.{filterOf}
 use Rattle.level.proofs.Places.{prev-is}
-use Rattle.filters.proofs.FigureLaws.{ahead-few}
+use Rattle.figures.proofs.FigureLaws.{ahead-few}
 use Rattle.filters.proofs.ForwardLaws.{laws-of}
 use Rattle.progress.proofs.CountLaws.{made-is, made-shut}
 use Rattle.progress.proofs.counts.made.Statement.{statement}

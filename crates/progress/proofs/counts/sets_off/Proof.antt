@@ -3,7 +3,7 @@ use mathlib.Core.Path.{sym}
 use native.Mathlib.Omega.{arith}
 use borrow.Author.Tests.{lt-ltb, le-ltb}
 use Rattle.nine_seven.specs.Filters.{filterOf}
-use Rattle.filters.proofs.FigureLaws.{ahead-few}
+use Rattle.figures.proofs.FigureLaws.{ahead-few}
 use Rattle.filters.proofs.ForwardLaws.{laws-of}
 use Rattle.progress.proofs.CountLaws.{off-none, off-early, off-late}
 use Rattle.progress.proofs.counts.sets_off.Statement.{statement}

@@ -13,7 +13,7 @@ use Rattle.level.specs.Rebuilding.{widest}
 use Rattle.level.proofs.WorkLaws.{told-no, told-yes}
 use Rattle.wavelet.proofs.StoreLaws.{first-room}
 use Rattle.nine_seven.specs.Filters.{filterOf}
-use Rattle.filters.proofs.FigureLaws.{row-few}
+use Rattle.figures.proofs.FigureLaws.{row-few}
 use Rattle.reader.specs.State.{columns, rows}
 use Rattle.reader.proofs.EnterLaws.{dive-level}
 use Rattle.reader.proofs.QuestionLaws.{counts-small, counts-length, store-in, due-in}

@@ -9,7 +9,7 @@ use borrow.Rule.Slice.PartMut.{midOf}
 use Rattle.areas.proofs.AreaLaws.{did}
 use Rattle.lifting.specs.Grid.{side}
 use Rattle.filters.proofs.BackLaws.{workable-of}
-use Rattle.filters.proofs.FigureLaws.{levels-most}
+use Rattle.figures.proofs.FigureLaws.{levels-most}
 use Rattle.level.proofs.KeptLaws.{kept-none}
 use Rattle.numbers.proofs.Parts.{length-mid}
 use Rattle.wavelet.specs.Limits.{maxLevels}

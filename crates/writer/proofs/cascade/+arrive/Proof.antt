@@ -14,9 +14,9 @@ use Rattle.wavelet.proofs.SideLaws.{count-lo, next-length}
 use Rattle.wavelet.proofs.StoreLaws.{store-back}
 use Rattle.nine_seven.specs.Filters.{filterOf}
 use Rattle.level.proofs.RestLaws.{at-rest, at-join}
-use Rattle.filters.proofs.FigureLaws.{row-few}
+use Rattle.figures.proofs.FigureLaws.{row-few}
 use Rattle.filters.proofs.ForwardLaws.{level-done, next-done}
-use Rattle.filters.specs.Figures.{storeBy}
+use Rattle.figures.specs.Figures.{storeBy}
 use Rattle.progress.specs.Counts.{skip}
 use Rattle.progress.proofs.CountLaws.{completes-set, next-is, start-is}
 use Rattle.writer.proofs.CascadeLaws.{left-still, goes, arrive-still, sets-off, came-waits, came-last, came-goes}
@@ -25,7 +25,7 @@ use Rattle.writer.proofs.cascade.arrive.Kinds as arrive-kinds
 use Rattle.writer.proofs.cascade.+arrive.Lts-arrive as arrive-lts
 use Rattle.wavelet.proofs.sizes.low_count.Reads as low-count-reads
 use Rattle.wavelet.proofs.sizes.next_start.Reads as next-start-reads
-use Rattle.filters.proofs.figures.look_ahead.Reads as look-ahead-reads
+use Rattle.figures.proofs.look_ahead.Reads as look-ahead-reads
 use Rattle.filters.proofs.forward.deliver.Reads as deliver-reads
 use Rattle.filters.proofs.forward.make.Reads as make-reads
 use Rattle.progress.proofs.counts.goes_on.Reads as goes-on-reads

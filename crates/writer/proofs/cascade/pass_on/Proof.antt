@@ -10,8 +10,8 @@ use Rattle.wavelet.specs.Levels.{next}
 use Rattle.wavelet.proofs.SideLaws.{count-lo, next-length}
 use Rattle.wavelet.proofs.StoreLaws.{store-next, store-back}
 use Rattle.nine_seven.specs.Filters.{filterOf}
-use Rattle.filters.specs.Figures.{storeBy}
-use Rattle.filters.proofs.FigureLaws.{row-few}
+use Rattle.figures.specs.Figures.{storeBy}
+use Rattle.figures.proofs.FigureLaws.{row-few}
 use Rattle.filters.proofs.ForwardLaws.{next-done}
 use Rattle.level.proofs.RestLaws.{at-rest, at-join}
 use Rattle.progress.proofs.CountLaws.{next-is, start-is}

@@ -10,15 +10,15 @@ use Rattle.lifting.specs.Grid.{Side, side}
 use Rattle.wavelet.proofs.SideLaws.{count-lo}
 use Rattle.wavelet.proofs.StoreLaws.{store-back}
 use Rattle.nine_seven.specs.Filters.{filterOf}
-use Rattle.filters.specs.Figures.{storeBy}
-use Rattle.filters.proofs.FigureLaws.{steps-few, row-few}
+use Rattle.figures.specs.Figures.{storeBy}
+use Rattle.figures.proofs.FigureLaws.{steps-few, row-few}
 use Rattle.level.proofs.RestLaws.{at-rest, at-join}
 use Rattle.progress.proofs.CountLaws.{steps-more, next-is, start-is}
 use Rattle.writer.proofs.ClosingLaws.{shut-none, shut-waits, shut-goes}
 use Rattle.writer.proofs.closing.shut.Reads as shut
 use Rattle.writer.proofs.closing.shut.Kinds as shut-kinds
 use Rattle.writer.proofs.closing.+shut.Lts-shut as shut-lts
-use Rattle.filters.proofs.figures.look_ahead.Reads as look-ahead-reads
+use Rattle.figures.proofs.look_ahead.Reads as look-ahead-reads
 use Rattle.progress.proofs.counts.closed_below.Reads as closed-below-reads
 use Rattle.progress.proofs.waits.nothing.Reads as nothing-reads
 use Rattle.progress.proofs.waits.seen_from.Reads as seen-from-reads

@@ -3,7 +3,7 @@ use Prim.Native.Nat.{_-_}
 use native.Mathlib.Omega.{arith}
 use Rattle.wavelet.proofs.StoreLaws.{store-next}
 use Rattle.nine_seven.specs.Filters.{filterOf}
-use Rattle.filters.proofs.FigureLaws.{store-few}
+use Rattle.figures.proofs.FigureLaws.{store-few}
 use Rattle.filters.proofs.ForwardLaws.{place-room, place-code}
 use Rattle.progress.specs.Counts.{bandAt}
 use Rattle.writer.specs.Taking.{columnsOf}

@@ -1,22 +1,26 @@
 -- What a stream needs by its filter's number. Assumes nothing.
 use mathlib.Core.Path.{_≡_, refl}
 use mathlib.Core.Bool.{Bool, true, false}
-use Prim.Native.Nat.{ℕ, zero, suc, _+_, _*_, _^_, _≤_, _<_}
+use Prim.Native.Nat.{ℕ, zero, suc, _+_, _*_, _^_, _≤_, _<_, min}
 use native.Mathlib.Omega.{arith}
 use native.Mathlib.Nat.{mul-zero, mul-le-mul}
+use lib.IntN.{ℤ, pos}
 use lib.Dec.{leb}
 use borrow.Author.Tests.{le-leb, lt-leb}
 use Rattle.numbers.specs.Signal.{pick, both}
 use Rattle.numbers.proofs.Sweep as tests
 use Rattle.lifting.specs.Grid.{Side, side}
-use Rattle.wavelet.specs.Limits.{maxWidth, maxLevels}
+use Rattle.wavelet.specs.Limits.{maxWidth, maxLevels, range}
 use Rattle.wavelet.specs.Questions.{within}
 use Rattle.wavelet.specs.Store.{widths, anyWidths, anyLength}
 use Rattle.wavelet.proofs.LimitLaws.{width-small, levels-small}
 use Rattle.wavelet.proofs.QuestionLaws.{within-true}
 use Rattle.wavelet.proofs.StoreLaws.{store-is, widths-le}
+use Rattle.lifting.specs.FiveThree.{fiveThreeFilter}
+use Rattle.nine_seven.specs.NineSevenFilter.{nineSevenFilter}
 use Rattle.nine_seven.specs.Filters.{filterOf, isFilter}
-use Rattle.filters.specs.Figures.{storeBy, anyBy, streamable}
+use Rattle.figures.specs.Range as nine
+use Rattle.figures.specs.Figures.{storeBy, anyBy, streamable}
 
 -- no filter has more levels than the limit, or many rows, or looks far ahead
 pub levels-most : (f : ℕ) → filterOf f .levels ≤ maxLevels
@@ -135,3 +139,30 @@ module _ (f w n : ℕ) where
       leb (r * v) n ≡ both (leb w maxWidth) (leb (anyBy f w) n)
   unfolding anyLength
   narrow r v e h g = rw (g, e, le-leb w maxWidth h)
+
+-- ---- the numbers of a filter
+module _ (f : ℕ) where
+  abbrev Figures : ℕ → ℕ → ℕ → Type 0
+  Figures l r a = (l ≡ filterOf f .levels) × (r ≡ filterOf f .rows) × (a ≡ filterOf f .ahead)
+
+  pub first-figures : f ≡ 0 → Figures 5 4 1
+  unfolding filterOf
+  first-figures e = rw e (refl, refl, refl)
+
+pub second-figures : (f : ℕ) → (f ≡ 0 → ⊥) → Figures f 4 8 2
+unfolding filterOf
+second-figures zero d = absurd (d refl)
+second-figures (suc f) d = (refl, refl, refl)
+
+abbrev Ranged : ℕ → ℕ → ℤ → Type 0
+Ranged f k z = z ≡ pos (range (filterOf f) (min k (filterOf f .levels)))
+
+pub first-ranged : (f k : ℕ) (z : ℤ) → f ≡ 0 → z ≡ pos (range fiveThreeFilter (min k maxLevels)) → Ranged f k z
+unfolding filterOf maxLevels
+first-ranged zero k z e p = p
+first-ranged (suc f) k z e p = absurd (omega arith)
+
+pub second-ranged : (f k : ℕ) (z : ℤ) → (f ≡ 0 → ⊥) → z ≡ pos (range nineSevenFilter (min k nine.maxLevels)) → Ranged f k z
+unfolding filterOf nine.maxLevels
+second-ranged zero k z d p = absurd (d refl)
+second-ranged (suc f) k z d p = p

@@ -1,8 +1,8 @@
--- `filters::figures::is_filter` meets its contract: the definition's test. Assumes nothing.
+-- `figures::is_filter` meets its contract: the definition's test. Assumes nothing.
 use mathlib.Core.Path.{refl}
 use Rattle.nine_seven.specs.Filters.{isFilter}
-use Rattle.filters.proofs.figures.is_filter.Statement.{statement}
-use Rattle.filters.proofs.figures.is_filter.Tie as tie
+use Rattle.figures.proofs.is_filter.Statement.{statement}
+use Rattle.figures.proofs.is_filter.Tie as tie
 
 returns : tie.Need-returns
 unfolding isFilter

@@ -1,5 +1,7 @@
-// The numbers of a filter.
-use nine_seven_rebuilding::range;
+// The figures of a filter, by its number, 0 the 5/3 and 1 the integer 9/7: levels, rows kept, look-ahead, ranges, and what a stream needs. Any other number
+// counts as 1 here; question 18 is asked above.
+pub mod range;
+
 use wavelet::limits;
 use wavelet::sizes;
 use wavelet::store;
@@ -11,7 +13,7 @@ ghost use Rattle.numbers.specs.Signal.{pick, both};
 ghost use Rattle.lifting.specs.Grid.{side};
 ghost use Rattle.wavelet.specs.Limits.{maxWidth, range};
 ghost use Rattle.nine_seven.specs.Filters.{filterOf, isFilter};
-ghost use Rattle.filters.specs.Figures.{storeBy, anyBy, streamable};
+ghost use Rattle.figures.specs.Figures.{storeBy, anyBy, streamable};
 
 // Is this the number of a filter?
 pub fn is_filter(filter: usize) -> bool

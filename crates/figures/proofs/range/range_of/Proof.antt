@@ -1,4 +1,4 @@
--- `nine_seven_rebuilding::range::range_of` meets its contract. The loop's invariant: `most` is the range of level k. Assumes nothing.
+-- `figures::range::range_of` meets its contract. The loop's invariant: `most` is the range of level k. Assumes nothing.
 use mathlib.Core.Path.{_≡_, refl, ap, _∙_}
 use Prim.Native.Nat.{ℕ, suc, _-_, _*_, _^_, _≤_, _<_, min}
 use native.Mathlib.Omega.{arith}
@@ -9,11 +9,11 @@ use mir.Val.{SFits, toZ}
 use mir.ValLaws.{toZ-ofZ}
 use Rattle.numbers.proofs.Integers.{each, lin}
 use Rattle.wavelet.specs.Limits.{maxSample, range}
-use Rattle.nine_seven_rebuilding.specs.Rebuilding.{maxLevels}
+use Rattle.figures.specs.Range.{maxLevels}
 use Rattle.nine_seven.specs.NineSevenFilter.{nineSevenFilter}
-use Rattle.nine_seven_rebuilding.proofs.RangeLaws.{levels-small, range-suc, range-small}
-use Rattle.nine_seven_rebuilding.proofs.range.range_of.Statement.{statement}
-use Rattle.nine_seven_rebuilding.proofs.range.range_of.Tie as tie
+use Rattle.figures.proofs.RangeLaws.{levels-small, range-suc, range-small}
+use Rattle.figures.proofs.range.range_of.Statement.{statement}
+use Rattle.figures.proofs.range.range_of.Tie as tie
 
 six-fits : (N : ℕ) (z : ℤ) → 6 * N < 2 ^ 31 → z ≡ pos N → SFits w32 (pos 6 *ℤ z)
 six-fits N = each _ λ p q. simp lin (omega arith)

@@ -1,9 +1,9 @@
--- `filters::figures::range_of` meets its contract: that of the filter. Assumes nothing.
+-- `figures::range_of` meets its contract: that of the filter. Assumes nothing.
 use mathlib.Core.Path.{_∙_}
 use Rattle.numbers.proofs.Words.{read-back}
-use Rattle.filters.proofs.BackLaws.{first-ranged, second-ranged}
-use Rattle.filters.proofs.figures.range_of.Statement.{statement}
-use Rattle.filters.proofs.figures.range_of.Tie as tie
+use Rattle.figures.proofs.FigureLaws.{first-ranged, second-ranged}
+use Rattle.figures.proofs.range_of.Statement.{statement}
+use Rattle.figures.proofs.range_of.Tie as tie
 
 range-of-requires : tie.Need-range-of-requires
 range-of-requires c κs = tt

@@ -1,9 +1,9 @@
--- `filters::figures::holds_any` meets its contract: the definition's two tests; below the limit the product fits. Assumes nothing.
+-- `figures::holds_any` meets its contract: the definition's two tests; below the limit the product fits. Assumes nothing.
 use native.Mathlib.Omega.{arith}
 use Rattle.wavelet.specs.Limits.{maxWidth}
-use Rattle.filters.proofs.FigureLaws.{wide, any-fits, narrow}
-use Rattle.filters.proofs.figures.holds_any.Statement.{statement}
-use Rattle.filters.proofs.figures.holds_any.Tie as tie
+use Rattle.figures.proofs.FigureLaws.{wide, any-fits, narrow}
+use Rattle.figures.proofs.holds_any.Statement.{statement}
+use Rattle.figures.proofs.holds_any.Tie as tie
 
 returns : tie.Need-returns
 unfolding maxWidth

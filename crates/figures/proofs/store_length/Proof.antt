@@ -1,10 +1,10 @@
--- `filters::figures::store_length` meets its contract: each test is the definition's. Assumes nothing.
+-- `figures::store_length` meets its contract: each test is the definition's. Assumes nothing.
 use mathlib.Core.Path.{sym, _∙_}
 use native.Mathlib.Omega.{arith}
 use borrow.Author.Tests.{not-true, not-false}
-use Rattle.filters.proofs.FigureLaws.{length-fits, unknown, deep, stored}
-use Rattle.filters.proofs.figures.store_length.Statement.{statement}
-use Rattle.filters.proofs.figures.store_length.Tie as tie
+use Rattle.figures.proofs.FigureLaws.{length-fits, unknown, deep, stored}
+use Rattle.figures.proofs.store_length.Statement.{statement}
+use Rattle.figures.proofs.store_length.Tie as tie
 
 is-filter-requires : tie.Need-is-filter-requires
 is-filter-requires c κs = tt
