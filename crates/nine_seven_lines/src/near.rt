@@ -3,7 +3,7 @@
 ghost use mathlib.Core.Path.{_≡_};
 ghost use Prim.Native.Nat.{ℕ, _-_, _<_, _≤_};
 ghost use Rattle.lifting.specs.Line.{lo};
-ghost use Rattle.lifting.specs.Grid.{side, count, loneHigh};
+ghost use Rattle.lifting.specs.Grid.{side, count};
 ghost use Rattle.lifting.specs.Passes.{near};
 ghost use Rattle.nine_seven.specs.Passes.{farLeft, farRight};
 ghost use Rattle.nine_seven_lines.specs.Near.{Beside, Around};
@@ -16,16 +16,6 @@ pub fn lows(n: usize, start: usize) -> usize
         return n - n / 2;
     }
     n / 2
-}
-
-// Whether n numbers are an only one, at an odd coordinate.
-pub fn lone_high(n: usize, start: usize) -> bool
-    ensures { λ r. ⌜ r ≡ loneHigh (side start n) ⌝ }
-{
-    if start % 2 == 1 {
-        return n == 1;
-    }
-    false
 }
 
 // The number of m that is nearest to k.

@@ -137,3 +137,7 @@ module _ (P : Half → ℕ → ℕ) (N s w : ℕ) (H : Side) (k d : ℕ) (x : �
 
   pub low-late : (f : ℤ → ℤ → ℤ → ℤ) → d ≤ k → count lo H ≤ k - d → x ≡ lowTurn f P N s w H k d x
   low-late f a b = simp (le-leb d k a, le-ltb (k - d) (count lo H) b)
+
+-- one step after the other, the area as long as it was
+pub one-after : (g : ℕ → (ℕ → ℤ) → ℕ → ℤ) (N M : ℕ) (y x₁ x₂ : ℕ → ℤ) → M ≡ N → x₁ ≡ y → x₂ ≡ g M x₁ → x₂ ≡ g N y
+one-after g N M y x₁ x₂ e is₁ is₂ = is₂ ∙ λ i. g (e i) (is₁ i)

@@ -1,6 +1,5 @@
 -- `forth::update_behind` meets its contract, by whether there is such a row. Assumes nothing.
 use Prim.Native.Nat.{_+_, _-_, _%_}
-use borrow.Author.Needs.{needs}
 use native.Mathlib.Omega.{arith}
 use Rattle.lifting.specs.Grid.{side, count}
 use Rattle.nine_seven_sweep.specs.Passes.{inHalf}
@@ -9,7 +8,7 @@ use Rattle.nine_seven_sweep.proofs.forth.update_behind.Statement.{state
 use Rattle.nine_seven_sweep.proofs.forth.update_behind.Tie as tie
 
 add-behind : tie.Need-add-behind
-add-behind c = search needs
+add-behind c = omega arith
 
 returns : tie.Need-returns
 returns c =

@@ -1,16 +1,15 @@
--- `lone::all_even` meets its contract: the answer so far is that of the numbers passed. Assumes nothing.
-use mathlib.Core.Path.{_≡_, sym, ap, _∙_}
+-- `lone_rows::lone::all_even` meets its contract: the answer so far is that of the numbers passed. Assumes nothing.
+use mathlib.Core.Path.{_≡_, ap, _∙_}
 use Prim.Native.Nat.{_-_, _≤_}
 use native.Mathlib.Omega.{arith}
 use lib.ListN.{length}
 use Rattle.numbers.specs.Signal.{at}
 use Rattle.numbers.specs.Tests.{every}
-use Rattle.numbers.proofs.TestLaws.{each-every}
 use Rattle.numbers.proofs.Words.{read-back}
 use Rattle.lifting.specs.Grid.{isEven}
-use Rattle.nine_seven_sweep.proofs.LoneLaws.{gather-turn}
-use Rattle.nine_seven_sweep.proofs.lone.all_even.Statement.{statement}
-use Rattle.nine_seven_sweep.proofs.lone.all_even.Tie as tie
+use Rattle.lone_rows.proofs.LoneTests.{even-start, even-turn, even-end}
+use Rattle.lone_rows.proofs.lone.all_even.Statement.{statement}
+use Rattle.lone_rows.proofs.lone.all_even.Tie as tie
 
 abbrev Inv-loop : tie.InvT-loop
 Inv-loop row ok₀ i₀ ok i = (i ≤ length row) × (ok ≡ every i (λ j. isEven (at row j)))
@@ -19,7 +18,7 @@ abbrev μ-loop : tie.MeasureT-loop
 μ-loop row ok₀ i₀ ok i = length row - i
 
 loop-holds : tie.Need-loop-holds Inv-loop μ-loop
-loop-holds c = (omega arith, sym (each-every 0 _ (λ j lt. absurd (omega arith))))
+loop-holds c = (omega arith, even-start _)
 
 mul-is-even : tie.Need-mul-is-even Inv-loop μ-loop
 mul-is-even c = omega arith
@@ -41,12 +40,10 @@ loop-again c =
     let head = c .before .before .before in
     let x = head .before .args .row .now in
     let i = head .loop .i in
-    (omega arith, gather-turn _ _ i _ (head .loop .inv .1) (c .is-even .ensures ∙ ap isEven (read-back (at x i) (c .before .is-even-arg .given))))
+    (omega arith, even-turn _ _ i _ (head .loop .inv .1) (c .is-even .ensures ∙ ap isEven (read-back (at x i) (c .before .is-even-arg .given))))
 
 returns : tie.Need-returns Inv-loop μ-loop
-returns c =
-    let e : c .before .loop .i ≡ length (c .before .before .args .row .now) = omega arith in
-    rw e at (c .before .loop .inv .1)
+returns c = even-end _ _ _ _ (c .before .loop .inv .0) (c .loop-test .left) (c .before .loop .inv .1)
 
 pub all-even-spec : {M : Type 1} → statement M
 all-even-spec =
