@@ -1,8 +1,8 @@
 -- `characters::is_space` meets its contract: the definition's tests, the last two by `is_line_end`. Assumes nothing.
 use borrow.Author.Tests.{eq-eqb, ne-eqb}
-use Rattle.pgm.specs.Characters.{space, lineEnd}
-use Rattle.pgm.proofs.characters.is_space.Statement.{statement}
-use Rattle.pgm.proofs.characters.is_space.Tie as tie
+use Rattle.pgm_bytes.specs.Characters.{space, lineEnd}
+use Rattle.pgm_bytes.proofs.characters.is_space.Statement.{statement}
+use Rattle.pgm_bytes.proofs.characters.is_space.Tie as tie
 
 returns : tie.Need-returns
 unfolding space

@@ -1,8 +1,8 @@
 -- `characters::is_line_end` meets its contract: the definition's two tests. Assumes nothing.
 use borrow.Author.Tests.{eq-eqb, ne-eqb}
-use Rattle.pgm.specs.Characters.{lineEnd}
-use Rattle.pgm.proofs.characters.is_line_end.Statement.{statement}
-use Rattle.pgm.proofs.characters.is_line_end.Tie as tie
+use Rattle.pgm_bytes.specs.Characters.{lineEnd}
+use Rattle.pgm_bytes.proofs.characters.is_line_end.Statement.{statement}
+use Rattle.pgm_bytes.proofs.characters.is_line_end.Tie as tie
 
 returns : tie.Need-returns
 unfolding lineEnd

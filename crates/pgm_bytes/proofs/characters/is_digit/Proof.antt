@@ -1,8 +1,8 @@
 -- `characters::is_digit` meets its contract: the definition's two tests. Assumes nothing.
 use borrow.Author.Tests.{le-leb, lt-leb}
-use Rattle.pgm.specs.Characters.{digit}
-use Rattle.pgm.proofs.characters.is_digit.Statement.{statement}
-use Rattle.pgm.proofs.characters.is_digit.Tie as tie
+use Rattle.pgm_bytes.specs.Characters.{digit}
+use Rattle.pgm_bytes.proofs.characters.is_digit.Statement.{statement}
+use Rattle.pgm_bytes.proofs.characters.is_digit.Tie as tie
 
 returns : tie.Need-returns
 unfolding digit

@@ -1,9 +1,7 @@
 // The bytes of a header: whitespace, ends of lines and digits.
-use crate::limits;
 ghost use mathlib.Core.Path.{_≡_};
 ghost use Prim.Native.Nat.{suc, _+_, _*_, _-_, min};
-ghost use Rattle.pgm.specs.Limits.{maxField};
-ghost use Rattle.pgm.specs.Characters.{space, lineEnd, digit, digitValue};
+ghost use Rattle.pgm_bytes.specs.Characters.{space, lineEnd, digit, digitValue, maxField};
 
 pub fn is_space(byte: u8) -> bool
     ensures { λ r. ⌜ r ≡ space byte ⌝ }
@@ -36,11 +34,20 @@ pub fn is_digit(byte: u8) -> bool
     byte <= b'9'
 }
 
+// The largest number of a header.
+pub const MAX_FIELD: usize = 65535;
+
+pub fn max_field() -> usize
+    ensures { λ r. ⌜ r ≡ maxField ⌝ }
+{
+    MAX_FIELD
+}
+
 // A number with one digit more; the one after the largest that a header may have stands for every larger number.
 pub fn with_digit(number: usize, byte: u8) -> usize
     ensures { λ r. ⌜ r ≡ min (10 * number + digitValue byte) (suc maxField) ⌝ }
 {
-    let most = limits::max_field();
+    let most = max_field();
     if most < number {
         return most + 1;
     }

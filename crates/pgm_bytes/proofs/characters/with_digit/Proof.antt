@@ -1,8 +1,8 @@
 -- `characters::with_digit` meets its contract: a number that is kept is small, so that ten times it fits. Assumes nothing.
 use native.Mathlib.Omega.{arith}
-use Rattle.pgm.proofs.LimitLaws.{field-small}
-use Rattle.pgm.proofs.characters.with_digit.Statement.{statement}
-use Rattle.pgm.proofs.characters.with_digit.Tie as tie
+use Rattle.pgm_bytes.proofs.CharacterLaws.{field-small}
+use Rattle.pgm_bytes.proofs.characters.with_digit.Statement.{statement}
+use Rattle.pgm_bytes.proofs.characters.with_digit.Tie as tie
 
 max-field-requires : tie.Need-max-field-requires
 max-field-requires c κs = tt
