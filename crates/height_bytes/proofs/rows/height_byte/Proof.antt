@@ -1,7 +1,7 @@
--- `form::height_byte` meets its contract: the definition's choice. Assumes nothing.
+-- `rows::height_byte` meets its contract: the definition's choice. Assumes nothing.
 use borrow.Author.Needs.{needs}
-use Rattle.picture.proofs.form.height_byte.Statement.{statement}
-use Rattle.picture.proofs.form.height_byte.Tie as tie
+use Rattle.height_bytes.proofs.rows.height_byte.Statement.{statement}
+use Rattle.height_bytes.proofs.rows.height_byte.Tie as tie
 
 cast-result : tie.Need-cast-result
 cast-result c = search needs

@@ -1,11 +1,11 @@
--- `form::row` meets its contract: after i turns i bytes stand in the area. Assumes nothing.
+-- `rows::row` meets its contract: after i turns i bytes stand in the area. Assumes nothing.
 use mathlib.Core.Path.{sym, _∙_}
 use Prim.Native.Nat.{_-_}
 use native.Mathlib.Omega.{arith}
-use Rattle.picture.specs.Form.{rowBytes}
-use Rattle.picture.proofs.FormLaws.{row-length, row-at, Bytes, start, next, finish}
-use Rattle.picture.proofs.form.row.Statement.{statement}
-use Rattle.picture.proofs.form.row.Tie as tie
+use Rattle.height_bytes.specs.Rows.{rowBytes}
+use Rattle.height_bytes.proofs.RowLaws.{row-length, row-at, Bytes, start, next, finish}
+use Rattle.height_bytes.proofs.rows.row.Statement.{statement}
+use Rattle.height_bytes.proofs.rows.row.Tie as tie
 
 abbrev Inv-loop : tie.InvT-loop
 Inv-loop heights from out₀ n i₀ out i = Bytes (rowBytes heights) out₀ out from n i
