@@ -1,7 +1,7 @@
--- `samples::sample_at` meets its contract: the definition's choice. Assumes nothing.
+-- `runs::sample_at` meets its contract: the definition's choice. Assumes nothing.
 use native.Mathlib.Omega.{arith}
-use Rattle.pgm.proofs.samples.sample_at.Statement.{statement}
-use Rattle.pgm.proofs.samples.sample_at.Tie as tie
+use Rattle.pgm_runs.proofs.runs.sample_at.Statement.{statement}
+use Rattle.pgm_runs.proofs.runs.sample_at.Tie as tie
 
 mul-at : tie.Need-mul-at
 mul-at c = omega (arith, c .before .before .pre .0 (c .if1 .taken))

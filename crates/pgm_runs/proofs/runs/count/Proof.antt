@@ -1,11 +1,11 @@
--- `samples::count` meets its contract: the definition's choice. Assumes nothing.
+-- `runs::count` meets its contract: the definition's choice. Assumes nothing.
 use mathlib.Core.Bool.{Bool, true, false}
 use mathlib.Core.Path.{_≡_}
 use Prim.Native.Nat.{ℕ, _-_, _/_, _<_}
 use native.Mathlib.Omega.{arith}
 use Rattle.numbers.specs.Signal.{pick}
-use Rattle.pgm.proofs.samples.count.Statement.{statement}
-use Rattle.pgm.proofs.samples.count.Tie as tie
+use Rattle.pgm_runs.proofs.runs.count.Statement.{statement}
+use Rattle.pgm_runs.proofs.runs.count.Tie as tie
 
 none : (w : Bool) (n f : ℕ) → n < f → 0 ≡ pick w ((n - f) / 2) (n - f)
 none true n f h = omega arith

@@ -1,8 +1,8 @@
--- `samples::size` meets its contract: the definition's choice. Assumes nothing.
+-- `runs::size` meets its contract: the definition's choice. Assumes nothing.
 use mathlib.Core.Path.{sym, _∙_}
-use Rattle.pgm.specs.Samples.{sampleSize}
-use Rattle.pgm.proofs.samples.size.Statement.{statement}
-use Rattle.pgm.proofs.samples.size.Tie as tie
+use Rattle.pgm_runs.specs.Runs.{sampleSize}
+use Rattle.pgm_runs.proofs.runs.size.Statement.{statement}
+use Rattle.pgm_runs.proofs.runs.size.Tie as tie
 
 is-wide-requires : tie.Need-is-wide-requires
 is-wide-requires c κs = tt

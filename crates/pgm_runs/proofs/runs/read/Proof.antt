@@ -1,12 +1,12 @@
--- `samples::read` meets its contract: after i turns the first i heights stand in the run. Assumes nothing.
+-- `runs::read` meets its contract: after i turns the first i heights stand in the run. Assumes nothing.
 use mathlib.Core.Path.{sym, _∙_}
 use Prim.Native.Nat.{_-_}
 use native.Mathlib.Omega.{arith}
 use borrow.Author.Needs.{needs}
 use borrow.Author.Tests.{not-true, not-false}
-use Rattle.pgm.proofs.RunReads.{Run, start, room, next, stop, stands, end, finish}
-use Rattle.pgm.proofs.samples.read.Statement.{statement}
-use Rattle.pgm.proofs.samples.read.Tie as tie
+use Rattle.pgm_runs.proofs.RunReads.{Run, start, room, next, stop, stands, end, finish}
+use Rattle.pgm_runs.proofs.runs.read.Statement.{statement}
+use Rattle.pgm_runs.proofs.runs.read.Tie as tie
 
 abbrev Inv-loop : tie.InvT-loop
 Inv-loop bytes from largest run₀ wide n i₀ run i = Run bytes run₀ run largest from n i
