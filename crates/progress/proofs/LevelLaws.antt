@@ -5,6 +5,7 @@ use native.Mathlib.Omega.{arith}
 use Rattle.lifting.specs.Grid.{Side}
 use Rattle.wavelet.specs.Levels.{next}
 use Rattle.level.specs.Level.{prev}
+use Rattle.level.proofs.Places.{prev-is}
 use Rattle.progress.specs.declared.levels.Level.{Level}
 use Rattle.progress.specs.Counts.{made, lowRows}
 use Rattle.progress.specs.Levels.{levelAt}
@@ -22,10 +23,10 @@ module _ (a : ℕ) (W : Side) (s c v m : ℕ) where
       go (suc (suc v)) h = let e : suc (suc v) - 1 ≡ suc v = omega arith in rw e refl
 
   -- it is found
-  pub walk-end : (i j : ℕ) → v ≤ 1 → i ≡ made a c s m → j ≡ prev i →
+  pub walk-end : (i j : ℕ) → v ≤ 1 → i ≡ made a c s m → j ≡ i - 1 →
       _≡_ {A = Level} (record { width = W .length; x = W .start; rows = m; y = s; set = j }) (levelAt a W s c v m)
   unfolding levelAt
-  walk-end i j h ei ej = rw (ej ∙ ap prev ei) (go v h)
+  walk-end i j h ei ej = rw (ej ∙ sym (prev-is i) ∙ ap prev ei) (go v h)
     where
       go : (v : ℕ) → v ≤ 1 →
           _≡_ {A = Level} (record { width = W .length; x = W .start; rows = m; y = s; set = prev (made a c s m) }) (levelAt a W s c v m)

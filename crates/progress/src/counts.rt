@@ -9,15 +9,15 @@ ghost use Rattle.lifting.specs.Line.{hi};
 ghost use Rattle.lifting.specs.Grid.{side, count};
 ghost use Rattle.wavelet.specs.Bands.{across, down, code};
 ghost use Rattle.wavelet.specs.Order.{firstSet, lastSet, setRow, setHas};
-ghost use Rattle.level.specs.Level.{prev, completes};
+ghost use Rattle.level.specs.Level.{completes};
 ghost use Rattle.nine_seven.specs.Filters.{filterOf};
-ghost use Rattle.progress.specs.Counts.{made, lowRows, most, bandAt, skip};
+ghost use Rattle.progress.specs.Counts.{made, most, bandAt, skip};
 
-// One less, and 0 of 0.
-pub fn prev(n: usize) -> usize
-    ensures { λ r. ⌜ r ≡ prev n ⌝ }
+// n less k, and 0 where k is more.
+pub fn minus(n: usize, k: usize) -> usize
+    ensures { λ r. ⌜ r ≡ n - k ⌝ }
 {
-    if 0 < n { n - 1 } else { 0 }
+    if n < k { 0 } else { n - k }
 }
 
 // How many sets a level has made, c steps of its closing being done: all of them, or all but those that are left for the steps to come. However many rows:
@@ -30,14 +30,11 @@ pub fn made(filter: usize, c: usize, y: usize, m: usize) -> usize
     if a <= c {
         return all;
     }
-    let n = (y % 2 + prev(m)) / 2 + 1;
-    if n < a {
-        if all < c {
-            return all;
-        }
-        return c;
+    let n = minus((y % 2 + minus(m, 1)) / 2 + 1, a) + c;
+    if all < n {
+        return all;
     }
-    n - a + c
+    n
 }
 
 // Whether set n is one of them or the first that is not made: a set of the m rows.
@@ -48,27 +45,6 @@ pub fn is_left(y: usize, m: usize, n: usize) -> bool
         return false;
     }
     n <= (y % 2 + (m - 1)) / 2
-}
-
-// How many steps of the closing are done below a level, of c: the level itself has as many as its look-ahead.
-pub fn closed_below(filter: usize, c: usize) -> usize
-    ensures { λ r. ⌜ r ≡ c - filterOf filter .ahead ⌝ }
-{
-    let a = figures::look_ahead(filter);
-    if c < a {
-        return 0;
-    }
-    c - a
-}
-
-// How many rows n sets give the next level.
-pub fn low_rows(y: usize, n: usize) -> usize
-    ensures { λ r. ⌜ r ≡ lowRows y n ⌝ }
-{
-    if n == 0 {
-        return 0;
-    }
-    n - y % 2
 }
 
 // Whether row m completes a set of the first of l levels.
@@ -148,11 +124,7 @@ fn first_set(m: usize, y: usize, i: usize) -> usize
 pub fn set_row(m: usize, y: usize, n: usize, i: usize) -> usize
     ensures { λ r. ⌜ r ≡ setRow (side y m) (bandAt i) n ⌝ }
 {
-    let f = first_set(m, y, i);
-    if n < f {
-        return 0;
-    }
-    n - f
+    minus(n, first_set(m, y, i))
 }
 
 // Whether it has one.

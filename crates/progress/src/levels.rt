@@ -26,10 +26,11 @@ pub fn level_of(filter: usize, w: usize, x: usize, y: usize, c: usize, v: usize,
     let mut row = y;
     let mut closed = c;
     let mut k = v;
+    let a = figures::look_ahead(filter);
     while 1 < k {
-        rows = counts::low_rows(row, counts::made(filter, closed, row, rows));
+        rows = counts::minus(counts::made(filter, closed, row, rows), row % 2);
         row = sizes::next_start(row);
-        closed = counts::closed_below(filter, closed);
+        closed = counts::minus(closed, a);
         width = sizes::low_count(column, width);
         column = sizes::next_start(column);
         k -= 1;
@@ -39,6 +40,6 @@ pub fn level_of(filter: usize, w: usize, x: usize, y: usize, c: usize, v: usize,
         x: column,
         rows,
         y: row,
-        set: counts::prev(counts::made(filter, closed, row, rows)),
+        set: counts::minus(counts::made(filter, closed, row, rows), 1),
     }
 }

@@ -11,8 +11,10 @@ use Rattle.lifting.specs.Grid.{Side, side}
 use Rattle.wavelet.specs.Bands.{LL}
 use Rattle.wavelet.specs.Levels.{next}
 use Rattle.wavelet.proofs.SideLaws.{next-le}
+use Rattle.wavelet.proofs.StoreLaws.{store-next}
 use Rattle.nine_seven.specs.Filters.{filterOf}
 use Rattle.level.specs.Level.{Memory, LevelKind, completes, rest, joinAt}
+use Rattle.figures.specs.Figures.{storeBy}
 use Rattle.filters.specs.Forward.{kindOf, delivered}
 use Rattle.figures.proofs.FigureLaws.{row-few}
 use Rattle.filters.proofs.ForwardLaws.{passed-on}
@@ -21,7 +23,7 @@ use Rattle.progress.specs.declared.waits.Wait.{Wait}
 use Rattle.progress.specs.Counts.{deeper, further, most, skip, startOf}
 use Rattle.progress.specs.Waits.{noWait, seenFrom}
 use Rattle.writer.specs.Machine.{Out, still, under, passed, settled, arrived, arrive, passOn}
-use Rattle.writer.specs.Steps.{Left}
+use Rattle.writer.specs.Steps.{Room, Left}
 use Rattle.progress.proofs.CountLaws.{deeper-le, deeper-by-one, start-first, start-deeper, start-small}
 
 -- ---- a set that is made
@@ -58,6 +60,19 @@ module _ (φ : ℕ) where
 
   abbrev A : ℕ
   A = filterOf φ .ahead
+
+  -- ---- the levels below have room from the end of the first one's stretch on
+  pub room-below : (l p : ℕ) (W B : Side) (m k n j N : ℕ) → l ≡ p + 1 → Room φ l W m n → j ≡ R * W .length → B ≡ next W → k < 2 ^ 32 → n - j ≤ N →
+      Room φ p B k N
+  room-below l p W B m k n j N el r ej eb hk g =
+      let e : storeBy φ B p ≡ storeBy φ (next W) p = ap (λ (S : Side). storeBy φ S p) eb in
+      let d : B .length ≡ next W .length = ap (λ (S : Side). S .length) eb in
+      record {
+        room = omega (arith, e, ap (storeBy φ W) el, store-next R W p, r .room);
+        wide = omega (arith, d, next-le W, r .wide);
+        rows = hk;
+        deep = omega (arith, r .deep);
+      }
 
   -- ---- what a step leaves
   pub left-still : (l : ℕ) (w : Side) (o : Out) (r : Wait) (x : Memory) → r ≡ noWait → o ≡ still x → Left φ l w o r x

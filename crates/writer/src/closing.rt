@@ -108,6 +108,7 @@ pub fn shut(
         return o;
     }
     let a = cascade::stretch(filter, w, x);
+    let ahead = figures::look_ahead(filter);
     let r = shut(
         filter,
         &mut store[a..],
@@ -115,11 +116,11 @@ pub fn shut(
         sizes::low_count(x, w),
         sizes::next_start(x),
         sizes::next_start(y),
-        counts::closed_below(filter, c),
+        counts::minus(c, ahead),
         sizes::low_count(y, m),
     );
     Closure {
-        closed: figures::look_ahead(filter) + r.closed,
+        closed: ahead + r.closed,
         wait: waits::seen_from(1, a, r.wait),
     }
 }

@@ -29,7 +29,7 @@ pub fn waiting(s: Writer, q: Level) -> Spot
     requires { ⌜ Walk (s .levels) (columnsOf s) (s .level) (s .rows) × Placed s × Reached s q ⌝ }
     ensures { λ r. ⌜ Found (s .filter) (s .levels) (columnsOf s) (waitingRow s) r ⌝ }
 {
-    let i = counts::prev(s.left);
+    let i = counts::minus(s.left, 1);
     let band = counts::code(i);
     Spot {
         level: s.level,
@@ -45,7 +45,7 @@ pub fn looked(s: Writer, q: Level) -> BandRow
     requires { ⌜ Walk (s .levels) (columnsOf s) (s .level) (s .rows) × Placed s × Reached s q ⌝ }
     ensures { λ r. ⌜ r ≡ bandRow (waitingRow s) ⌝ }
 {
-    let i = counts::prev(s.left);
+    let i = counts::minus(s.left, 1);
     let band = counts::code(i);
     BandRow {
         level: s.level,
@@ -60,7 +60,7 @@ pub fn pull(s: Writer, q: Level, store: &mut [i32]) -> Wait
     requires { ⌜ Drawable s (length (now store)) × Reached s q ⌝ }
     ensures { λ r. ⌜ Left (s .filter) (s .levels) (columnsOf s) (pulled s (at (now (store .entry)))) r (at (now (store .exit))) ⌝ }
 {
-    let i = counts::next_band(q.width, q.x, q.rows, q.y, q.set, counts::prev(s.left));
+    let i = counts::next_band(q.width, q.x, q.rows, q.y, q.set, counts::minus(s.left, 1));
     let a = s.offset;
     if 0 < i {
         return Wait {

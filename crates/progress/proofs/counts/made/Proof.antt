@@ -1,10 +1,9 @@
 -- `counts::made` meets its contract. Assumes nothing.
+use mathlib.Core.Path.{refl}
+use Prim.Native.Nat.{_+_}
 use native.Mathlib.Omega.{arith}
 use Rattle.nine_seven.specs.Filters.{filterOf}
-use Rattle.level.proofs.Places.{prev-is}
-use Rattle.figures.proofs.FigureLaws.{ahead-few}
-use Rattle.filters.proofs.ForwardLaws.{laws-of}
-use Rattle.progress.proofs.CountLaws.{made-is, made-shut}
+use Rattle.progress.proofs.CountLaws.{ahead-some, made-all, made-few, made-some}
 use Rattle.progress.proofs.counts.made.Statement.{statement}
 use Rattle.progress.proofs.counts.made.Tie as tie
 
@@ -23,45 +22,36 @@ add-all-3 c = omega arith
 returns : tie.Need-returns
 returns c =
     let a = c .before .before .args in
-    let h = c .before .look-ahead .ensures in
-    omega (arith, h, made-shut (filterOf (a .filter) .ahead) (a .c) (a .y) (a .m) (laws-of (a .filter) .ahead-some) (omega (arith, h)))
+    made-all (filterOf (a .filter) .ahead) (a .c) (a .y) (a .m) _ (ahead-some (a .filter)) refl (omega (arith, c .before .look-ahead .ensures))
 
-prev-requires : tie.Need-prev-requires
-prev-requires c κs = tt
+minus-requires : tie.Need-minus-requires
+minus-requires c κs = tt
+
+add-minus : tie.Need-add-minus
+add-minus c = omega (arith, c .minus .ensures)
+
+add-minus-2 : tie.Need-add-minus-2
+add-minus-2 c = omega (arith, c .minus .ensures)
+
+minus-requires-2 : tie.Need-minus-requires-2
+minus-requires-2 c κs = tt
 
 add-n : tie.Need-add-n
-add-n c = omega (arith, c .prev .ensures, prev-is (c .before .before .before .args .m))
-
-add-n-2 : tie.Need-add-n-2
-add-n-2 c = omega (arith, c .prev .ensures, prev-is (c .before .before .before .args .m))
+add-n c = omega (arith, c .minus2 .ensures)
 
 returns-2 : tie.Need-returns-2
 returns-2 c =
     let l = c .before .before .before .before in
     let a = l .before .args in
-    omega (arith, l .look-ahead .ensures, c .before .before .prev .ensures, prev-is (a .m), made-is (filterOf (a .filter) .ahead) (a .c) (a .y) (a .m))
+    made-few (filterOf (a .filter) .ahead) (a .c) (a .y) (a .m) _ (c .before .minus2 .result + a .c) refl
+    (omega (arith, l .look-ahead .ensures, c .before .minus2 .ensures, c .before .before .minus .ensures)) (omega arith)
 
 returns-3 : tie.Need-returns-3
 returns-3 c =
     let l = c .before .before .before .before in
     let a = l .before .args in
-    omega (arith, l .look-ahead .ensures, c .before .before .prev .ensures, prev-is (a .m), made-is (filterOf (a .filter) .ahead) (a .c) (a .y) (a .m))
-
-add-result : tie.Need-add-result
-add-result c =
-    let l = c .before .before .before in
-    omega (arith, l .look-ahead .ensures, ahead-few (l .before .args .filter), c .before .prev .ensures, prev-is (l .before .args .m))
-
-returns-4 : tie.Need-returns-4
-returns-4 c =
-    let a = c .before .before .before .before .args in
-    omega (
-      arith,
-      c .before .before .before .look-ahead .ensures,
-      c .before .prev .ensures,
-      prev-is (a .m),
-      made-is (filterOf (a .filter) .ahead) (a .c) (a .y) (a .m),
-    )
+    made-some (filterOf (a .filter) .ahead) (a .c) (a .y) (a .m) _ _ refl
+    (omega (arith, l .look-ahead .ensures, c .before .minus2 .ensures, c .before .before .minus .ensures)) (omega arith)
 
 pub made-spec : {M : Type 1} → statement M
 made-spec =
@@ -72,10 +62,10 @@ made-spec =
     add-all-2
     add-all-3
     returns
-    prev-requires
+    minus-requires
+    add-minus
+    add-minus-2
+    minus-requires-2
     add-n
-    add-n-2
     returns-2
-    returns-3
-    add-result
-    returns-4)
+    returns-3)

@@ -1,11 +1,8 @@
 -- `counts::sets_off` meets its contract. Assumes nothing.
-use mathlib.Core.Path.{sym}
 use native.Mathlib.Omega.{arith}
-use borrow.Author.Tests.{lt-ltb, le-ltb}
 use Rattle.nine_seven.specs.Filters.{filterOf}
 use Rattle.figures.proofs.FigureLaws.{ahead-few}
-use Rattle.filters.proofs.ForwardLaws.{laws-of}
-use Rattle.progress.proofs.CountLaws.{off-none, off-early, off-late}
+use Rattle.progress.proofs.CountLaws.{ahead-some, off-none, off-early, off-late}
 use Rattle.progress.proofs.counts.sets_off.Statement.{statement}
 use Rattle.progress.proofs.counts.sets_off.Tie as tie
 
@@ -19,12 +16,12 @@ mul-if2 : tie.Need-mul-if2
 mul-if2 c = omega (arith, c .look-ahead .ensures, ahead-few (c .before .before .args .filter))
 
 sub-if2 : tie.Need-sub-if2
-sub-if2 c = omega (arith, c .look-ahead .ensures, laws-of (c .before .before .args .filter) .ahead-some)
+sub-if2 c = omega (arith, c .look-ahead .ensures, ahead-some (c .before .before .args .filter))
 
 returns-2 : tie.Need-returns-2
 returns-2 c =
     let a = c .before .before .before .args in
-    off-early (filterOf (a .filter) .ahead) (a .l) (a .y) (a .m) (laws-of (a .filter) .ahead-some) (omega (arith, c .before .look-ahead .ensures))
+    off-early (filterOf (a .filter) .ahead) (a .l) (a .y) (a .m) (ahead-some (a .filter)) (omega (arith, c .before .look-ahead .ensures))
 
 returns-3 : tie.Need-returns-3
 returns-3 c =

@@ -1,6 +1,6 @@
 -- `levels::level_of` meets its contract: what is found from the level come to is what is found from the first. Assumes nothing.
-use mathlib.Core.Path.{_≡_, refl, sym, ap, _∙_}
-use Prim.Native.Nat.{ℕ}
+use mathlib.Core.Path.{_≡_, refl, ap, _∙_}
+use Prim.Native.Nat.{_-_}
 use native.Mathlib.Omega.{arith}
 use Rattle.lifting.specs.Grid.{side}
 use Rattle.nine_seven.specs.Filters.{filterOf}
@@ -12,26 +12,30 @@ use Rattle.progress.proofs.levels.level_of.Statement.{statement}
 use Rattle.progress.proofs.levels.level_of.Tie as tie
 
 abbrev Inv-loop : tie.InvT-loop
-Inv-loop filter w x y c v m width₀ column₀ rows₀ row₀ closed₀ k₀ width column rows row closed k =
-    levelAt (filterOf filter .ahead) (side column width) row closed k rows ≡ levelAt (filterOf filter .ahead) (side x w) y c v m
+Inv-loop filter w x y c v m width₀ column₀ rows₀ row₀ closed₀ k₀ a width column rows row closed k =
+    (a ≡ filterOf filter .ahead) ×
+    (levelAt (filterOf filter .ahead) (side column width) row closed k rows ≡ levelAt (filterOf filter .ahead) (side x w) y c v m)
 
 abbrev μ-loop : tie.MeasureT-loop
-μ-loop filter w x y c v m width₀ column₀ rows₀ row₀ closed₀ k₀ width column rows row closed k = k
+μ-loop filter w x y c v m width₀ column₀ rows₀ row₀ closed₀ k₀ a width column rows row closed k = k
+
+look-ahead-requires : tie.Need-look-ahead-requires Inv-loop μ-loop
+look-ahead-requires c κs = tt
 
 loop-holds : tie.Need-loop-holds Inv-loop μ-loop
-loop-holds c = refl
+loop-holds c = (c .look-ahead .ensures, refl)
 
 made-requires : tie.Need-made-requires Inv-loop μ-loop
 made-requires c κs = tt
 
-low-rows-requires : tie.Need-low-rows-requires Inv-loop μ-loop
-low-rows-requires c κs = tt
+minus-requires : tie.Need-minus-requires Inv-loop μ-loop
+minus-requires c κs = tt
 
 next-start-requires : tie.Need-next-start-requires Inv-loop μ-loop
 next-start-requires c κs = tt
 
-closed-below-requires : tie.Need-closed-below-requires Inv-loop μ-loop
-closed-below-requires c κs = tt
+minus-requires-2 : tie.Need-minus-requires-2 Inv-loop μ-loop
+minus-requires-2 c κs = tt
 
 low-count-requires : tie.Need-low-count-requires Inv-loop μ-loop
 low-count-requires c κs = tt
@@ -48,23 +52,24 @@ loop-less c = omega arith
 loop-again : tie.Need-loop-again Inv-loop μ-loop
 loop-again c =
     let e = c .before .before .before .before .before in
-    let l = e .before .before .loop in
-    walk-on _ (side (l .column) (l .width)) (l .row) (l .closed) (l .k) (l .rows) _ _ _ _ (omega arith)
-    (next-is (l .column) (l .width) _ _ (c .next-start2 .ensures) (c .before .low-count .ensures))
-    (start-is (l .row) _ (c .before .before .before .next-start .ensures)) (c .before .before .closed-below .ensures)
-    (c .before .before .before .before .low-rows .ensures ∙ ap (lowRows (l .row)) (e .made .ensures))
-    ∙ l .inv
+    let l = e .before .before .loop in (
+      l .inv .0,
+      walk-on _ (side (l .column) (l .width)) (l .row) (l .closed) (l .k) (l .rows) _ _ _ _ (omega arith)
+          (next-is (l .column) (l .width) _ _ (c .next-start2 .ensures) (c .before .low-count .ensures))
+          (start-is (l .row) _ (c .before .before .before .next-start .ensures)) (c .before .before .minus2 .ensures ∙ ap (λ i. l .closed - i) (l .inv .0))
+          (c .before .before .before .before .minus .ensures ∙ ap (lowRows (l .row)) (e .made .ensures)) ∙ l .inv .1,
+    )
 
 made-requires-2 : tie.Need-made-requires-2 Inv-loop μ-loop
 made-requires-2 c κs = tt
 
-prev-requires : tie.Need-prev-requires Inv-loop μ-loop
-prev-requires c κs = tt
+minus-requires-3 : tie.Need-minus-requires-3 Inv-loop μ-loop
+minus-requires-3 c κs = tt
 
 returns : tie.Need-returns Inv-loop μ-loop
 returns c =
     let l = c .before .before .before .loop in
-    walk-end _ (side (l .column) (l .width)) (l .row) (l .closed) (l .k) (l .rows) _ _ (omega arith) (c .before .made2 .ensures) (c .prev .ensures) ∙ l .inv
+    walk-end _ (side (l .column) (l .width)) (l .row) (l .closed) (l .k) (l .rows) _ _ (omega arith) (c .before .made2 .ensures) (c .minus3 .ensures) ∙ l .inv .1
 
 pub level-of-spec : {M : Type 1} → statement M
 level-of-spec =
@@ -72,16 +77,17 @@ level-of-spec =
     (tie.spec
     Inv-loop
     μ-loop
+    look-ahead-requires
     loop-holds
     made-requires
-    low-rows-requires
+    minus-requires
     next-start-requires
-    closed-below-requires
+    minus-requires-2
     low-count-requires
     next-start-requires-2
     sub-k
     loop-less
     loop-again
     made-requires-2
-    prev-requires
+    minus-requires-3
     returns)

@@ -65,10 +65,10 @@ draw-on-requires c κs =
     (d, reached (a .self .filter) _ _ _ _ _ _ _ (d .walk) (c .before .before .before .before .before .before .before .before .level-of .ensures))
 
 same-length : tie.Need-same-length
-same-length c = search needs
+same-length c = c .before .draw-on .kept .1 .1 .0
 
 same-length-2 : tie.Need-same-length-2
-same-length-2 c = search needs
+same-length-2 c = c .before .before .before .before .hand-out .kept .1 .1 .1 .0
 
 returns-4 : tie.Need-returns-4
 unfolding rest

@@ -1,7 +1,6 @@
 -- `Writer::finish` meets its contract. Assumes nothing.
 use mathlib.Core.Path.{_≡_}
 use native.Mathlib.Omega.{arith}
-use borrow.Author.Needs.{needs}
 use lib.ListN.{length}
 use Rattle.wavelet.proofs.LimitLaws.{width-small, height-small}
 use Rattle.writer.specs.Questions.{finishQuestion}
@@ -11,7 +10,7 @@ use Rattle.writer.proofs.Writer.finish.Statement.{statement}
 use Rattle.writer.proofs.Writer.finish.Tie as tie
 
 finish-question-requires : tie.Need-finish-question-requires
-finish-question-requires c κs = search needs
+finish-question-requires c κs = tt
 
 returns : tie.Need-returns
 returns c = let t = finish-no _ _ _ _ (c .before .finish-question .ensures) (omega arith) in (t .0, (t .1, finish-kept _ _ _ _ _ (t .0) (t .1)))
@@ -24,7 +23,7 @@ shut-requires c κs =
     omega (arith, width-small, height-small)
 
 same-length : tie.Need-same-length
-same-length c = search needs
+same-length c = c .before .shut .kept .1 .0
 
 returns-2 : tie.Need-returns-2
 returns-2 c =

@@ -19,7 +19,7 @@ use Rattle.filters.proofs.ForwardLaws.{level-done, next-done}
 use Rattle.figures.specs.Figures.{storeBy}
 use Rattle.progress.specs.Counts.{skip}
 use Rattle.progress.proofs.CountLaws.{completes-set, next-is, start-is}
-use Rattle.writer.proofs.CascadeLaws.{left-still, goes, arrive-still, sets-off, came-waits, came-last, came-goes}
+use Rattle.writer.proofs.CascadeLaws.{room-below, left-still, goes, arrive-still, sets-off, came-waits, came-last, came-goes}
 use Rattle.writer.proofs.cascade.arrive.Reads as arrive
 use Rattle.writer.proofs.cascade.arrive.Kinds as arrive-kinds
 use Rattle.writer.proofs.cascade.+arrive.Lts-arrive as arrive-lts
@@ -123,7 +123,7 @@ arrive-next-band-requires : (t : ℕ) → arrive-lts.Need-next-band-requires (cl
 arrive-next-band-requires t c κs = tt
 
 arrive-same-length : (t : ℕ) → arrive-lts.Need-same-length (claims t) (arrive-at t) arrive.Post
-arrive-same-length t c = search needs
+arrive-same-length t c = c .before .before .before .before .make .kept .1 .0
 
 arrive-returns-2 : (t : ℕ) → arrive-lts.Need-returns-2 (claims t) (arrive-at t) arrive.Post
 arrive-returns-2 t c =
@@ -154,7 +154,7 @@ arrive-nothing-requires-2 : (t : ℕ) → arrive-lts.Need-nothing-requires-2 (cl
 arrive-nothing-requires-2 t c κs = tt
 
 arrive-same-length-2 : (t : ℕ) → arrive-lts.Need-same-length-2 (claims t) (arrive-at t) arrive.Post
-arrive-same-length-2 t c = search needs
+arrive-same-length-2 t c = c .before .before .before .before .before .before .before .make .kept .1 .0
 
 arrive-returns-3 : (t : ℕ) → arrive-lts.Need-returns-3 (claims t) (arrive-at t) arrive.Post
 arrive-returns-3 t c =
@@ -216,7 +216,7 @@ arrive-part-arrive-start t c =
     omega (arith, e, store-back (filterOf (a .filter) .rows) (side (a .x) (a .w)) (a .l) (off .0))
 
 arrive-part-arrive-end : (t : ℕ) → arrive-lts.Need-part-arrive-end (claims t) (arrive-at t) arrive.Post
-arrive-part-arrive-end t c = search needs
+arrive-part-arrive-end t c = omega arith
 
 arrive-sub-arrive-2 : (t : ℕ) → arrive-lts.Need-sub-arrive-2 (claims t) (arrive-at t) arrive.Post
 arrive-sub-arrive-2 t c =
@@ -236,20 +236,11 @@ arrive-arrive-requires t c κs =
     let start = st .before .before .before .before .before .before .before .before .before .before .before .before .before .before .before .before in
     let sure = st .before .before .before .before .before .before .before .before .before .before .before .before .before .before in
     let a = start .args in
-    let off = sets-off (a .filter) (a .l) (a .y) (a .m) _ (sure .before .sets-off .ensures) (sure .if1 .left) in
-    let e : st .stretch .result ≡ filterOf (a .filter) .rows * a .w = st .stretch .ensures in
-    let v = next-is (a .x) (a .w) _ _ (c .next-start2 .ensures) (c .before .low-count .ensures) in
-    omega (
-      arith,
-      start .pre,
-      off .0,
-      st .before .before .deliver,
-      st .before .before .before .before .before .before .before .before .before .before .before .make,
-      e,
-      store-back (filterOf (a .filter) .rows) (side (a .x) (a .w)) (a .l) (off .0),
-      count-lo (side (a .x) (a .w)),
-      c .before .low-count .ensures,
-      ap (λ (S : Side). storeBy (a .filter) S (a .l - 1)) v,
+    let off = sets-off (a .filter) (a .l) (a .y) (a .m) _ (sure .before .sets-off .ensures) (sure .if1 .left) in (
+      omega (arith, start .pre .0, off .0),
+      room-below (a .filter) (a .l) (a .l - 1) (side (a .x) (a .w)) _ (a .m) _ (length (a .store .now)) (st .stretch .result) _ (omega (arith, off .0)) (start .pre .1)
+          (st .stretch .ensures) (next-is (a .x) (a .w) _ _ (c .next-start2 .ensures) (c .before .low-count .ensures)) (omega (arith, start .pre .1 .rows))
+          (omega (arith, st .before .before .deliver, st .before .before .before .before .before .before .before .before .before .before .before .make)),
     )
 
 arrive-seen-from-requires : (t : ℕ) → arrive-lts.Need-seen-from-requires (claims t) (arrive-at t) arrive.Post

@@ -15,7 +15,7 @@ use Rattle.figures.proofs.FigureLaws.{row-few}
 use Rattle.filters.proofs.ForwardLaws.{next-done}
 use Rattle.level.proofs.RestLaws.{at-rest, at-join}
 use Rattle.progress.proofs.CountLaws.{next-is, start-is}
-use Rattle.writer.proofs.CascadeLaws.{left-still, goes, pass-none, passed-goes}
+use Rattle.writer.proofs.CascadeLaws.{room-below, left-still, goes, pass-none, passed-goes}
 use borrow.Author.Needs.{needs}
 use Rattle.writer.proofs.cascade.pass_on.Statement.{statement}
 use Rattle.writer.proofs.cascade.pass_on.Tie as tie
@@ -68,7 +68,7 @@ part-arrive-start c =
     omega (arith, e, store-next (filterOf (a .filter) .rows) (side (a .x) (a .w)) (a .l))
 
 part-arrive-end : tie.Need-part-arrive-end
-part-arrive-end c = search needs
+part-arrive-end c = omega arith
 
 low-count-requires : tie.Need-low-count-requires
 low-count-requires c κs = tt
@@ -79,18 +79,11 @@ next-start-requires-2 c κs = tt
 arrive-requires : tie.Need-arrive-requires
 arrive-requires c κs =
     let st = c .before .before .before in
-    let a = st .before .before .before .before .before .before .before .args in
-    let e : st .stretch .result ≡ filterOf (a .filter) .rows * a .w = st .stretch .ensures in
-    let v = next-is (a .x) (a .w) _ _ (c .next-start2 .ensures) (c .before .low-count .ensures) in
-    omega (
-      arith,
-      e,
-      store-next (filterOf (a .filter) .rows) (side (a .x) (a .w)) (a .l),
-      count-lo (side (a .x) (a .w)),
-      c .before .low-count .ensures,
-      ap
-          (λ (S : Side). storeBy (a .filter) S (a .l)) v,
-    )
+    let start = st .before .before .before .before .before .before .before in
+    let a = start .args in
+    room-below (a .filter) (a .l + 1) (a .l) (side (a .x) (a .w)) _ (a .n) _ (length (a .store .now)) (st .stretch .result) _ refl (start .pre)
+    (st .stretch .ensures) (next-is (a .x) (a .w) _ _ (c .next-start2 .ensures) (c .before .low-count .ensures)) (omega (arith, start .pre .rows))
+    (omega (arith, st .before .before .deliver))
 
 seen-from-requires : tie.Need-seen-from-requires
 seen-from-requires c κs = tt

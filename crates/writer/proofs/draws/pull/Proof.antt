@@ -1,14 +1,16 @@
 -- `draws::pull` meets its contract: from the offset on, the next band of the set, or its LL row gone on. Assumes nothing.
+use mathlib.Core.Path.{sym, _∙_}
 use native.Mathlib.Omega.{arith}
 use Rattle.numbers.specs.Signal.{at}
 use Rattle.level.proofs.RestLaws.{at-rest, at-join}
+use Rattle.level.proofs.Places.{prev-is}
 use Rattle.writer.proofs.DrawLaws.{pull-waits, pull-goes}
 use borrow.Author.Needs.{needs}
 use Rattle.writer.proofs.draws.pull.Statement.{statement}
 use Rattle.writer.proofs.draws.pull.Tie as tie
 
-prev-requires : tie.Need-prev-requires
-prev-requires c κs = tt
+minus-requires : tie.Need-minus-requires
+minus-requires c κs = tt
 
 next-band-requires : tie.Need-next-band-requires
 next-band-requires c κs = tt
@@ -18,7 +20,7 @@ returns c =
     let b = c .before in
     let d = b .before .before in
     let a = d .args in
-    pull-waits (a .s) (a .q) (d .pre .1) (d .pre .0 .placed) (at (a .store .now)) _ _ (b .before .prev .ensures) (b .next-band .ensures) (omega arith)
+    pull-waits (a .s) (a .q) (d .pre .1) (d .pre .0 .placed) (at (a .store .now)) _ _ (b .before .minus .ensures ∙ sym (prev-is _)) (b .next-band .ensures) (omega arith)
     (omega arith)
 
 sub-below : tie.Need-sub-below
@@ -59,7 +61,7 @@ returns-2 c =
     let a = d .args in
     let l = a .store .now in
     let e = d .pre in
-    pull-goes (a .s) (a .q) (e .1) (e .0 .placed) (at l) _ _ (b .before .prev .ensures) (b .next-band .ensures)
+    pull-goes (a .s) (a .q) (e .1) (e .0 .placed) (at l) _ _ (b .before .minus .ensures ∙ sym (prev-is _)) (b .next-band .ensures)
     _ _ (at (p .pass-on .last .1 .0)) _ (e .0 .walk) (omega arith) (rw (at-rest (a .s .offset) l) at (p .pass-on .ensures))
     (at-join (a .s .offset) l (p .pass-on .last .1 .0) (omega (arith, e .1 .room, e .0 .placed))) (c .seen-from .ensures)
 
@@ -67,7 +69,7 @@ pub pull-spec : {M : Type 1} → statement M
 pull-spec =
     tie.close
     (tie.spec
-    prev-requires
+    minus-requires
     next-band-requires
     returns
     sub-below
