@@ -3,7 +3,7 @@ use mathlib.Core.Path.{_≡_, refl, sym, ap, ap₂, subst, _∙_}
 use mathlib.Core.Bool.{Bool, true, false, _||_}
 use Prim.Native.Nat.{ℕ, zero, suc, _+_, _-_, _*_, _/_, _%_, min, _≤_, _<_, _^_}
 use native.Mathlib.Omega.{arith}
-use lib.Dec.{T, ltb, eqb}
+use lib.Dec.{T, leb, ltb, eqb}
 use borrow.Author.Tests.{eqb-true, eqb-false}
 use Rattle.numbers.specs.Signal.{both}
 use Rattle.lifting.specs.Line.{lo, hi}
@@ -18,6 +18,7 @@ use Rattle.level.specs.Slots.{rowOfSet, halfPlace}
 use Rattle.reader_steps.specs.Sets.{ahead, rowTo, firstRow}
 use Rattle.reader_steps.specs.Asked.{named}
 use Rattle.reader_steps.specs.Places.{hasCells}
+use Rattle.reader.specs.Store.{hasSet}
 use Rattle.reader_steps.proofs.OpenedSets.{looks}
 use Rattle.reader_steps.proofs.CellLaws.{Empty, wide, high, empty-not, cells-yes}
 
@@ -45,6 +46,15 @@ set-later f S r a b p ea eb =
 pub before-later : (f : ℕ) (S : Side) (r n : ℕ) → 0 < r → n ≡ setOf (ahead f) S (r - 1) → n + 1 ≡ setsBefore (ahead f) S r
 before-later f S zero n p e = absurd (omega arith)
 before-later f S (suc r) n p e = let z : suc r - 1 ≡ r = omega arith in ap (λ i. i + 1) (e ∙ ap (setOf (ahead f) S) z) ∙ sym (before-suc (ahead f) S r)
+
+-- ---- whether a level has a set
+pub there-none : (W H : Side) (n : ℕ) → Empty W H → false ≡ hasSet W H n
+unfolding hasSet
+there-none W H n e = sym (ap (λ (t : Bool). both t (leb n (lastSet H))) (empty-not W H e))
+
+pub there-some : (W H : Side) (n m : ℕ) → 0 < W .length → 0 < H .length → m ≡ lastSet H → leb n m ≡ hasSet W H n
+unfolding hasSet
+there-some W H n m w h e = ap (leb n) e ∙ sym (ap (λ (t : Bool). both t (leb n (lastSet H))) (cells-yes W H w h))
 
 -- ---- whether a row needs a set that no row before it needs
 pub down-none : (f : ℕ) (W H : Side) (r : ℕ) → Empty W H → false ≡ both (hasCells W H) (opens (ahead f) H r)
