@@ -10,7 +10,7 @@ use native.Mathlib.Nat.{mul-zero}
 use lib.IntN.{ℤ, pos}
 use lib.Dec.{eqb, leb}
 use lib.ListN.{length, List·getD-eq-default}
-use borrow.Author.Tests.{lt-ltb, le-ltb, eq-eqb, ne-eqb, leb-true}
+use borrow.Author.Tests.{lt-ltb, le-ltb, eq-eqb, ne-eqb, leb-true, le-leb}
 use mir.Syntax.{w64}
 use mir.Val.{Fits}
 use borrow.Rule.Slice.PartMut.{midOf, putMid}
@@ -116,7 +116,7 @@ pub level-high : (f : ℕ) (W H : Side) (d k : ℕ) (l : Level) → IsLevel f W 
 level-high f W H d k l is = ap₂ side (is .y) (is .height)
 
 -- ---- a band row put
-pub put-is : (f : ℕ) (W H : Side) (d k c : ℕ) (l : Level) (a p m : ℕ) (v : List ℤ) (s ys : List ℤ) → IsLevel f W H d k l →
+put-is : (f : ℕ) (W H : Side) (d k c : ℕ) (l : Level) (a p m : ℕ) (v : List ℤ) (s ys : List ℤ) → IsLevel f W H d k l →
     p ≡ rowPlaceOf f (l .width) (rowOfSet (down (named c)) (l .set)) + halfPlace (across (named c)) (side (l .x) (l .width)) → a ≡ l .start + p → m ≡ length v →
     length v ≡ count (across (named c)) (sideAt k W) → a + m ≤ length s → length ys ≡ m → at ys ≡ fronted (length v) (at v) (at (midOf a m s)) →
     at (putMid a m s ys) ≡ fedAt f W H k (l .set) c (at v) (at s)
@@ -198,7 +198,7 @@ module _ (f : ℕ) (W H : Side) (d k : ℕ) (l : Level) (is : IsLevel f W H d k 
       l .start + (filterOf f .rows * l .width + filterOf f .rows * pick (eqb (k + 1) L) 0 (count lo (side (l .x) (l .width)))) ≤ storeBy f W L
   work-room L h = rw (is .start, is .width, is .x, ← stretch-is f W L) (stretch-room f W k L h)
 
-  pub put-room : (c p n : ℕ) → p ≡ rowPlaceOf f (l .width) (rowOfSet (down (named c)) (l .set)) + halfPlace (across (named c)) (side (l .x) (l .width)) →
+  put-room : (c p n : ℕ) → p ≡ rowPlaceOf f (l .width) (rowOfSet (down (named c)) (l .set)) + halfPlace (across (named c)) (side (l .x) (l .width)) →
       n ≡ count (across (named c)) (sideAt k W) → l .start + p + n ≤ storeBy f W (k + 1)
   put-room c p n ep en =
       let S = side (l .x) (l .width) in
@@ -206,6 +206,35 @@ module _ (f : ℕ) (W H : Side) (d k : ℕ) (l : Level) (is : IsLevel f W H d k 
       let half = half-end (across (named c)) S in
       let columns : n ≡ count (across (named c)) S = en ∙ ap (count (across (named c))) (sym (level-wide f W H d k l is)) in
       rw (← stretch-is f W (k + 1), add-one k, stretch-suc f W k, ← is .width) (omega (arith, is .start, place-room f (l .width) r))
+
+  -- ---- a band row put at its place p of its level's stretch, in a store of m numbers
+  pub put-places : (c p n m : ℕ) → W .length ≤ 2 ^ 16 → k < maxLevels →
+      p ≡ rowPlaceOf f (l .width) (rowOfSet (down (named c)) (l .set)) + halfPlace (across (named c)) (side (l .x) (l .width)) →
+      n ≡ count (across (named c)) (sideAt k W) → storeBy f W (k + 1) ≤ m →
+      Fits w64 (l .start + p) × Fits w64 (l .start + p + n) × Fits w64 ((l .start + p) * 4) × (l .start + p ≤ l .start + p + n) × (l .start + p + n ≤ m)
+  unfolding maxLevels
+  put-places c p n m wide deep ep en enough =
+      let room = put-room c p n ep en in
+      let all = stretch-is f W (k + 1) in
+      let small = stretch-small f W (k + 1) wide in
+      (omega arith, omega arith, omega arith, omega arith, omega arith)
+
+  pub put-done : (c p : ℕ) (v s ys : List ℤ) → W .length ≤ 2 ^ 16 → k < maxLevels →
+      p ≡ rowPlaceOf f (l .width) (rowOfSet (down (named c)) (l .set)) + halfPlace (across (named c)) (side (l .x) (l .width)) →
+      length v ≡ count (across (named c)) (sideAt k W) → storeBy f W (k + 1) ≤ length s →
+      length ys ≡ length (midOf (l .start + p) (l .start + p + length v - (l .start + p)) s) →
+      at ys ≡ pick (leb (length v) (length (midOf (l .start + p) (l .start + p + length v - (l .start + p)) s)))
+      (fronted (length v) (at v) (at (midOf (l .start + p) (l .start + p + length v - (l .start + p)) s)))
+      (at (midOf (l .start + p) (l .start + p + length v - (l .start + p)) s)) →
+      at (putMid (l .start + p) (l .start + p + length v - (l .start + p)) s ys) ≡ fedAt f W H k (l .set) c (at v) (at s)
+  put-done c p v s ys wide deep ep en enough same made =
+      let a = l .start + p in
+      let m = a + length v - a in
+      let size : m ≡ length v = omega arith in
+      let room : a + m ≤ length s = omega (arith, put-places c p (length v) (length s) wide deep ep en enough .4) in
+      let long = length-mid a m s room in
+      let enough = le-leb (length v) (length (midOf a m s)) (omega arith) in
+      put-is f W H d k c l a p m v s ys is ep refl size en room (same ∙ long) (did _ _ _ _ enough made)
 
 -- ---- a set worked out in the rest of the store from its level's stretch on: the places, and what is left
 module _ (f : ℕ) (W H : Side) (L d k : ℕ) (l : Level) (s : List ℤ) (is : IsLevel f W H d k l) (small : (W .length ≤ 2 ^ 16) × (H .length < 2 ^ 32))
