@@ -252,7 +252,7 @@ pub fn put_row(
     copies::copy(run, &mut store[a..e]);
 }
 
-// The set of l, level k + 1, worked out in the level's own stretch; an empty level has none.
+// The set of l, level k + 1, worked out in the level's own stretch, if the level has it.
 pub fn work_at(
     filter: usize,
     x: usize,
@@ -272,10 +272,7 @@ pub fn work_at(
         workedAt filter (side x width) (side y height) levels k (l .set) (at (now (store .entry))) ⌝ }
     ensures { λ _. ⌜ Kept (storeBy filter (side x width) levels) (at (now (store .entry))) (at (now (store .exit))) ⌝ }
 {
-    if (l.width == 0) | (l.height == 0) {
-        return true;
-    }
-    if sets::last_set(l.y, l.height) < l.set {
+    if !sets::is_there(l.width, l.y, l.height, l.set) {
         return true;
     }
     let a = l.start;
