@@ -19,6 +19,21 @@ use Rattle.lifting.specs.Pairs.{pairUnlifted, pairWithin, changedAt, unl
 use Rattle.lifting.specs.Ranges.{within}
 use Rattle.lifting.proofs.ColumnLaws.{columns-apart, column-more, column-swap, row-none}
 
+-- ---- the test
+both-is : (a b : Bool) → a && b ≡ both a b
+both-is true b = refl
+both-is false b = refl
+
+pub within-is : (lo hi v : ℤ) → leZ lo v && leZ v hi ≡ within lo hi v
+unfolding within
+within-is lo hi v = both-is (leZ lo v) (leZ v hi)
+
+within-same : (a b v c d u : ℤ) → a ≡ c → b ≡ d → v ≡ u → within a b v ≡ within c d u
+within-same a b v c d u ea eb ev = cc
+
+pub pair-is : (a b p q : Bool) → a ≡ p → b ≡ q → a && b ≡ both p q
+pair-is a b p q e f = both-is a b ∙ cc (e, f)
+
 -- ---- the stores of one column, s and v being what is stored and d the high number as it was
 module _ (m : List ℤ) (h l r b : ℕ) (s v d : ℤ) (ih : h < length m) (il : l < length m) (other : l ≡ h → ⊥)
     (ed : d ≡ at m h)
@@ -36,11 +51,19 @@ module _ (m : List ℤ) (h l r b : ℕ) (s v d : ℤ) (ih : h < length m) (il : 
       ∙ ap (λ (y : ℤ). stored h y (at (set m l s))) u
       ∙ ap (changedAt (unpredicted wrap32) h b l) low-stored
 
-  pub low-stays : at (set (set m l s) h v) l ≡ s
+  low-stays : at (set (set m l s) h v) l ≡ s
   low-stays = getD-set-other (set m l s) h l v (pos 0) other ∙ getD-set-same m l s (pos 0) il
 
-  pub high-stays : at (set (set m l s) h v) h ≡ v
+  high-stays : at (set (set m l s) h v) h ≡ v
   high-stays = let n = length-set m l s in getD-set-same (set m l s) h v (pos 0) (omega arith)
+
+  -- the test of both, by bounds read back
+  pub back-tested : (p q : Bool) (least most low high : ℤ) → low ≡ least → high ≡ most → p ≡ within low high s → q ≡ within low high v
+      → p && q ≡ both (within least most (at (set (set m l s) h v) l)) (within least most (at (set (set m l s) h v) h))
+  back-tested p q least most low high el em ep eq =
+      let end = set (set m l s) h v in
+      pair-is p q (within least most (at end l)) (within least most (at end h)) (ep ∙ within-same low high s least most (at end l) el em (sym low-stays))
+      (eq ∙ within-same low high v least most (at end h) el em (sym high-stays))
 
 -- ---- one column more
 module _ (s h l r b i : ℕ) (x : ℕ → ℤ) (g : i < s) where
@@ -60,18 +83,7 @@ pub unlifted-none : (s h l r b : ℕ) (x : ℕ → ℤ) → pairUnlifted s 0 h l
 unfolding pairUnlifted
 unlifted-none s h l r b x = row-none _ s h b l _ ∙ row-none _ s l h r x
 
--- ---- the test
-both-is : (a b : Bool) → a && b ≡ both a b
-both-is true b = refl
-both-is false b = refl
-
-pub within-is : (lo hi v : ℤ) → leZ lo v && leZ v hi ≡ within lo hi v
-unfolding within
-within-is lo hi v = both-is (leZ lo v) (leZ v hi)
-
-pub pair-is : (a b p q : Bool) → a ≡ p → b ≡ q → a && b ≡ both p q
-pair-is a b p q e f = both-is a b ∙ cc (e, f)
-
+-- ---- the test, gathered
 pub within-none : (lo hi : ℤ) (s h l : ℕ) (x : ℕ → ℤ) → true ≡ pairWithin lo hi s 0 h l x
 unfolding pairWithin every
 within-none lo hi s h l x = refl

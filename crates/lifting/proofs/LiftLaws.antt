@@ -1,7 +1,7 @@
 -- A row in halves lifted back, its high half read from another row: a turn of each of the two loops, and what both come to. Assumes nothing.
 use mathlib.Core.Path.{_≡_, refl, sym, ap, _∙_, fun-ext}
 use mathlib.Core.List.{List}
-use Prim.Native.Nat.{ℕ, _+_, _-_, _*_, _≤_, _<_, min}
+use Prim.Native.Nat.{ℕ, _+_, _-_, _*_, _%_, _≤_, _<_, min}
 use native.Mathlib.Decide.{decLt}
 use native.Mathlib.Omega.{arith}
 use lib.IntN.{ℤ, pos}
@@ -198,13 +198,12 @@ module _ (f : ℤ → ℤ → ℤ → ℤ) (l m₀ : List ℤ) (low o end n : �
       → at m ≡ highsBack f o low l (at m₁)
   high-done m₁ size k s = finish (h .swept (at m₁) s) (λ j le. high-past f o low l (at m₁) m₁ j refl size (omega arith) (omega arith))
 
--- ---- both
-pub back-are : (S : Side) (y z o : ℕ → ℤ) → 1 < S .length
-    → o ≡ lowsOf (count lo S) z (lowsChanged (unupdated wrap32) (ahead S hi) (count lo S) (S .length) (lowsOf (count lo S) y z))
-    → highsChanged (unpredicted wrap32) (ahead S lo) (count lo S) (S .length) (lowsOf (count lo S) y o) ≡ unliftedInPlace S (highsLaid S y z)
-back-are S y z o more e =
+-- ---- both: o what the first leaves, and q what the second does
+pub back-are : (S : Side) (low : ℕ) (y z o q : ℕ → ℤ) → 1 < S .length → low ≡ count lo S
+    → o ≡ lowsOf low z (lowsChanged (unupdated wrap32) (S .start % 2) low (S .length) (lowsOf low y z))
+    → q ≡ highsChanged (unpredicted wrap32) (1 - S .start % 2) low (S .length) (lowsOf low y o) → q ≡ unliftedInPlace S (highsLaid S y z)
+back-are S low y z o q more lows e is =
     let N = S .length in
-    let low = count lo S in
     let u = lowsOf low y z in
     let L = lowsChanged (unupdated wrap32) (ahead S hi) low N u in
     let same : lowsOf low y o ≡ L =
@@ -213,7 +212,7 @@ back-are S y z o more e =
       | yes b ↦ of-low low y o j b ∙ ap (λ (v : ℕ → ℤ). v j) e ∙ of-low low z L j b
       | no b ↦ of-high low y o j (omega arith) ∙ sym (lows-past (unupdated wrap32) (ahead S hi) low N u j (omega arith) ∙ of-high low y z j (omega arith))
     ] in
-    ap (highsChanged (unpredicted wrap32) (ahead S lo) low N) same ∙ sym (unlifted-is S u more) ∙ ap (unliftedInPlace S) (sym (laid-is S y z))
+    is ∙ cc (same, lows, unlifted-is S u more, laid-is S y z)
 
 -- ---- at the front of an area
 front-is : (N : ℕ) (u z : ℕ → ℤ) → fronted N u z ≡ spliced 0 N u z

@@ -1,10 +1,9 @@
 -- `lifting::halves::unlift_row` meets its contract: the two passes come to the definition. Assumes nothing.
-use mathlib.Core.Path.{sym, _∙_}
+use mathlib.Core.Path.{refl, sym, _∙_}
 use native.Mathlib.Omega.{arith}
 use lib.ListN.{length}
-use Rattle.numbers.specs.Signal.{at}
 use Rattle.lifting.specs.Grid.{side}
-use Rattle.lifting.proofs.GridLaws.{some, beside-lows, beside-highs}
+use Rattle.lifting.proofs.PassLaws.{lows-beside, highs-beside}
 use Rattle.lifting.proofs.LiftLaws.{back-are}
 use Rattle.lifting.proofs.halves.unlift_row.Statement.{statement}
 use Rattle.lifting.proofs.halves.unlift_row.Tie as tie
@@ -15,11 +14,8 @@ lows-requires c κs = tt
 unlift-lows-requires : tie.Need-unlift-lows-requires
 unlift-lows-requires c κs =
     let a = c .before .before in
-    let S = side (a .args .start) (length (a .args .row .now)) in
-    let s = some S (a .pre .0) in
-    let d = beside-highs S in
-    let e = c .before .lows .ensures in
-    (omega arith, omega arith, omega arith, omega arith, omega arith, a .pre .1)
+    let b = highs-beside (side (a .args .start) (length (a .args .row .now))) _ _ refl (a .pre .0) (c .before .lows .ensures) in
+    (b .0, b .1, b .2, b .3, b .4, a .pre .1)
 
 sub-unlift-highs : tie.Need-sub-unlift-highs
 sub-unlift-highs c = omega arith
@@ -29,11 +25,8 @@ unlift-highs-requires c κs =
     let first = c .before .before in
     let lows = first .before .before in
     let a = lows .before in
-    let S = side (a .args .start) (length (a .args .row .now)) in
-    let s = some S (a .pre .0) in
-    let d = beside-lows S in
-    let e = lows .lows .ensures in
-    (omega arith, omega arith, omega arith, omega arith, omega arith, a .pre .1 ∙ sym (first .unlift-lows .kept .1 .0))
+    let b = lows-beside (side (a .args .start) (length (a .args .row .now))) _ _ refl (a .pre .0) (lows .lows .ensures) in
+    (b .0, b .1, b .2, b .3, b .4, a .pre .1 ∙ sym (first .unlift-lows .kept .1 .0))
 
 same-length : tie.Need-same-length
 same-length c = c .before .unlift-highs .kept .1 .0 ∙ c .before .before .before .before .unlift-lows .kept .1 .0
@@ -43,15 +36,8 @@ returns c =
     let first = c .before .before .before .before in
     let lows = first .before .before in
     let a = lows .before in
-    let l = a .args .row .now in
-    let S = side (a .args .start) (length l) in
-    let e = lows .lows .ensures in
-    cc (
-      e,
-      c .before .unlift-highs .ensures,
-      back-are S (at l) (at (a .args .out .now)) (at (first .unlift-lows .last .1 .0)) (a .pre .0)
-          (cc (e, first .unlift-lows .ensures)),
-    )
+    back-are (side (a .args .start) (length (a .args .row .now))) _ _ _ _ _ (a .pre .0) (lows .lows .ensures) (first .unlift-lows .ensures)
+    (c .before .unlift-highs .ensures)
 
 pub unlift-row-spec : {M : Type 1} → statement M
 unlift-row-spec =

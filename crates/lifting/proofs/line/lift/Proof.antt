@@ -1,11 +1,9 @@
 -- `lifting::line::lift` meets its contract: the two passes come to it; a line of one number or none goes apart. Assumes nothing.
-use mathlib.Core.Path.{_∙_}
+use mathlib.Core.Path.{refl, _∙_}
 use native.Mathlib.Omega.{arith}
 use lib.ListN.{length}
-use Rattle.numbers.specs.Signal.{at}
 use Rattle.lifting.specs.Grid.{side}
-use Rattle.lifting.proofs.GridLaws.{some, beside-lows, beside-highs}
-use Rattle.lifting.proofs.PassLaws.{lifted-is}
+use Rattle.lifting.proofs.PassLaws.{lows-beside, highs-beside, lifted-by}
 use Rattle.lifting.proofs.line.lift.Statement.{statement}
 use Rattle.lifting.proofs.line.lift.Tie as tie
 
@@ -27,22 +25,14 @@ sub-predict-highs c = omega arith
 predict-highs-requires : tie.Need-predict-highs-requires
 predict-highs-requires c κs =
     let a = c .before .before .before .args in
-    let S = side (a .start) (length (a .line .now)) in
-    let s = some S (omega arith) in
-    let d = beside-lows S in
-    let e = c .before .lows .ensures in
-    (omega arith, omega arith, omega arith, omega arith, omega arith)
+    lows-beside (side (a .start) (length (a .line .now))) _ _ refl (c .before .before .if1 .left) (c .before .lows .ensures)
 
 update-lows-requires : tie.Need-update-lows-requires
 update-lows-requires c κs =
     let first = c .before .before in
-    let a = first .before .before .before .before .args in
-    let S = side (a .start) (length (a .line .now)) in
-    let s = some S (omega arith) in
-    let d = beside-highs S in
-    let e = first .before .before .lows .ensures in
-    let k = first .predict-highs .kept .0 in
-    (omega arith, omega arith, omega arith, omega arith, omega arith)
+    let lows = first .before .before in
+    let a = lows .before .before .args in
+    highs-beside (side (a .start) (length (a .line .now))) _ _ (first .predict-highs .kept .0) (lows .before .if1 .left) (lows .lows .ensures)
 
 same-length-2 : tie.Need-same-length-2
 same-length-2 c = c .before .update-lows .kept .0 ∙ c .before .before .before .before .predict-highs .kept .0
@@ -53,8 +43,8 @@ returns-2 c =
     let lows = first .before .before in
     let a = lows .before .before .args in
     let x = a .line .now in
-    let S = side (a .start) (length x) in
-    cc (c .before .update-lows .ensures, first .predict-highs .ensures, first .predict-highs .kept .0, lows .lows .ensures, lifted-is S (at x) (omega arith))
+    let more = lows .before .if1 .left in
+    lifted-by (side (a .start) (length x)) _ x (first .predict-highs .last .0) (c .before .update-lows .last .0) refl (first .predict-highs .kept .0) more (lows .lows .ensures) (first .predict-highs .ensures) (c .before .update-lows .ensures)
 
 pub lift-spec : {M : Type 1} → statement M
 lift-spec =

@@ -2,10 +2,9 @@
 use mathlib.Core.Path.{refl, _∙_}
 use Prim.Native.Nat.{_-_}
 use native.Mathlib.Omega.{arith}
-use Rattle.numbers.specs.Signal.{at}
 use Rattle.numbers.specs.Word.{wrap32}
 use Rattle.lifting.specs.Line.{updated}
-use Rattle.lifting.proofs.PassLaws.{Lows, lows-first, lows-again, lows-last, lows-done, falls}
+use Rattle.lifting.proofs.PassLaws.{Lows, lows-start, lows-places, lows-again, lows-end, lows-last, lows-done, falls}
 use Rattle.lifting.proofs.line.update_lows.Statement.{statement}
 use Rattle.lifting.proofs.line.update_lows.Tie as tie
 
@@ -33,42 +32,29 @@ update-at-requires c κs = let e = c .nearest .ensures in omega arith
 
 loop-holds : tie.Need-loop-holds Inv-loop μ-loop
 loop-holds c =
-    let size = c .before .update-at .kept .0 in
     let entry = c .before .before .before .before in
-    record {
-      some = entry .pre .0;
-      both = omega arith;
-      few = entry .pre .2;
-      least = omega arith;
-      most = omega arith;
-      highs = omega arith;
-      last = refl;
-      begun = omega arith;
-      within = omega arith;
-      size = refl;
-      swept = λ x s. s;
-    }
+    lows-start (updated wrap32) _ _ _ _ (c .before .update-at .kept .0) (entry .pre) (entry .good .0 .1)
 
 add-update-at-2 : tie.Need-add-update-at-2 Inv-loop μ-loop
-add-update-at-2 c = omega arith
+add-update-at-2 c = lows-places (c .before .before .loop .inv) (c .before .loop-test .taken) .0
 
 add-update-at-3 : tie.Need-add-update-at-3 Inv-loop μ-loop
-add-update-at-3 c = omega arith
+add-update-at-3 c = lows-places (c .before .before .loop .inv) (c .before .loop-test .taken) .1
 
 sub-update-at : tie.Need-sub-update-at Inv-loop μ-loop
-sub-update-at c = omega arith
+sub-update-at c = lows-places (c .before .before .loop .inv) (c .before .loop-test .taken) .2
 
 add-update-at-4 : tie.Need-add-update-at-4 Inv-loop μ-loop
-add-update-at-4 c = omega arith
+add-update-at-4 c = lows-places (c .before .before .loop .inv) (c .before .loop-test .taken) .0
 
 add-update-at-5 : tie.Need-add-update-at-5 Inv-loop μ-loop
-add-update-at-5 c = omega arith
+add-update-at-5 c = lows-places (c .before .before .loop .inv) (c .before .loop-test .taken) .1
 
 update-at-requires-2 : tie.Need-update-at-requires-2 Inv-loop μ-loop
-update-at-requires-2 c κs = omega arith
+update-at-requires-2 c κs = lows-places (c .before .before .loop .inv) (c .before .loop-test .taken) .4
 
 add-n : tie.Need-add-n Inv-loop μ-loop
-add-n c = omega arith
+add-n c = lows-places (c .before .before .before .before .loop .inv) (c .before .before .before .loop-test .taken) .3
 
 loop-less : tie.Need-loop-less Inv-loop μ-loop
 loop-less c = falls _ _ (c .before .before .before .loop-test .taken)
@@ -76,22 +62,22 @@ loop-less c = falls _ _ (c .before .before .before .loop-test .taken)
 loop-again : tie.Need-loop-again Inv-loop μ-loop
 loop-again c =
     let head = c .before .before .before .before in
-    lows-again _ _ _ _ _ _ _ _ _ (head .loop .inv) (c .before .before .before .loop-test .taken) (c .before .update-at2 .ensures)
+    lows-again (head .loop .inv) _ (c .before .before .before .loop-test .taken) (c .before .update-at2 .ensures)
 
 add-update-at-6 : tie.Need-add-update-at-6 Inv-loop μ-loop
-add-update-at-6 c = omega arith
+add-update-at-6 c = lows-end (c .before .before .before .loop .inv) (c .before .if1 .taken) .0
 
 sub-update-at-2 : tie.Need-sub-update-at-2 Inv-loop μ-loop
-sub-update-at-2 c = omega arith
+sub-update-at-2 c = lows-end (c .before .before .before .loop .inv) (c .before .if1 .taken) .1
 
 add-update-at-7 : tie.Need-add-update-at-7 Inv-loop μ-loop
-add-update-at-7 c = omega arith
+add-update-at-7 c = lows-end (c .before .before .before .loop .inv) (c .before .if1 .taken) .0
 
 sub-update-at-3 : tie.Need-sub-update-at-3 Inv-loop μ-loop
-sub-update-at-3 c = omega arith
+sub-update-at-3 c = lows-end (c .before .before .before .loop .inv) (c .before .if1 .taken) .1
 
 update-at-requires-3 : tie.Need-update-at-requires-3 Inv-loop μ-loop
-update-at-requires-3 c κs = omega arith
+update-at-requires-3 c κs = lows-end (c .before .before .before .loop .inv) (c .before .if1 .taken) .2
 
 same-length : tie.Need-same-length Inv-loop μ-loop
 same-length c =
@@ -102,11 +88,9 @@ returns : tie.Need-returns Inv-loop μ-loop
 returns c =
     let head = c .before .before .before .before .before in
     let first = head .before .before in
-    let entry = first .before .before .before in
-    rw (← (first .update-at .kept .0))
-    (lows-last _ _ _ _ _ _ _ _ _ (head .loop .inv) (omega arith) (omega arith) (c .before .update-at3 .ensures) (at (entry .args .line .now))
-    (lows-first (updated wrap32) (entry .args .o) (entry .args .low) _ (entry .args .line .now) (first .update-at .last .0) (entry .pre .0) (entry .pre .1)
-    (entry .pre .2) (let e = first .before .nearest .ensures in omega arith) (first .update-at .ensures)))
+    let near = first .before in
+    lows-last (head .loop .inv) (near .before .before .args .line .now) _ (first .update-at .kept .0) (near .nearest .ensures) (first .update-at .ensures) _
+    (c .before .before .before .before .loop-test .left) (c .before .before .before .if1 .taken) (c .before .update-at3 .ensures)
 
 same-length-2 : tie.Need-same-length-2 Inv-loop μ-loop
 same-length-2 c =
@@ -117,11 +101,9 @@ returns-2 : tie.Need-returns-2 Inv-loop μ-loop
 returns-2 c =
     let head = c .before .before in
     let first = head .before .before in
-    let entry = first .before .before .before in
-    rw (← (first .update-at .kept .0))
-    (lows-done (updated wrap32) _ _ _ _ _ _ _ (head .loop .line) (head .loop .inv) (omega arith) (at (entry .args .line .now))
-    (lows-first (updated wrap32) (entry .args .o) (entry .args .low) _ (entry .args .line .now) (first .update-at .last .0) (entry .pre .0) (entry .pre .1)
-    (entry .pre .2) (let e = first .before .nearest .ensures in omega arith) (first .update-at .ensures)))
+    let near = first .before in
+    lows-done (head .loop .inv) (near .before .before .args .line .now) _ (first .update-at .kept .0) (near .nearest .ensures) (first .update-at .ensures)
+    (c .if1 .left)
 
 pub update-lows-spec : {M : Type 1} → statement M
 update-lows-spec =

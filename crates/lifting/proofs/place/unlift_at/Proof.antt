@@ -1,6 +1,5 @@
 -- `lifting::place::unlift_at` meets its contract: what is read and stored are 32-bit numbers read back. Assumes nothing.
-use mathlib.Core.Path.{_≡_, ap, _∙_, sym}
-use native.Mathlib.Omega.{arith}
+use mathlib.Core.Path.{_≡_, _∙_}
 use lib.ListN.{set}
 use borrow.Author.Needs.{needs}
 use mir.Syntax.{w32}
@@ -10,8 +9,7 @@ use Rattle.numbers.specs.Signal.{at}
 use Rattle.numbers.specs.Word.{wrap32}
 use Rattle.numbers.proofs.Words.{read-back}
 use Rattle.lifting.specs.Line.{unpredicted, unupdated}
-use Rattle.lifting.specs.Ranges.{within}
-use Rattle.lifting.proofs.BackLaws.{back-stores, low-stays, high-stays, pair-is}
+use Rattle.lifting.proofs.BackLaws.{back-stores, back-tested}
 use Rattle.lifting.proofs.place.unlift_at.Statement.{statement}
 use Rattle.lifting.proofs.place.unlift_at.Tie as tie
 
@@ -84,15 +82,12 @@ returns c =
     read-back (p .unpredict .result) (p .unpredict .ok)
     ∙ p .unpredict .ensures
     ∙ rw (read-back (at (set m (a .l) s) (a .b)) (p .before .unpredict-arg .given)) in
-    let end = set (set m (a .l) s) (a .h) v in
     let other = first .before .pre .4 in
     let least = toZ-ofZ w32 (a .least) (first .before .fits .least) in
-    let most = toZ-ofZ w32 (a .most) (first .before .fits .most) in
-    let low = low-stays m (a .h) (a .l) (a .r) (a .b) _ _ _ (omega arith) (omega arith) other d es ev in
-    let high = high-stays m (a .h) (a .l) (a .r) (a .b) _ _ _ (omega arith) (omega arith) other d es ev in (
-      pair-is _ _ (within (a .least) (a .most) (at end (a .l))) (within (a .least) (a .most) (at end (a .h)))
-          (c .before .is-within .ensures ∙ cc (low, least, most)) (c .is-within2 .ensures ∙ cc (high, least, most)),
-      back-stores m (a .h) (a .l) (a .r) (a .b) _ _ _ (omega arith) (omega arith) other d es ev,
+    let most = toZ-ofZ w32 (a .most) (first .before .fits .most) in (
+      back-tested m (a .h) (a .l) (a .r) (a .b) s v _ (first .before .pre .0) (first .before .pre .1) other d es ev _ _ (a .least) (a .most) _ _ least most
+          (c .before .is-within .ensures) (c .is-within2 .ensures),
+      back-stores m (a .h) (a .l) (a .r) (a .b) s v _ (first .before .pre .0) (first .before .pre .1) other d es ev,
     )
 
 pub unlift-at-spec : {M : Type 1} → statement M
