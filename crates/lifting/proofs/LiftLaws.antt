@@ -18,7 +18,7 @@ use Rattle.lifting.specs.Halves.{fronted}
 use Rattle.lifting.specs.GridHalves.{unliftedInPlace, highsLaid}
 use Rattle.lifting.specs.Passes.{near, highsChanged, lowsChanged, lowsOf}
 use Rattle.lifting.proofs.GridLaws.{ahead, counts, some, front-in, front-past}
-use Rattle.lifting.proofs.PassLaws.{highs-low, highs-high, highs-past, lows-low, lows-past, unlifted-is}
+use Rattle.lifting.proofs.PassLaws.{highs-low, highs-high, highs-past, lows-low, lows-past, unlifted-is, HighsAt, LowsAt, high-next, low-next}
 
 past-end : (l : List ℤ) (j : ℕ) → length l ≤ j → at l j ≡ pos 0
 past-end l j h = List·getD-eq-default l (pos 0) h
@@ -63,51 +63,46 @@ module _ (f : ℤ → ℤ → ℤ → ℤ) (o low : ℕ) (l : List ℤ) (z : ℕ
   low-past j b = of-high low z _ j b
 
 -- the first is stored before the loop: m is the other row, m₀ the same after it
-pub low-first : (f : ℤ → ℤ → ℤ → ℤ) (o low b : ℕ) (l m m₀ : List ℤ) → 0 < low → low < length l → o ≤ 1 → length l ≡ length m
+low-first : (f : ℤ → ℤ → ℤ → ℤ) (o low b : ℕ) (l m m₀ : List ℤ) → 0 < low → low < length l → o ≤ 1 → length l ≡ length m
     → b ≡ low + near (length l - low) o → m₀ ≡ set m 0 (f (at m 0) (at l low) (at l b)) → Swept (length l) (lowsBack f o low l (at m)) (at m) 1 m₀
 low-first f o low b l m m₀ g room few size e is =
     let sw : Swept (length l) (lowsBack f o low l (at m)) (at m) 0 m = record { size = sym size; done = λ j b. absurd (omega arith); rest = λ j b. refl } in
     rw is (low-turn f o low l (at m) 0 low b m room g (omega arith) (omega arith) sw)
 
 pub record LowsBy (f : ℤ → ℤ → ℤ → ℤ) (l m₀ : List ℤ) (low o high end n : ℕ) (m : List ℤ) : Type 0 where
-  pub some : 0 < low
-  pub both : low < length l
-  pub few : o ≤ 1
-  pub least : length l ≤ low + low + o
-  pub most : low + low + o ≤ length l + 1
-  pub highs : high ≡ length l - low
-  pub last : end ≡ high - o
-  pub begun : 1 ≤ n
-  pub within : n ≤ high
+  pub places : LowsAt (length l) low o high end n
   pub size : length m ≡ length l
   pub swept : (z : ℕ → ℤ) → Swept (length l) (lowsBack f o low l z) z 1 m₀ → Swept (length l) (lowsBack f o low l z) z n m
 
-module _ (f : ℤ → ℤ → ℤ → ℤ) (l m₀ : List ℤ) (low o high end n : ℕ) (m m′ : List ℤ) (h : LowsBy f l m₀ low o high end n m) where
-  pub low-again : n < end → m′ ≡ set m n (f (at m n) (at l (low + n + o - 1)) (at l (low + n + o))) → LowsBy f l m₀ low o high end (n + 1) m′
-  low-again b is =
+module _ {f : ℤ → ℤ → ℤ → ℤ} {l m₀ : List ℤ} {low o high end n : ℕ} {m : List ℤ} (h : LowsBy f l m₀ low o high end n m) where
+  pub low-again : (m′ : List ℤ) → n < end → m′ ≡ set m n (f (at m n) (at l (low + n + o - 1)) (at l (low + n + o))) → LowsBy f l m₀ low o high end (n + 1) m′
+  low-again m′ b is =
       record {
-        some = h .some;
-        both = h .both;
-        few = h .few;
-        least = h .least;
-        most = h .most;
-        highs = h .highs;
-        last = h .last;
-        begun = omega arith;
-        within = omega arith;
+        places = low-next (h .places) b;
         size = ap length is ∙ length-set m n _ ∙ h .size;
-        swept = λ z s. rw is (low-turn f o low l z n (low + n + o - 1) (low + n + o) m (h .both) (omega arith) (omega arith) (omega arith) (h .swept z s));
+        swept = λ z s. rw is (low-turn f o low l z n (low + n + o - 1) (low + n + o) m (h .places .both) (omega arith) (omega arith) (omega arith)
+            (h .swept z s));
       }
 
-  pub low-last : end ≤ n → n < low → m′ ≡ set m n (f (at m n) (at l (low + high - 1)) (at l (low + high - 1))) → (z : ℕ → ℤ)
+  last-low : (m′ : List ℤ) → end ≤ n → n < low → m′ ≡ set m n (f (at m n) (at l (low + high - 1)) (at l (low + high - 1))) → (z : ℕ → ℤ)
       → Swept (length l) (lowsBack f o low l z) z 1 m₀ → at m′ ≡ lowsBack f o low l z
-  low-last b k is z s =
+  last-low m′ b k is z s =
       rw is
-      (finish (low-turn f o low l z n (low + high - 1) (low + high - 1) m (h .both) k (omega arith) (omega arith) (h .swept z s))
+      (finish (low-turn f o low l z n (low + high - 1) (low + high - 1) m (h .places .both) k (omega arith) (omega arith) (h .swept z s))
       (λ j le. low-past f o low l z j (omega arith)))
 
-  pub low-done : low ≤ n → (z : ℕ → ℤ) → Swept (length l) (lowsBack f o low l z) z 1 m₀ → at m ≡ lowsBack f o low l z
-  low-done k z s = finish (h .swept z s) (λ j le. low-past f o low l z j (omega arith))
+  -- x is the other row as it was lent, low + r the second neighbour of its first number
+  module _ (x : List ℤ) (r : ℕ) (size : length l ≡ length x) (e : r ≡ near (length l - low) o)
+      (is : m₀ ≡ set x 0 (f (at x 0) (at l low) (at l (low + r)))) where
+    low-begun : Swept (length l) (lowsBack f o low l (at x)) (at x) 1 m₀
+    low-begun = low-first f o low (low + r) l x m₀ (h .places .some) (h .places .both) (h .places .few) size (ap (λ (k : ℕ). low + k) e) is
+
+    pub low-last : (m′ : List ℤ) → end ≤ n → n < low → m′ ≡ set m n (f (at m n) (at l (low + high - 1)) (at l (low + high - 1)))
+        → at m′ ≡ lowsBack f o low l (at x)
+    low-last m′ b k put = last-low m′ b k put (at x) low-begun
+
+    pub low-done : low ≤ n → at m ≡ lowsBack f o low l (at x)
+    low-done k = finish (h .swept (at x) low-begun) (λ j le. low-past f o low l (at x) j (omega arith))
 
 -- ---- the high numbers of the row l, by the low numbers z of the other row
 module _ (f : ℤ → ℤ → ℤ → ℤ) (o low : ℕ) (l : List ℤ) (z : ℕ → ℤ) where
@@ -149,7 +144,7 @@ module _ (f : ℤ → ℤ → ℤ → ℤ) (o low : ℕ) (l : List ℤ) (z : ℕ
       ∙ past-end l j b
       ∙ sym (ap (λ (y : ℕ → ℤ). y j) ez ∙ past-end m j (omega arith))
 
-pub high-first : (f : ℤ → ℤ → ℤ → ℤ) (o low b : ℕ) (l m m₀ : List ℤ) → 0 < low → low < length l → o ≤ 1 → length l ≡ length m → b ≡ near low o
+high-first : (f : ℤ → ℤ → ℤ → ℤ) (o low b : ℕ) (l m m₀ : List ℤ) → 0 < low → low < length l → o ≤ 1 → length l ≡ length m → b ≡ near low o
     → m₀ ≡ set m low (f (at l low) (at m 0) (at m b)) → Swept (length l) (highsBack f o low l (at m)) (at m) (low + 1) m₀
 high-first f o low b l m m₀ g room few size e is =
     let k : low + 0 ≡ low = omega arith in
@@ -158,45 +153,33 @@ high-first f o low b l m m₀ g room few size e is =
     rw is (rw k at (high-turn f o low l (at m) 0 0 b m g (omega arith) (omega arith) (omega arith) sw))
 
 pub record HighsBy (f : ℤ → ℤ → ℤ → ℤ) (l m₀ : List ℤ) (low o end n : ℕ) (m : List ℤ) : Type 0 where
-  pub some : 0 < low
-  pub both : low < length l
-  pub few : o ≤ 1
-  pub least : low + low ≤ length l + o
-  pub most : length l + o ≤ low + low + 1
-  pub last : end ≡ low - o
-  pub begun : 1 ≤ n
-  pub within : n ≤ low
+  pub places : HighsAt (length l) low o end n
   pub size : length m ≡ length l
   pub swept : (z : ℕ → ℤ) → Swept (length l) (highsBack f o low l z) z (low + 1) m₀ → Swept (length l) (highsBack f o low l z) z (low + n) m
 
-module _ (f : ℤ → ℤ → ℤ → ℤ) (l m₀ : List ℤ) (low o end n : ℕ) (m m′ : List ℤ) (h : HighsBy f l m₀ low o end n m) where
-  pub high-again : n < end → m′ ≡ set m (low + n) (f (at l (low + n)) (at m (n + o - 1)) (at m (n + o))) → HighsBy f l m₀ low o end (n + 1) m′
-  high-again b is =
+module _ {f : ℤ → ℤ → ℤ → ℤ} {l m₀ : List ℤ} {low o end n : ℕ} {m : List ℤ} (h : HighsBy f l m₀ low o end n m) where
+  pub high-again : (m′ : List ℤ) → n < end → m′ ≡ set m (low + n) (f (at l (low + n)) (at m (n + o - 1)) (at m (n + o))) → HighsBy f l m₀ low o end (n + 1) m′
+  high-again m′ b is =
       record {
-        some = h .some;
-        both = h .both;
-        few = h .few;
-        least = h .least;
-        most = h .most;
-        last = h .last;
-        begun = omega arith;
-        within = omega arith;
+        places = high-next (h .places) b;
         size = ap length is ∙ length-set m (low + n) _ ∙ h .size;
-        swept = λ z s. rw is (high-turn f o low l z n (n + o - 1) (n + o) m (h .some) (omega arith) (omega arith) (omega arith) (h .swept z s));
+        swept = λ z s. rw is (high-turn f o low l z n (n + o - 1) (n + o) m (h .places .some) (omega arith) (omega arith) (omega arith) (h .swept z s));
       }
 
-  -- m₁ is the other row as it was lent
-  pub high-last : (m₁ : List ℤ) → length l ≡ length m₁ → end ≤ n → low + n < length l
-      → m′ ≡ set m (low + n) (f (at l (low + n)) (at m (low - 1)) (at m (low - 1))) → Swept (length l) (highsBack f o low l (at m₁)) (at m₁) (low + 1) m₀
-      → at m′ ≡ highsBack f o low l (at m₁)
-  high-last m₁ size b k is s =
-      rw is
-      (finish (high-turn f o low l (at m₁) n (low - 1) (low - 1) m (h .some) k (omega arith) (omega arith) (h .swept (at m₁) s))
-      (λ j le. high-past f o low l (at m₁) m₁ j refl size (omega arith) (omega arith)))
+  -- x is the other row as it was lent, r the second neighbour of the first high number
+  module _ (x : List ℤ) (r : ℕ) (size : length l ≡ length x) (e : r ≡ near low o) (is : m₀ ≡ set x low (f (at l low) (at x 0) (at x r))) where
+    high-begun : Swept (length l) (highsBack f o low l (at x)) (at x) (low + 1) m₀
+    high-begun = high-first f o low r l x m₀ (h .places .some) (h .places .both) (h .places .few) size e is
 
-  pub high-done : (m₁ : List ℤ) → length l ≡ length m₁ → length l ≤ low + n → Swept (length l) (highsBack f o low l (at m₁)) (at m₁) (low + 1) m₀
-      → at m ≡ highsBack f o low l (at m₁)
-  high-done m₁ size k s = finish (h .swept (at m₁) s) (λ j le. high-past f o low l (at m₁) m₁ j refl size (omega arith) (omega arith))
+    pub high-last : (m′ : List ℤ) → end ≤ n → low + n < length l → m′ ≡ set m (low + n) (f (at l (low + n)) (at m (low - 1)) (at m (low - 1)))
+        → at m′ ≡ highsBack f o low l (at x)
+    high-last m′ b k put =
+        rw put
+        (finish (high-turn f o low l (at x) n (low - 1) (low - 1) m (h .places .some) k (omega arith) (omega arith) (h .swept (at x) high-begun))
+        (λ j le. high-past f o low l (at x) x j refl size (omega arith) (omega arith)))
+
+    pub high-done : length l ≤ low + n → at m ≡ highsBack f o low l (at x)
+    high-done k = finish (h .swept (at x) high-begun) (λ j le. high-past f o low l (at x) x j refl size (omega arith) (omega arith))
 
 -- ---- both: o what the first leaves, and q what the second does
 pub back-are : (S : Side) (low : ℕ) (y z o q : ℕ → ℤ) → 1 < S .length → low ≡ count lo S

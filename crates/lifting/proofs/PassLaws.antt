@@ -21,6 +21,9 @@ use Rattle.lifting.proofs.GridLaws.{ahead, counts, some, beside-lows, b
 pub falls : (e n : ℕ) → n < e → e - (n + 1) < e - n
 falls e n b = omega arith
 
+pub below : (k m n : ℕ) → k < m → n ≡ m → k < n
+below k m n b e = omega arith
+
 -- ---- the two passes in place, by any step f
 module _ (f : ℤ → ℤ → ℤ → ℤ) (o low N : ℕ) (y : ℕ → ℤ) where
   pub highs-low : (j : ℕ) → j < low → highsChanged f o low N y j ≡ y j
@@ -95,23 +98,30 @@ module _ (S : Side) (N low : ℕ) (size : N ≡ S .length) (more : 1 < S .length
       let d = beside-highs S in
       omega arith
 
--- before turn n of the loop over the high numbers: l₀ is the line after the first store, swept of some x up to there, and l is swept of it up to number n
-pub record Highs (f : ℤ → ℤ → ℤ → ℤ) (l₀ : List ℤ) (low o end n : ℕ) (l : List ℤ) : Type 0 where
+-- ---- the first number, its second neighbour at r or low + r
+pub low-begins : (N low o : ℕ) → BesideHighs N low o → (low ≤ N) × (o ≤ N - low) × (0 < N - low)
+low-begins N low o pre = omega arith
+
+pub low-first-in : (N low o r : ℕ) → BesideHighs N low o → N * 4 < 2 ^ 63 → r ≡ near (N - low) o → Fits w64 (low + r) × ((0 < N) × (low < N) × (low + r < N))
+low-first-in N low o r pre room e = omega arith
+
+pub high-first-in : (N low o r : ℕ) → BesideLows N low o → r ≡ near low o → (low < N) × (0 < N) × (r < N)
+high-first-in N low o r pre e = omega arith
+
+-- ---- the loops over N numbers: what their places need. Before turn n of the one over the high numbers,
+pub record HighsAt (N low o end n : ℕ) : Type 0 where
   pub some : 0 < low
-  pub both : low < length l₀
+  pub both : low < N
   pub few : o ≤ 1
-  pub least : low + low ≤ length l₀ + o
-  pub most : length l₀ + o ≤ low + low + 1
-  pub room : length l₀ < 2 ^ 63
+  pub least : low + low ≤ N + o
+  pub most : N + o ≤ low + low + 1
+  pub room : N < 2 ^ 63
   pub last : end ≡ low - o
   pub begun : 1 ≤ n
   pub within : n ≤ low
-  pub size : length l ≡ length l₀
-  pub swept : (x : ℕ → ℤ) → Swept (length l₀) (highsChanged f o low (length l₀) x) x (low + 1) l₀
-      → Swept (length l₀) (highsChanged f o low (length l₀) x) x (low + n) l
 
-pub highs-start : (f : ℤ → ℤ → ℤ → ℤ) (low o N : ℕ) (l : List ℤ) → length l ≡ N → BesideLows N low o → N * 4 < 2 ^ 63 → Highs f l low o (low - o) 1 l
-highs-start f low o N l size pre room =
+pub highs-at : (N L low o : ℕ) → L ≡ N → BesideLows N low o → N * 4 < 2 ^ 63 → HighsAt L low o (low - o) 1
+highs-at N L low o size pre room =
     record {
       some = pre .0;
       both = omega arith;
@@ -122,19 +132,11 @@ highs-start f low o N l size pre room =
       last = refl;
       begun = omega arith;
       within = omega arith;
-      size = refl;
-      swept = λ x s. s;
     }
 
-module _ {f : ℤ → ℤ → ℤ → ℤ} {l₀ : List ℤ} {low o end n : ℕ} {l : List ℤ} (h : Highs f l₀ low o end n l) where
-  -- a turn: its places,
-  pub highs-places : n < end
-      → Fits w64 (low + n) × Fits w64 (n + o) × (1 ≤ n + o) × Fits w64 (n + 1) × ((low + n < length l) × (n + o - 1 < length l) × (n + o < length l))
-  highs-places b = omega arith
-
-  -- and what it leaves
-  pub highs-again : (l′ : List ℤ) → n < end → l′ ≡ set l (low + n) (f (at l (low + n)) (at l (n + o - 1)) (at l (n + o))) → Highs f l₀ low o end (n + 1) l′
-  highs-again l′ b is =
+module _ {N low o end n : ℕ} (h : HighsAt N low o end n) where
+  pub high-next : n < end → HighsAt N low o end (n + 1)
+  high-next b =
       record {
         some = h .some;
         both = h .both;
@@ -145,59 +147,37 @@ module _ {f : ℤ → ℤ → ℤ → ℤ} {l₀ : List ℤ} {low o end n : ℕ}
         last = h .last;
         begun = omega arith;
         within = omega arith;
-        size = ap length is ∙ length-set l (low + n) _ ∙ h .size;
-        swept = λ x s. rw is (highs-turn f o low (length l₀) x n (n + o - 1) (n + o) l (h .some) (omega arith) (omega arith) (omega arith) (h .swept x s));
       }
 
+  pub high-sums : n < end → Fits w64 (low + n) × Fits w64 (n + o) × (1 ≤ n + o) × Fits w64 (n + 1)
+  high-sums b = omega arith
+
+  -- K and M: the numbers of what is changed and of what it is changed by
+  pub high-in : (K M : ℕ) → K ≡ N → M ≡ N → n < end → (low + n < K) × (n + o - 1 < M) × (n + o < M)
+  high-in K M ek em b = omega arith
+
   -- the last number has one neighbour
-  pub highs-end : Fits w64 (low + n) × (1 ≤ low)
-  highs-end = omega arith
+  pub high-ends : Fits w64 (low + n) × (1 ≤ low)
+  high-ends = omega arith
 
-  pub highs-in : low + n < length l → (low + n < length l) × (low - 1 < length l) × (low - 1 < length l)
-  highs-in b = omega arith
+  pub high-last-in : (K M : ℕ) → M ≡ N → low + n < K → (low + n < K) × (low - 1 < M) × (low - 1 < M)
+  high-last-in K M em b = omega arith
 
-  last-high : (l′ : List ℤ) → end ≤ n → low + n < length l → l′ ≡ set l (low + n) (f (at l (low + n)) (at l (low - 1)) (at l (low - 1))) → (x : ℕ → ℤ)
-      → Swept (length l₀) (highsChanged f o low (length l₀) x) x (low + 1) l₀ → at l′ ≡ highsChanged f o low (length l₀) x
-  last-high l′ b m put x s =
-      rw put
-      (finish (highs-turn f o low (length l₀) x n (low - 1) (low - 1) l (h .some) (omega arith) (omega arith) (omega arith) (h .swept x s))
-      (λ j le. highs-past f o low (length l₀) x j (omega arith) (omega arith)))
-
-  -- or there is none left
-  no-high : length l ≤ low + n → (x : ℕ → ℤ) → Swept (length l₀) (highsChanged f o low (length l₀) x) x (low + 1) l₀
-      → at l ≡ highsChanged f o low (length l₀) x
-  no-high m x s = finish (h .swept x s) (λ j le. highs-past f o low (length l₀) x j (omega arith) (omega arith))
-
-  -- x is the line as it was lent, r the second neighbour of its first high number
-  module _ (x : List ℤ) (r : ℕ) (size : length l₀ ≡ length x) (e : r ≡ near low o) (is : l₀ ≡ set x low (f (at x low) (at x 0) (at x r))) where
-    highs-begun : Swept (length l₀) (highsChanged f o low (length l₀) (at x)) (at x) (low + 1) l₀
-    highs-begun = highs-first f o low r x l₀ (h .some) (subst (λ (N : ℕ). low < N) size (h .both)) (h .few) e is
-
-    pub highs-last : (l′ : List ℤ) → end ≤ n → low + n < length l → l′ ≡ set l (low + n) (f (at l (low + n)) (at l (low - 1)) (at l (low - 1)))
-        → at l′ ≡ highsChanged f o low (length x) (at x)
-    highs-last l′ b m put = rw (← size) (last-high l′ b m put (at x) highs-begun)
-
-    pub highs-done : length l ≤ low + n → at l ≡ highsChanged f o low (length x) (at x)
-    highs-done m = rw (← size) (no-high m (at x) highs-begun)
-
--- and over the low ones
-pub record Lows (f : ℤ → ℤ → ℤ → ℤ) (l₀ : List ℤ) (low o high end n : ℕ) (l : List ℤ) : Type 0 where
+-- and of the one over the low numbers
+pub record LowsAt (N low o high end n : ℕ) : Type 0 where
   pub some : 0 < low
-  pub both : low < length l₀
+  pub both : low < N
   pub few : o ≤ 1
-  pub least : length l₀ ≤ low + low + o
-  pub most : low + low + o ≤ length l₀ + 1
-  pub room : length l₀ < 2 ^ 63
-  pub highs : high ≡ length l₀ - low
+  pub least : N ≤ low + low + o
+  pub most : low + low + o ≤ N + 1
+  pub room : N < 2 ^ 63
+  pub highs : high ≡ N - low
   pub last : end ≡ high - o
   pub begun : 1 ≤ n
   pub within : n ≤ high
-  pub size : length l ≡ length l₀
-  pub swept : (x : ℕ → ℤ) → Swept (length l₀) (lowsChanged f o low (length l₀) x) x 1 l₀ → Swept (length l₀) (lowsChanged f o low (length l₀) x) x n l
 
-pub lows-start : (f : ℤ → ℤ → ℤ → ℤ) (low o N : ℕ) (l : List ℤ) → length l ≡ N → BesideHighs N low o → N * 4 < 2 ^ 63
-    → Lows f l low o (N - low) (N - low - o) 1 l
-lows-start f low o N l size pre room =
+pub lows-at : (N L low o : ℕ) → L ≡ N → BesideHighs N low o → N * 4 < 2 ^ 63 → LowsAt L low o (N - low) (N - low - o) 1
+lows-at N L low o size pre room =
     record {
       some = pre .0;
       both = omega arith;
@@ -205,24 +185,15 @@ lows-start f low o N l size pre room =
       least = omega arith;
       most = omega arith;
       room = omega arith;
-      highs = omega arith;
+      highs = ap (λ (k : ℕ). k - low) (sym size);
       last = refl;
       begun = omega arith;
       within = omega arith;
-      size = refl;
-      swept = λ x s. s;
     }
 
-module _ {f : ℤ → ℤ → ℤ → ℤ} {l₀ : List ℤ} {low o high end n : ℕ} {l : List ℤ} (h : Lows f l₀ low o high end n l) where
-  -- a turn: its places,
-  pub lows-places : n < end
-      → Fits w64 (low + n) × Fits w64 (low + n + o) × (1 ≤ low + n + o) × Fits w64 (n + 1)
-      × ((n < length l) × (low + n + o - 1 < length l) × (low + n + o < length l))
-  lows-places b = omega arith
-
-  -- and what it leaves
-  pub lows-again : (l′ : List ℤ) → n < end → l′ ≡ set l n (f (at l n) (at l (low + n + o - 1)) (at l (low + n + o))) → Lows f l₀ low o high end (n + 1) l′
-  lows-again l′ b is =
+module _ {N low o high end n : ℕ} (h : LowsAt N low o high end n) where
+  pub low-next : n < end → LowsAt N low o high end (n + 1)
+  low-next b =
       record {
         some = h .some;
         both = h .both;
@@ -234,20 +205,81 @@ module _ {f : ℤ → ℤ → ℤ → ℤ} {l₀ : List ℤ} {low o high end n :
         last = h .last;
         begun = omega arith;
         within = omega arith;
-        size = ap length is ∙ length-set l n _ ∙ h .size;
-        swept = λ x s. rw is (lows-turn f o low (length l₀) x n (low + n + o - 1) (low + n + o) l (h .both) (omega arith) (omega arith) (omega arith)
+      }
+
+  pub low-sums : n < end → Fits w64 (low + n) × Fits w64 (low + n + o) × (1 ≤ low + n + o) × Fits w64 (n + 1)
+  low-sums b = omega arith
+
+  pub low-in : (K M : ℕ) → K ≡ N → M ≡ N → n < end → (n < K) × (low + n + o - 1 < M) × (low + n + o < M)
+  low-in K M ek em b = omega arith
+
+  pub low-ends : Fits w64 (low + high) × (1 ≤ low + high)
+  low-ends = omega arith
+
+  pub low-last-in : (K M : ℕ) → K ≡ N → M ≡ N → n < low → (n < K) × (low + high - 1 < M) × (low + high - 1 < M)
+  low-last-in K M ek em b = omega arith
+
+-- ---- what they leave: l₀ is the line after the first store, swept of some x up to there, and l is swept of it up to number n
+pub record Highs (f : ℤ → ℤ → ℤ → ℤ) (l₀ : List ℤ) (low o end n : ℕ) (l : List ℤ) : Type 0 where
+  pub places : HighsAt (length l₀) low o end n
+  pub size : length l ≡ length l₀
+  pub swept : (x : ℕ → ℤ) → Swept (length l₀) (highsChanged f o low (length l₀) x) x (low + 1) l₀
+      → Swept (length l₀) (highsChanged f o low (length l₀) x) x (low + n) l
+
+module _ {f : ℤ → ℤ → ℤ → ℤ} {l₀ : List ℤ} {low o end n : ℕ} {l : List ℤ} (h : Highs f l₀ low o end n l) where
+  pub highs-again : (l′ : List ℤ) → n < end → l′ ≡ set l (low + n) (f (at l (low + n)) (at l (n + o - 1)) (at l (n + o))) → Highs f l₀ low o end (n + 1) l′
+  highs-again l′ b is =
+      record {
+        places = high-next (h .places) b;
+        size = ap length is ∙ length-set l (low + n) _ ∙ h .size;
+        swept = λ x s. rw is (highs-turn f o low (length l₀) x n (n + o - 1) (n + o) l (h .places .some) (omega arith) (omega arith) (omega arith)
             (h .swept x s));
       }
 
-  -- the last number has one neighbour
-  pub lows-end : n < low → Fits w64 (low + high) × (1 ≤ low + high) × ((n < length l) × (low + high - 1 < length l) × (low + high - 1 < length l))
-  lows-end b = omega arith
+  last-high : (l′ : List ℤ) → end ≤ n → low + n < length l → l′ ≡ set l (low + n) (f (at l (low + n)) (at l (low - 1)) (at l (low - 1))) → (x : ℕ → ℤ)
+      → Swept (length l₀) (highsChanged f o low (length l₀) x) x (low + 1) l₀ → at l′ ≡ highsChanged f o low (length l₀) x
+  last-high l′ b m put x s =
+      rw put
+      (finish (highs-turn f o low (length l₀) x n (low - 1) (low - 1) l (h .places .some) (omega arith) (omega arith) (omega arith) (h .swept x s))
+      (λ j le. highs-past f o low (length l₀) x j (omega arith) (omega arith)))
+
+  -- or there is none left
+  no-high : length l ≤ low + n → (x : ℕ → ℤ) → Swept (length l₀) (highsChanged f o low (length l₀) x) x (low + 1) l₀
+      → at l ≡ highsChanged f o low (length l₀) x
+  no-high m x s = finish (h .swept x s) (λ j le. highs-past f o low (length l₀) x j (omega arith) (omega arith))
+
+  -- x is the line as it was lent, r the second neighbour of its first high number
+  module _ (x : List ℤ) (r : ℕ) (size : length l₀ ≡ length x) (e : r ≡ near low o) (is : l₀ ≡ set x low (f (at x low) (at x 0) (at x r))) where
+    highs-begun : Swept (length l₀) (highsChanged f o low (length l₀) (at x)) (at x) (low + 1) l₀
+    highs-begun = highs-first f o low r x l₀ (h .places .some) (subst (λ (N : ℕ). low < N) size (h .places .both)) (h .places .few) e is
+
+    pub highs-last : (l′ : List ℤ) → end ≤ n → low + n < length l → l′ ≡ set l (low + n) (f (at l (low + n)) (at l (low - 1)) (at l (low - 1)))
+        → at l′ ≡ highsChanged f o low (length x) (at x)
+    highs-last l′ b m put = rw (← size) (last-high l′ b m put (at x) highs-begun)
+
+    pub highs-done : length l ≤ low + n → at l ≡ highsChanged f o low (length x) (at x)
+    highs-done m = rw (← size) (no-high m (at x) highs-begun)
+
+pub record Lows (f : ℤ → ℤ → ℤ → ℤ) (l₀ : List ℤ) (low o high end n : ℕ) (l : List ℤ) : Type 0 where
+  pub places : LowsAt (length l₀) low o high end n
+  pub size : length l ≡ length l₀
+  pub swept : (x : ℕ → ℤ) → Swept (length l₀) (lowsChanged f o low (length l₀) x) x 1 l₀ → Swept (length l₀) (lowsChanged f o low (length l₀) x) x n l
+
+module _ {f : ℤ → ℤ → ℤ → ℤ} {l₀ : List ℤ} {low o high end n : ℕ} {l : List ℤ} (h : Lows f l₀ low o high end n l) where
+  pub lows-again : (l′ : List ℤ) → n < end → l′ ≡ set l n (f (at l n) (at l (low + n + o - 1)) (at l (low + n + o))) → Lows f l₀ low o high end (n + 1) l′
+  lows-again l′ b is =
+      record {
+        places = low-next (h .places) b;
+        size = ap length is ∙ length-set l n _ ∙ h .size;
+        swept = λ x s. rw is (lows-turn f o low (length l₀) x n (low + n + o - 1) (low + n + o) l (h .places .both) (omega arith) (omega arith) (omega arith)
+            (h .swept x s));
+      }
 
   last-low : (l′ : List ℤ) → end ≤ n → n < low → l′ ≡ set l n (f (at l n) (at l (low + high - 1)) (at l (low + high - 1))) → (x : ℕ → ℤ)
       → Swept (length l₀) (lowsChanged f o low (length l₀) x) x 1 l₀ → at l′ ≡ lowsChanged f o low (length l₀) x
   last-low l′ b m put x s =
       rw put
-      (finish (lows-turn f o low (length l₀) x n (low + high - 1) (low + high - 1) l (h .both) m (omega arith) (omega arith) (h .swept x s))
+      (finish (lows-turn f o low (length l₀) x n (low + high - 1) (low + high - 1) l (h .places .both) m (omega arith) (omega arith) (h .swept x s))
       (λ j le. lows-past f o low (length l₀) x j (omega arith)))
 
   -- or there is none left
@@ -258,7 +290,7 @@ module _ {f : ℤ → ℤ → ℤ → ℤ} {l₀ : List ℤ} {low o high end n :
   module _ (x : List ℤ) (r : ℕ) (size : length l₀ ≡ length x) (e : r ≡ near (length x - low) o)
       (is : l₀ ≡ set x 0 (f (at x 0) (at x low) (at x (low + r)))) where
     lows-begun : Swept (length l₀) (lowsChanged f o low (length l₀) (at x)) (at x) 1 l₀
-    lows-begun = lows-first f o low (low + r) x l₀ (h .some) (subst (λ (N : ℕ). low < N) size (h .both)) (h .few) (ap (λ (k : ℕ). low + k) e) is
+    lows-begun = lows-first f o low (low + r) x l₀ (h .places .some) (subst (λ (N : ℕ). low < N) size (h .places .both)) (h .places .few) (ap (λ (k : ℕ). low + k) e) is
 
     pub lows-last : (l′ : List ℤ) → end ≤ n → n < low → l′ ≡ set l n (f (at l n) (at l (low + high - 1)) (at l (low + high - 1)))
         → at l′ ≡ lowsChanged f o low (length x) (at x)

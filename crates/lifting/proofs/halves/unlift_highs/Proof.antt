@@ -2,11 +2,10 @@
 use mathlib.Core.Path.{refl, sym, _∙_}
 use Prim.Native.Nat.{_-_}
 use native.Mathlib.Omega.{arith}
-use Rattle.numbers.specs.Signal.{at}
 use Rattle.numbers.specs.Word.{wrap32}
 use Rattle.lifting.specs.Line.{unpredicted}
-use Rattle.lifting.proofs.PassLaws.{falls}
-use Rattle.lifting.proofs.LiftLaws.{HighsBy, high-first, high-again, high-last, high-done}
+use Rattle.lifting.proofs.PassLaws.{high-first-in, highs-at, high-sums, high-in, high-ends, high-last-in, falls, below}
+use Rattle.lifting.proofs.LiftLaws.{HighsBy, high-again, high-last, high-done}
 use Rattle.lifting.proofs.halves.unlift_highs.Statement.{statement}
 use Rattle.lifting.proofs.halves.unlift_highs.Tie as tie
 
@@ -24,41 +23,41 @@ nearest-requires : tie.Need-nearest-requires Inv-loop μ-loop
 nearest-requires c κs = c .before .pre .0
 
 unpredict-to-requires : tie.Need-unpredict-to-requires Inv-loop μ-loop
-unpredict-to-requires c κs = let e = c .nearest .ensures in omega arith
+unpredict-to-requires c κs =
+    let p = c .before .before .pre in
+    let b = high-first-in _ _ _ _ (p .0, p .1, p .2, p .3, p .4) (c .nearest .ensures) in
+    (b .0, below _ _ _ (b .1) (sym (p .5)), below _ _ _ (b .2) (sym (p .5)), below _ _ _ (b .0) (sym (p .5)))
 
 loop-holds : tie.Need-loop-holds Inv-loop μ-loop
 loop-holds c =
     let entry = c .before .before .before .before in
+    let p = entry .pre in
     record {
-      some = entry .pre .0;
-      both = entry .pre .1;
-      few = entry .pre .2;
-      least = entry .pre .3;
-      most = entry .pre .4;
-      last = refl;
-      begun = omega arith;
-      within = omega arith;
-      size = c .before .unpredict-to .kept .1 .0 ∙ sym (entry .pre .5);
+      places = highs-at _ _ _ _ refl (p .0, p .1, p .2, p .3, p .4) (entry .good .0 .1);
+      size = c .before .unpredict-to .kept .1 .0 ∙ sym (p .5);
       swept = λ z s. s;
     }
 
 add-unpredict-to : tie.Need-add-unpredict-to Inv-loop μ-loop
-add-unpredict-to c = omega arith
+add-unpredict-to c = high-sums (c .before .before .loop .inv .places) (c .before .loop-test .taken) .0
 
 add-unpredict-to-2 : tie.Need-add-unpredict-to-2 Inv-loop μ-loop
-add-unpredict-to-2 c = omega arith
+add-unpredict-to-2 c = high-sums (c .before .before .loop .inv .places) (c .before .loop-test .taken) .1
 
 sub-unpredict-to : tie.Need-sub-unpredict-to Inv-loop μ-loop
-sub-unpredict-to c = omega arith
+sub-unpredict-to c = high-sums (c .before .before .loop .inv .places) (c .before .loop-test .taken) .2
 
 add-unpredict-to-3 : tie.Need-add-unpredict-to-3 Inv-loop μ-loop
-add-unpredict-to-3 c = omega arith
+add-unpredict-to-3 c = high-sums (c .before .before .loop .inv .places) (c .before .loop-test .taken) .1
 
 unpredict-to-requires-2 : tie.Need-unpredict-to-requires-2 Inv-loop μ-loop
-unpredict-to-requires-2 c κs = omega arith
+unpredict-to-requires-2 c κs =
+    let i = c .before .before .loop .inv in
+    let b = high-in (i .places) _ _ refl (i .size) (c .before .loop-test .taken) in
+    (b .0, b .1, b .2, high-in (i .places) _ _ (i .size) refl (c .before .loop-test .taken) .0)
 
 add-n : tie.Need-add-n Inv-loop μ-loop
-add-n c = omega arith
+add-n c = high-sums (c .before .before .before .before .loop .inv .places) (c .before .before .before .loop-test .taken) .3
 
 loop-less : tie.Need-loop-less Inv-loop μ-loop
 loop-less c = falls _ _ (c .before .before .before .loop-test .taken)
@@ -66,22 +65,25 @@ loop-less c = falls _ _ (c .before .before .before .loop-test .taken)
 loop-again : tie.Need-loop-again Inv-loop μ-loop
 loop-again c =
     let head = c .before .before .before .before in
-    high-again _ _ _ _ _ _ _ _ _ (head .loop .inv) (c .before .before .before .loop-test .taken) (c .before .unpredict-to2 .ensures)
+    high-again (head .loop .inv) _ (c .before .before .before .loop-test .taken) (c .before .unpredict-to2 .ensures)
 
 add-if1 : tie.Need-add-if1 Inv-loop μ-loop
-add-if1 c = omega arith
+add-if1 c = high-ends (c .before .loop .inv .places) .0
 
 add-unpredict-to-4 : tie.Need-add-unpredict-to-4 Inv-loop μ-loop
-add-unpredict-to-4 c = omega arith
+add-unpredict-to-4 c = high-ends (c .before .before .before .loop .inv .places) .0
 
 sub-unpredict-to-2 : tie.Need-sub-unpredict-to-2 Inv-loop μ-loop
-sub-unpredict-to-2 c = omega arith
+sub-unpredict-to-2 c = high-ends (c .before .before .before .loop .inv .places) .1
 
 sub-unpredict-to-3 : tie.Need-sub-unpredict-to-3 Inv-loop μ-loop
-sub-unpredict-to-3 c = omega arith
+sub-unpredict-to-3 c = high-ends (c .before .before .before .loop .inv .places) .1
 
 unpredict-to-requires-3 : tie.Need-unpredict-to-requires-3 Inv-loop μ-loop
-unpredict-to-requires-3 c κs = omega arith
+unpredict-to-requires-3 c κs =
+    let i = c .before .before .before .loop .inv in
+    let b = high-last-in (i .places) _ _ (i .size) (c .before .if1 .taken) in
+    (b .0, b .1, b .2, below _ _ _ (b .0) (i .size))
 
 same-length : tie.Need-same-length Inv-loop μ-loop
 same-length c =
@@ -92,11 +94,10 @@ returns : tie.Need-returns Inv-loop μ-loop
 returns c =
     let head = c .before .before .before .before .before in
     let first = head .before .before in
-    let entry = first .before .before .before in
-    high-last _ _ _ _ _ _ _ _ _ (head .loop .inv) (entry .args .out .now) (entry .pre .5) (omega arith) (omega arith) (c .before .unpredict-to3 .ensures)
-    (high-first (unpredicted wrap32) (entry .args .o) (entry .args .low) (first .before .nearest .result) (entry .args .row .now) (entry .args .out .now)
-    (first .unpredict-to .last .1 .0) (entry .pre .0) (entry .pre .1) (entry .pre .2) (entry .pre .5) (first .before .nearest .ensures)
-    (first .unpredict-to .ensures))
+    let near = first .before in
+    let entry = near .before .before in
+    high-last (head .loop .inv) (entry .args .out .now) _ (entry .pre .5) (near .nearest .ensures) (first .unpredict-to .ensures) _
+    (c .before .before .before .before .loop-test .left) (c .before .before .before .if1 .taken) (c .before .unpredict-to3 .ensures)
 
 same-length-2 : tie.Need-same-length-2 Inv-loop μ-loop
 same-length-2 c =
@@ -107,11 +108,9 @@ returns-2 : tie.Need-returns-2 Inv-loop μ-loop
 returns-2 c =
     let head = c .before .before in
     let first = head .before .before in
-    let entry = first .before .before .before in
-    high-done (unpredicted wrap32) _ _ _ _ _ _ _ (head .loop .out) (head .loop .inv) (entry .args .out .now) (entry .pre .5) (omega arith)
-    (high-first (unpredicted wrap32) (entry .args .o) (entry .args .low) (first .before .nearest .result) (entry .args .row .now) (entry .args .out .now)
-    (first .unpredict-to .last .1 .0) (entry .pre .0) (entry .pre .1) (entry .pre .2) (entry .pre .5) (first .before .nearest .ensures)
-    (first .unpredict-to .ensures))
+    let near = first .before in
+    let entry = near .before .before in
+    high-done (head .loop .inv) (entry .args .out .now) _ (entry .pre .5) (near .nearest .ensures) (first .unpredict-to .ensures) (c .if1 .left)
 
 pub unlift-highs-spec : {M : Type 1} → statement M
 unlift-highs-spec =
