@@ -1,13 +1,15 @@
 -- The laws of the passes from one area to another: what each leaves at a place, a turn of its loop, and what the passes come to together. Assumes nothing.
 use mathlib.Core.Path.{_≡_, refl, sym, ap, ap₂, _∙_, subst, fun-ext}
 use mathlib.Core.List.{List}
-use Prim.Native.Nat.{ℕ, _+_, _-_, _*_, _/_, _%_, _≤_, _<_, min}
+use Prim.Native.Nat.{ℕ, _+_, _-_, _*_, _/_, _%_, _^_, _≤_, _<_, min}
 use native.Mathlib.Decide.{decLt, ℕ-discrete}
 use native.Mathlib.Omega.{arith}
 use lib.IntN.{ℤ}
 use lib.ListN.{length, set, length-set}
 use lib.Dec.{eqb}
 use borrow.Author.Tests.{lt-ltb, le-ltb, eq-eqb, ne-eqb}
+use mir.Syntax.{w64}
+use mir.Val.{Fits}
 use borrow.Rule.Slice.PartMut.{midOf, putMid, same-len-mid}
 use Rattle.numbers.specs.Signal.{at, pick, windowed, spliced}
 use Rattle.numbers.specs.Word.{wrap32}
@@ -17,7 +19,7 @@ use Rattle.lifting.specs.Line.{Half, lo, hi, unupdated, unpredicted}
 use Rattle.lifting.specs.Grid.{Side, side, place, count, parted, joined, lineForward, lineHalvesBack, lineBack}
 use Rattle.lifting.specs.GridHalves.{halvesOf, liftedInPlace, forwardInto, backwardInto}
 use Rattle.lifting.specs.Passes.{near, evensCopied, evenBack, restPut}
-use Rattle.lifting.proofs.GridLaws.{ahead, counts, some, low-place, high-place, left-one, left-two, left-three, place-in, joined-place, joined-reads}
+use Rattle.lifting.proofs.GridLaws.{ahead, counts, some, beside-lows, low-place, high-place, left-one, left-two, left-three, place-in, joined-place, joined-reads}
 use Rattle.lifting.proofs.GridLaws.{joined-parted, even-near, odd-near, halves-low, halves-high, halves-are, front-in, front-past}
 use Rattle.lifting.proofs.GridReads.{forward-reads}
 
@@ -197,8 +199,8 @@ first-put S y b low even l l₀ g bit lows room is e =
           (cc (lows, is, back-first S y g (at l) (omega arith) (omega arith) (omega arith))))
     ]
 
--- before turn n: two places are stored a turn, and the next even coordinate is worked out
-pub record Carried (S : Side) (y : ℕ → ℤ) (l₀ : List ℤ) (low high b from end n : ℕ) (even : ℤ) (l : List ℤ) : Type 0 where
+-- before turn n, L numbers of memory: two places are stored a turn,
+pub record CarriedAt (S : Side) (L low high b from end n : ℕ) : Type 0 where
   pub more : 1 < S .length
   pub bit : b ≡ S .start % 2
   pub lows : low ≡ count lo S
@@ -207,47 +209,119 @@ pub record Carried (S : Side) (y : ℕ → ℤ) (l₀ : List ℤ) (low high b fr
   pub least : high ≤ low + b
   pub first : from ≡ low + b
   pub last : end ≡ high - b
-  pub room : S .length ≤ length l₀
+  pub room : S .length ≤ L
+  pub small : L < 2 ^ 63
   pub within : n < low
+
+pub carried-at : (S : Side) (M L low : ℕ) → 1 < S .length → low ≡ count lo S → S .length ≤ M → M * 4 < 2 ^ 63 → L ≡ M
+    → CarriedAt S L low (S .length - low) (S .start % 2) (low + S .start % 2) (S .length - low - S .start % 2) 0
+carried-at S M L low more lows room small size =
+    let both = counts S in
+    let s = some S more in
+    let d = beside-lows S in
+    record {
+      more = more;
+      bit = refl;
+      lows = lows;
+      highs = omega arith;
+      all = omega arith;
+      least = omega arith;
+      first = refl;
+      last = refl;
+      room = omega arith;
+      small = omega arith;
+      within = omega arith;
+    }
+
+module _ {S : Side} {L low high b from end n : ℕ} (c : CarriedAt S L low high b from end n) where
+  pub carried-next : Fits w64 (n + 1)
+  carried-next = omega arith
+
+  -- the places of a turn, K the length of the line and M that of the memory as it is then
+  pub carried-sums : n + 1 < end → Fits w64 (from + n) × Fits w64 (from + n + 1) × Fits w64 (2 * n) × Fits w64 (2 * n + b)
+  carried-sums h =
+      let p = high-place S n (omega arith) in
+      omega arith
+
+  pub carried-reads : n + 1 < end → (n + 1 < S .length) × (from + n < S .length) × (from + n + 1 < S .length)
+  carried-reads h = omega arith
+
+  pub carried-in : (M : ℕ) → M ≡ L → n + 1 < end → (from + n < S .length) × (2 * n + b + 1 < M)
+  carried-in M e h =
+      let p = high-place S n (omega arith) in
+      omega arith
+
+  -- and after the last one
+  pub carried-end : (M : ℕ) → M ≡ L → end ≤ n + 1 → (S .length ≤ M) × (S .length ≤ low + n + S .start % 2 + 1)
+  carried-end M e h = omega arith
+
+-- and the next even coordinate is worked out
+pub record Carried (S : Side) (y : ℕ → ℤ) (l₀ : List ℤ) (low high b from end n : ℕ) (even : ℤ) (l : List ℤ) : Type 0 where
+  pub places : CarriedAt S (length l₀) low high b from end n
   pub carried : even ≡ evenBack S y n
   pub size : length l ≡ length l₀
   pub swept : (z : ℕ → ℤ) → Swept (length l₀) (backwardInto S y z) z b l₀ → Swept (length l₀) (backwardInto S y z) z (2 * n + b) l
 
-pub first-turn : {L : ℕ} {Y z : ℕ → ℤ} (b : ℕ) {l : List ℤ} → Swept L Y z b l → Swept L Y z (2 * 0 + b) l
-first-turn {L} {Y} {z} b {l} s = subst (λ (m : ℕ). Swept L Y z m l) (omega arith) s
+-- the first one, v, is read back from w
+first-even : (S : Side) (y : ℕ → ℤ) (L low high b from end r : ℕ) (v w : ℤ) → CarriedAt S L low high b from end 0 → r ≡ near high b → v ≡ w
+    → w ≡ unupdated wrap32 (y 0) (y low) (y (low + r)) → v ≡ evenBack S y 0
+first-even S y L low high b from end r v w c e back is = back ∙ is ∙ evenBack-first S y (c .more) low high b r (c .lows) (c .highs) (c .bit) e
 
-pub line-turn : (S : Side) (y : ℕ → ℤ) (l₀ : List ℤ) (low high b from end n : ℕ) (even next : ℤ) (l l′ : List ℤ) → Carried S y l₀ low high b from end n even l
-    → n + 1 < end → next ≡ unupdated wrap32 (y (n + 1)) (y (from + n)) (y (from + n + 1))
-    → l′ ≡ set (set l (2 * n + b) even) (2 * n + b + 1) (unpredicted wrap32 (y (from + n)) even next) → Carried S y l₀ low high b from end (n + 1) next l′
-line-turn S y l₀ low high b from end n even next l l′ c h d e =
-    let bit = c .bit in
-    let lows = c .lows in
-    let g = c .more in
-    let p = high-place S n (omega arith) in
-    let new : next ≡ evenBack S y (n + 1) = d ∙ evenBack-is S y g (n + 1) _ _ (omega arith) (omega arith) (omega arith) in
-    let k : from + n ≡ count lo S + (n + b) = omega arith in
-    let i : n + 1 ≡ near (count lo S) (n + 1) = omega arith in
-    let m : 2 * n + b + 1 + 1 ≡ 2 * (n + 1) + b = omega arith in
+pub first-turn : (S : Side) (y : ℕ → ℤ) (l : List ℤ) (low high b from end r : ℕ) (v w : ℤ) → CarriedAt S (length l) low high b from end 0 → r ≡ near high b
+    → v ≡ w → w ≡ unupdated wrap32 (y 0) (y low) (y (low + r)) → Carried S y l low high b from end 0 v l
+first-turn S y l low high b from end r v w c e back is =
     record {
-      more = g;
-      bit = bit;
-      lows = lows;
-      highs = c .highs;
-      all = c .all;
-      least = c .least;
-      first = c .first;
-      last = c .last;
-      room = c .room;
-      within = omega arith;
-      carried = new;
-      size = ap length e ∙ length-set (set l (2 * n + b) even) (2 * n + b + 1) _ ∙ length-set l (2 * n + b) even ∙ c .size;
-      swept = λ z s.
-          rw e
-          (rw m at
-          (store (unpredicted wrap32 (y (from + n)) even next) (store even (c .swept z s) (omega arith)
-          (cc (bit, c .carried, back-low S y g z n (omega arith)))) (omega arith)
-          (cc (bit, k, i, c .carried, new, back-after S y g z n (n + b) (omega arith) (omega arith) (omega arith)))));
+      places = c;
+      carried = first-even S y (length l) low high b from end r v w c e back is;
+      size = refl;
+      swept = λ z s. subst (λ (m : ℕ). Swept (length l) (backwardInto S y z) z m l) (omega arith) s;
     }
+
+module _ {S : Side} {y : ℕ → ℤ} {l₀ : List ℤ} {low high b from end n : ℕ} {even : ℤ} {l : List ℤ} (c : Carried S y l₀ low high b from end n even l) where
+  pub line-turn : (next w : ℤ) (l′ : List ℤ) → n + 1 < end → next ≡ w → w ≡ unupdated wrap32 (y (n + 1)) (y (from + n)) (y (from + n + 1))
+      → l′ ≡ set (set l (2 * n + b) even) (2 * n + b + 1) (unpredicted wrap32 (y (from + n)) even next) → Carried S y l₀ low high b from end (n + 1) next l′
+  line-turn next w l′ h back d e =
+      let q = c .places in
+      let bit = q .bit in
+      let g = q .more in
+      let p = high-place S n (omega arith) in
+      let new : next ≡ evenBack S y (n + 1) = back ∙ d ∙ evenBack-is S y g (n + 1) _ _ (omega arith) (omega arith) (omega arith) in
+      let k : from + n ≡ count lo S + (n + b) = omega arith in
+      let i : n + 1 ≡ near (count lo S) (n + 1) = omega arith in
+      let m : 2 * n + b + 1 + 1 ≡ 2 * (n + 1) + b = omega arith in
+      record {
+        places = record {
+          more = g;
+          bit = bit;
+          lows = q .lows;
+          highs = q .highs;
+          all = q .all;
+          least = q .least;
+          first = q .first;
+          last = q .last;
+          room = q .room;
+          small = q .small;
+          within = omega arith;
+        };
+        carried = new;
+        size = ap length e ∙ length-set (set l (2 * n + b) even) (2 * n + b + 1) _ ∙ length-set l (2 * n + b) even ∙ c .size;
+        swept = λ z s.
+            rw e
+            (rw m at
+            (store (unpredicted wrap32 (y (from + n)) even next) (store even (c .swept z s) (omega arith)
+            (cc (bit, c .carried, back-low S y g z n (omega arith)))) (omega arith)
+            (cc (bit, k, i, c .carried, new, back-after S y g z n (n + b) (omega arith) (omega arith) (omega arith)))));
+      }
+
+  -- out is the memory as it was lent, and the first even coordinate v is read back from w
+  pub line-put : (out l′ : List ℤ) (r : ℕ) (v w : ℤ) → S .length ≤ length out → r ≡ near high b → v ≡ w
+      → w ≡ unupdated wrap32 (y 0) (y low) (y (low + r)) → l₀ ≡ pick (eqb b 1) (set out 0 (unpredicted wrap32 (y low) v v)) out
+      → at l′ ≡ restPut S (2 * n + b) y (at l) → at l′ ≡ backwardInto S y (at out)
+  line-put out l′ r v w room e back is put end′ =
+      let q = c .places in
+      rest-finish S (2 * n + b) y (at out) (length l₀) l l′
+      (c .swept (at out) (first-put S y b low v out l₀ (q .more) (q .bit) (q .lows) room
+      (back ∙ is ∙ evenBack-first S y (q .more) low high b r (q .lows) (q .highs) (q .bit) e) put)) end′
 
 -- ---- the halves of a line copied into memory, and lifted there
 module _ (S : Side) (x z : ℕ → ℤ) (g : 0 < S .length) where

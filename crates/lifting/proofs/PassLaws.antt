@@ -21,6 +21,9 @@ use Rattle.lifting.proofs.GridLaws.{ahead, counts, some, beside-lows, b
 pub falls : (e n : ℕ) → n < e → e - (n + 1) < e - n
 falls e n b = omega arith
 
+pub further : (e n : ℕ) → n + 1 < e → e - (n + 1) < e - n
+further e n b = omega arith
+
 pub below : (k m n : ℕ) → k < m → n ≡ m → k < n
 below k m n b e = omega arith
 
@@ -104,6 +107,12 @@ low-begins N low o pre = omega arith
 
 pub low-first-in : (N low o r : ℕ) → BesideHighs N low o → N * 4 < 2 ^ 63 → r ≡ near (N - low) o → Fits w64 (low + r) × ((0 < N) × (low < N) × (low + r < N))
 low-first-in N low o r pre room e = omega arith
+
+pub first-in : (N M low o : ℕ) → BesideHighs N low o → N ≤ M → (low < N) × (0 < M)
+first-in N M low o pre room = omega arith
+
+pub first-sum : (N low o : ℕ) → BesideHighs N low o → N * 4 < 2 ^ 63 → Fits w64 (low + o)
+first-sum N low o pre room = omega arith
 
 pub high-first-in : (N low o r : ℕ) → BesideLows N low o → r ≡ near low o → (low < N) × (0 < N) × (r < N)
 high-first-in N low o r pre e = omega arith
