@@ -19,7 +19,7 @@ use Rattle.lifting.specs.Line.{Half, lo, hi, unupdated, unpredicted}
 use Rattle.lifting.specs.Grid.{Side, side, place, count, parted, joined, lineForward, lineHalvesBack, lineBack}
 use Rattle.lifting.specs.GridHalves.{halvesOf, liftedInPlace, forwardInto, backwardInto}
 use Rattle.lifting.specs.Passes.{near, evensCopied, evenBack, restPut}
-use Rattle.lifting.proofs.GridLaws.{ahead, counts, some, beside-lows, low-place, high-place, left-one, left-two, left-three, place-in, joined-place, joined-reads}
+use Rattle.lifting.proofs.GridLaws.{ahead, counts, some, beside-lows, every-second, low-place, high-place, left-one, left-two, left-three, place-in, joined-place, joined-reads}
 use Rattle.lifting.proofs.GridLaws.{joined-parted, even-near, odd-near, halves-low, halves-high, halves-are, front-in, front-past}
 use Rattle.lifting.proofs.GridReads.{forward-reads}
 
@@ -453,7 +453,48 @@ forward-parts S x z z₁ z₂ o₁ o₂ o₃ low l₀ n₀ g en room el e₀ m�
     let same : side (S .start) (length (midOf 0 n₀ z₂)) ≡ S = ap (side (S .start)) (f₃ ∙ m₀ ∙ sym en) in
     cc (two, m₀, en, same, i₃, at-mid 0 n₀ z₂, at-put 0 n₀ z₂ o₃ (omega arith) (omega arith), forward-is S (at x) (at z) g)
 
+-- a part of all but none, and none of it
+pub from-none : (n : ℕ) → 0 ≤ n
+from-none n = omega arith
+
+pub to-all : (n : ℕ) → n ≤ n
+to-all n = omega arith
+
+pub less-none : (n : ℕ) → n - 0 ≡ n
+less-none n = omega arith
+
+pub up-to : (n m k : ℕ) → n ≤ m → k ≡ m → n ≤ k
+up-to n m k h e = omega arith
+
 -- room for half of a part in another
-pub part-room : (x z : List ℤ) (a n b m : ℕ) → a + n ≤ length x → b + m ≤ length z → n ≤ m + m
+part-room : (x z : List ℤ) (a n b m : ℕ) → a + n ≤ length x → b + m ≤ length z → n ≤ m + m
     → length (midOf a n x) ≤ length (midOf b m z) + length (midOf b m z)
 part-room x z a n b m g h e = rw (length-mid a n x g, length-mid b m z h) e
+
+-- a line, its low numbers and a memory of M numbers
+pub record Parts (S : Side) (M low : ℕ) : Type 0 where
+  pub some : 0 < S .length
+  pub room : S .length ≤ M
+  pub small : S .length * 4 < 2 ^ 63
+  pub lows : low ≡ count lo S
+
+module _ {S : Side} {M low : ℕ} (p : Parts S M low) where
+  pub part-sums : Fits w64 (S .start % 2 * 4) × Fits w64 ((1 - S .start % 2) * 4) × Fits w64 (low * 4)
+  part-sums = let both = counts S in omega arith
+
+  pub part-starts : (S .start % 2 ≤ S .length) × (1 - S .start % 2 ≤ S .length) × (low ≤ S .length) × (low ≤ M) × (S .start % 2 ≤ 1)
+  part-starts = let both = counts S in omega arith
+
+  pub low-room : (x z : List ℤ) → S .length ≡ length x → length z ≡ M
+      → length (midOf (S .start % 2) (S .length - S .start % 2) x) ≤ length (midOf 0 (low - 0) z) + length (midOf 0 (low - 0) z)
+  low-room x z ex ez =
+      let both = counts S in
+      let d = every-second S .0 in
+      part-room x z (S .start % 2) (S .length - S .start % 2) 0 (low - 0) (omega arith) (omega arith) (omega arith)
+
+  pub high-room : (x z : List ℤ) → S .length ≡ length x → length z ≡ M
+      → length (midOf (1 - S .start % 2) (S .length - (1 - S .start % 2)) x) ≤ length (midOf low (S .length - low) z) + length (midOf low (S .length - low) z)
+  high-room x z ex ez =
+      let both = counts S in
+      let d = every-second S .1 in
+      part-room x z (1 - S .start % 2) (S .length - (1 - S .start % 2)) low (S .length - low) (omega arith) (omega arith) (omega arith)
