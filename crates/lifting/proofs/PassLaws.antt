@@ -17,10 +17,7 @@ use Rattle.lifting.specs.GridHalves.{halvesOf, liftedInPlace, unliftedIn
 use Rattle.lifting.specs.Passes.{near, highsChanged, lowsChanged}
 use Rattle.lifting.proofs.GridLaws.{ahead, counts, some, beside-lows, beside-highs, joined-place, high-near, low-near, even-near, odd-near, halves-are}
 
--- the measure of a loop that goes up to e
-pub falls : (e n : ℕ) → n < e → e - (n + 1) < e - n
-falls e n b = omega arith
-
+-- the measure of a loop that ends a turn before e
 pub further : (e n : ℕ) → n + 1 < e → e - (n + 1) < e - n
 further e n b = omega arith
 

@@ -4,7 +4,8 @@ use Prim.Native.Nat.{_-_}
 use native.Mathlib.Omega.{arith}
 use Rattle.numbers.specs.Word.{wrap32}
 use Rattle.lifting.specs.Line.{unpredicted}
-use Rattle.lifting.proofs.PassLaws.{high-first-in, highs-at, high-sums, high-in, high-ends, high-last-in, falls, below}
+use Rattle.lifting.proofs.RowLaws.{falls}
+use Rattle.lifting.proofs.PassLaws.{high-first-in, highs-at, high-sums, high-in, high-ends, high-last-in, below}
 use Rattle.lifting.proofs.LiftLaws.{HighsBy, high-again, high-last, high-done}
 use Rattle.lifting.proofs.halves.unlift_highs.Statement.{statement}
 use Rattle.lifting.proofs.halves.unlift_highs.Tie as tie

@@ -3,7 +3,8 @@ use mathlib.Core.Path.{refl, sym, _∙_}
 use Prim.Native.Nat.{_-_}
 use Rattle.numbers.specs.Word.{wrap32}
 use Rattle.lifting.specs.Line.{unupdated}
-use Rattle.lifting.proofs.PassLaws.{low-begins, low-first-in, lows-at, low-sums, low-in, low-ends, low-last-in, falls, below}
+use Rattle.lifting.proofs.RowLaws.{falls}
+use Rattle.lifting.proofs.PassLaws.{low-begins, low-first-in, lows-at, low-sums, low-in, low-ends, low-last-in, below}
 use Rattle.lifting.proofs.LiftLaws.{LowsBy, low-again, low-last, low-done}
 use Rattle.lifting.proofs.halves.unlift_lows.Statement.{statement}
 use Rattle.lifting.proofs.halves.unlift_lows.Tie as tie

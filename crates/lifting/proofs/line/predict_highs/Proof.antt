@@ -4,7 +4,8 @@ use Prim.Native.Nat.{_-_}
 use native.Mathlib.Omega.{arith}
 use Rattle.numbers.specs.Word.{wrap32}
 use Rattle.lifting.specs.Line.{predicted}
-use Rattle.lifting.proofs.PassLaws.{Highs, high-first-in, highs-at, high-sums, high-in, high-ends, high-last-in, highs-again, highs-last, highs-done, falls}
+use Rattle.lifting.proofs.RowLaws.{falls}
+use Rattle.lifting.proofs.PassLaws.{Highs, high-first-in, highs-at, high-sums, high-in, high-ends, high-last-in, highs-again, highs-last, highs-done}
 use Rattle.lifting.proofs.line.predict_highs.Statement.{statement}
 use Rattle.lifting.proofs.line.predict_highs.Tie as tie
 

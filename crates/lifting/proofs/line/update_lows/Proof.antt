@@ -3,7 +3,8 @@ use mathlib.Core.Path.{refl, _∙_}
 use Prim.Native.Nat.{_-_}
 use Rattle.numbers.specs.Word.{wrap32}
 use Rattle.lifting.specs.Line.{updated}
-use Rattle.lifting.proofs.PassLaws.{Lows, low-begins, low-first-in, lows-at, low-sums, low-in, low-ends, low-last-in, lows-again, lows-last, lows-done, falls}
+use Rattle.lifting.proofs.RowLaws.{falls}
+use Rattle.lifting.proofs.PassLaws.{Lows, low-begins, low-first-in, lows-at, low-sums, low-in, low-ends, low-last-in, lows-again, lows-last, lows-done}
 use Rattle.lifting.proofs.line.update_lows.Statement.{statement}
 use Rattle.lifting.proofs.line.update_lows.Tie as tie
 

@@ -1,12 +1,12 @@
 -- `lifting::pairs::lift_and_copy` meets its contract: before turn i the first i columns are lifted and copied. Assumes nothing.
 use mathlib.Core.Path.{_≡_, sym, _∙_}
 use mathlib.Core.Bool.{true}
-use Prim.Native.Nat.{ℕ, _+_, _-_, _*_}
-use native.Mathlib.Omega.{arith}
+use Prim.Native.Nat.{ℕ, _+_, _-_, _*_, _^_, _<_}
 use lib.IntN.{ℤ}
 use lib.ListN.{length}
 use Rattle.lifting.specs.Pairs.{pairFits, pairCopied, liftedAt, first, changedAt}
-use Rattle.lifting.proofs.ColumnLaws.{Passed, pair-in, rows-apart, pass-start, pass-turn, pass-end, copied-none, copied-more}
+use Rattle.lifting.proofs.RowLaws.{row-within, row-first, row-sum, row-next, falls}
+use Rattle.lifting.proofs.ColumnLaws.{Passed, pair-in, pair-places, pass-start, pass-turn, pass-end, copied-none, copied-more}
 use Rattle.lifting.proofs.pairs.lift_and_copy.Statement.{statement}
 use Rattle.lifting.proofs.pairs.lift_and_copy.Tie as tie
 
@@ -29,56 +29,59 @@ Fit c = pairFits (length (c .args .area .now)) (c .args .stride) (c .args .width
 fit : (c : tie.Then1 Inv-loop μ-loop) → Fit (c .before .before)
 fit c = sym (c .before .pair-fits .ensures) ∙ c .if1 .taken
 
+room : (c : tie.At-loop Inv-loop μ-loop) → length (c .before .before .before .args .area .now) * 4 < 2 ^ 63
+room c = c .before .before .before .good .0 .1
+
 pair-fits-requires : tie.Need-pair-fits-requires Inv-loop μ-loop
 pair-fits-requires c κs = tt
 
 mul-h : tie.Need-mul-h Inv-loop μ-loop
-mul-h c = omega (arith, pair-in _ _ _ _ _ _ _ (fit c))
+mul-h c = row-first (pair-in _ _ _ _ _ _ _ (fit c) .rows .one) (c .before .before .good .0 .1)
 
 mul-l : tie.Need-mul-l Inv-loop μ-loop
-mul-l c = omega (arith, pair-in _ _ _ _ _ _ _ (fit c))
+mul-l c = row-first (pair-in _ _ _ _ _ _ _ (fit c) .rows .two) (c .before .before .good .0 .1)
 
 mul-r : tie.Need-mul-r Inv-loop μ-loop
-mul-r c = omega (arith, pair-in _ _ _ _ _ _ _ (fit c))
+mul-r c = row-first (pair-in _ _ _ _ _ _ _ (fit c) .rows .three) (c .before .before .good .0 .1)
 
 mul-b : tie.Need-mul-b Inv-loop μ-loop
-mul-b c = omega (arith, pair-in _ _ _ _ _ _ _ (fit c))
+mul-b c = row-first (pair-in _ _ _ _ _ _ _ (fit c) .last) (c .before .before .good .0 .1)
 
 loop-holds : tie.Need-loop-holds Inv-loop μ-loop
 loop-holds c = pass-start _ _ _ _ _ _ _ _ (copied-none _ _ _ _ _ _) (pair-in _ _ _ _ _ _ _ (fit c))
 
 add-lift-copy-at : tie.Need-add-lift-copy-at Inv-loop μ-loop
-add-lift-copy-at c = omega arith
+add-lift-copy-at c = row-sum (c .before .before .loop .inv .rows .rows .one) (room (c .before .before)) _ (c .before .loop-test .taken)
 
 add-lift-copy-at-2 : tie.Need-add-lift-copy-at-2 Inv-loop μ-loop
-add-lift-copy-at-2 c = omega arith
+add-lift-copy-at-2 c = row-sum (c .before .before .loop .inv .rows .rows .two) (room (c .before .before)) _ (c .before .loop-test .taken)
 
 add-lift-copy-at-3 : tie.Need-add-lift-copy-at-3 Inv-loop μ-loop
-add-lift-copy-at-3 c = omega arith
+add-lift-copy-at-3 c = row-sum (c .before .before .loop .inv .rows .rows .three) (room (c .before .before)) _ (c .before .loop-test .taken)
 
 add-lift-copy-at-4 : tie.Need-add-lift-copy-at-4 Inv-loop μ-loop
-add-lift-copy-at-4 c = omega arith
+add-lift-copy-at-4 c = row-sum (c .before .before .loop .inv .rows .last) (room (c .before .before)) _ (c .before .loop-test .taken)
 
 add-i : tie.Need-add-i Inv-loop μ-loop
-add-i c = omega arith
+add-i c = row-next (c .before .before .before .before .loop .inv .rows .last) (room (c .before .before .before .before)) _
+    (c .before .before .before .loop-test .taken)
 
 loop-less : tie.Need-loop-less Inv-loop μ-loop
-loop-less c = omega arith
+loop-less c = falls _ _ (c .before .before .before .loop-test .taken)
 
 lift-copy-at-requires : tie.Need-lift-copy-at-requires Inv-loop μ-loop
 lift-copy-at-requires c κs =
     let o = c .before .before .loop in
-    let a = c .before .before .before .before .before .args in
-    let apart = rows-apart (a .stride) (a .high) (a .low) (o .i) (omega arith) (o .inv .rows .other) in
-    (omega arith, omega arith, omega arith, omega arith, apart)
+    pair-places (o .inv .rows) _ (o .i) (o .inv .size) (c .before .loop-test .taken)
 
 loop-again : tie.Need-loop-again Inv-loop μ-loop
 loop-again c =
     let turn = c .before .before .before in
     let a = turn .before .before .before .before .args in
     let o = turn .before .loop in
-    pass-turn _ _ _ _ _ _ _ _ (G (a .stride) (a .high) (a .low) (a .right) (a .before) (o .i)) (o .i) _ _ (o .inv) (turn .loop-test .taken) (omega arith)
-    (c .before .lift-copy-at .ensures) (copied-more _ _ _ _ _ _ _ (omega arith))
+    let within = row-within (o .inv .rows .last) (o .i) (turn .loop-test .taken) in
+    pass-turn _ _ _ _ _ _ _ _ (G (a .stride) (a .high) (a .low) (a .right) (a .before) (o .i)) (o .i) _ _ (o .inv) (turn .loop-test .taken) (c .before .lift-copy-at .kept .0)
+    (c .before .lift-copy-at .ensures) (copied-more _ _ _ _ _ _ _ within)
 
 same-length : tie.Need-same-length Inv-loop μ-loop
 same-length c = c .before .loop .inv .size

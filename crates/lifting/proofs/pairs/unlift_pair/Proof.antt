@@ -1,8 +1,7 @@
 -- `lifting::pairs::unlift_pair` meets its contract: before turn i the first i columns are lifted back, and the answer so far is theirs. Assumes nothing.
 use mathlib.Core.Path.{_≡_, sym, _∙_}
 use mathlib.Core.Bool.{true}
-use Prim.Native.Nat.{ℕ, _+_, _-_, _*_}
-use native.Mathlib.Omega.{arith}
+use Prim.Native.Nat.{ℕ, _+_, _-_, _*_, _^_, _<_}
 use lib.IntN.{ℤ}
 use lib.ListN.{length}
 use mir.Syntax.{w32}
@@ -10,7 +9,8 @@ use mir.Val.{toZ}
 use mir.ValLaws.{toZ-ofZ}
 use Rattle.numbers.specs.Signal.{at}
 use Rattle.lifting.specs.Pairs.{pairFits, pairUnlifted, pairWithin, unliftedAt}
-use Rattle.lifting.proofs.ColumnLaws.{Passed, pair-in, rows-apart, pass-start, pass-turn, pass-end}
+use Rattle.lifting.proofs.RowLaws.{row-within, row-first, row-sum, row-next, falls}
+use Rattle.lifting.proofs.ColumnLaws.{Passed, pair-in, pair-places, pass-start, pass-turn, pass-end}
 use Rattle.lifting.proofs.BackLaws.{unlifted-none, unlifted-more, within-none, within-more, within-end}
 use Rattle.lifting.proofs.pairs.unlift_pair.Statement.{statement}
 use Rattle.lifting.proofs.pairs.unlift_pair.Tie as tie
@@ -32,59 +32,62 @@ Fit c = pairFits (length (c .args .area .now)) (c .args .stride) (c .args .width
 fit : (c : tie.Then1 Inv-loop μ-loop) → Fit (c .before .before)
 fit c = sym (c .before .pair-fits .ensures) ∙ c .if1 .taken
 
+room : (c : tie.At-loop Inv-loop μ-loop) → length (c .before .before .before .args .area .now) * 4 < 2 ^ 63
+room c = c .before .before .before .good .0 .1
+
 pair-fits-requires : tie.Need-pair-fits-requires Inv-loop μ-loop
 pair-fits-requires c κs = tt
 
 mul-h : tie.Need-mul-h Inv-loop μ-loop
-mul-h c = omega (arith, pair-in _ _ _ _ _ _ _ (fit c))
+mul-h c = row-first (pair-in _ _ _ _ _ _ _ (fit c) .rows .one) (c .before .before .good .0 .1)
 
 mul-l : tie.Need-mul-l Inv-loop μ-loop
-mul-l c = omega (arith, pair-in _ _ _ _ _ _ _ (fit c))
+mul-l c = row-first (pair-in _ _ _ _ _ _ _ (fit c) .rows .two) (c .before .before .good .0 .1)
 
 mul-r : tie.Need-mul-r Inv-loop μ-loop
-mul-r c = omega (arith, pair-in _ _ _ _ _ _ _ (fit c))
+mul-r c = row-first (pair-in _ _ _ _ _ _ _ (fit c) .rows .three) (c .before .before .good .0 .1)
 
 mul-b : tie.Need-mul-b Inv-loop μ-loop
-mul-b c = omega (arith, pair-in _ _ _ _ _ _ _ (fit c))
+mul-b c = row-first (pair-in _ _ _ _ _ _ _ (fit c) .last) (c .before .before .good .0 .1)
 
 loop-holds : tie.Need-loop-holds Inv-loop μ-loop
 loop-holds c = (pass-start _ _ _ _ _ _ _ _ (unlifted-none _ _ _ _ _ _) (pair-in _ _ _ _ _ _ _ (fit c)), within-none _ _ _ _ _ _)
 
 add-unlift-at : tie.Need-add-unlift-at Inv-loop μ-loop
-add-unlift-at c = omega arith
+add-unlift-at c = row-sum (c .before .before .loop .inv .0 .rows .rows .one) (room (c .before .before)) _ (c .before .loop-test .taken)
 
 add-unlift-at-2 : tie.Need-add-unlift-at-2 Inv-loop μ-loop
-add-unlift-at-2 c = omega arith
+add-unlift-at-2 c = row-sum (c .before .before .loop .inv .0 .rows .rows .two) (room (c .before .before)) _ (c .before .loop-test .taken)
 
 add-unlift-at-3 : tie.Need-add-unlift-at-3 Inv-loop μ-loop
-add-unlift-at-3 c = omega arith
+add-unlift-at-3 c = row-sum (c .before .before .loop .inv .0 .rows .rows .three) (room (c .before .before)) _ (c .before .loop-test .taken)
 
 add-unlift-at-4 : tie.Need-add-unlift-at-4 Inv-loop μ-loop
-add-unlift-at-4 c = omega arith
+add-unlift-at-4 c = row-sum (c .before .before .loop .inv .0 .rows .last) (room (c .before .before)) _ (c .before .loop-test .taken)
 
 unlift-at-requires : tie.Need-unlift-at-requires Inv-loop μ-loop
 unlift-at-requires c κs =
     let o = c .before .before .loop in
-    let a = c .before .before .before .before .before .args in
-    let apart = rows-apart (a .stride) (a .high) (a .low) (o .i) (omega arith) (o .inv .0 .rows .other) in
-    (omega arith, omega arith, omega arith, omega arith, apart)
+    pair-places (o .inv .0 .rows) _ (o .i) (o .inv .0 .size) (c .before .loop-test .taken)
 
 add-i : tie.Need-add-i Inv-loop μ-loop
-add-i c = omega arith
+add-i c = row-next (c .before .before .before .before .loop .inv .0 .rows .last) (room (c .before .before .before .before)) _
+    (c .before .before .before .loop-test .taken)
 
 loop-less : tie.Need-loop-less Inv-loop μ-loop
-loop-less c = omega arith
+loop-less c = falls _ _ (c .before .before .before .loop-test .taken)
 
 loop-again : tie.Need-loop-again Inv-loop μ-loop
 loop-again c =
     let turn = c .before .before .before in
     let a = turn .before .before .before .before .args in
     let o = turn .before .loop in
+    let within = row-within (o .inv .0 .rows .last) (o .i) (turn .loop-test .taken) in
     let made = c .before .unlift-at .ensures in (
       pass-turn _ _ _ _ _ _ _ _
           (unliftedAt (a .high * a .stride + o .i) (a .low * a .stride + o .i) (a .right * a .stride + o .i) (a .before * a .stride + o .i))
-          (o .i) _ _ (o .inv .0) (turn .loop-test .taken) (omega arith) (made .1) (unlifted-more _ _ _ _ _ _ _ (omega arith)),
-      within-more _ _ (a .stride) (a .high) (a .low) (a .right) (a .before) (o .i) _ _ _ _ (omega arith) (made .1) (o .inv .1) (made .0),
+          (o .i) _ _ (o .inv .0) (turn .loop-test .taken) (c .before .unlift-at .kept .0) (made .1) (unlifted-more _ _ _ _ _ _ _ within),
+      within-more _ _ (a .stride) (a .high) (a .low) (a .right) (a .before) (o .i) _ _ _ _ within (made .1) (o .inv .1) (made .0),
     )
 
 same-length : tie.Need-same-length Inv-loop μ-loop
