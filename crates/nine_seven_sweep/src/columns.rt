@@ -4,7 +4,7 @@ use crate::back;
 use crate::forth;
 use crate::lone;
 use crate::near;
-use lifting::rows;
+use five_three_lines::rows;
 ghost use mathlib.Core.Path.{_≡_};
 ghost use mathlib.Core.Bool.{true};
 ghost use Prim.Native.Nat.{ℕ, _-_, _≤_};

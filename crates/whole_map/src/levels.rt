@@ -5,8 +5,8 @@
 use crate::passes;
 use crate::rowwise;
 use filters::figures;
-use lifting::halves;
-use lifting::rows;
+use five_three_lines::halves;
+use five_three_lines::rows;
 use lifting::sample;
 use nine_seven_sweep::columns;
 use wavelet::sizes;
