@@ -4,9 +4,9 @@
 use areas::lines;
 use areas::ranges;
 use level::lone;
-use lifting::line;
-use lifting::pairs;
-use lifting::rows;
+use five_three_lines::line;
+use five_three_lines::pairs;
+use five_three_lines::rows;
 use wavelet::sizes;
 ghost use mathlib.Core.Path.{_≡_};
 ghost use mathlib.Core.Bool.{true, false};

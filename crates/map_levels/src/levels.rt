@@ -4,8 +4,8 @@
 // The module is private: only this crate, which meets what is required, can call it.
 use crate::passes;
 use crate::rowwise;
-use lifting::halves;
-use lifting::rows;
+use five_three_lines::halves;
+use five_three_lines::rows;
 use lifting::sample;
 use nine_seven_sweep::columns;
 use wavelet::sizes;

@@ -1,8 +1,8 @@
 // Passes over the rows of one area: `height` rows of `width` numbers, `stride` apart, x and y where they start on the grid. The module is private, as `rowwise`
 // is.
 use crate::rowwise;
-use lifting::line;
-use lifting::rows;
+use five_three_lines::line;
+use five_three_lines::rows;
 use nine_seven_sweep::columns;
 use wavelet::sizes;
 ghost use mathlib.Core.Path.{_≡_};

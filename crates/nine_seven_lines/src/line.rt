@@ -4,7 +4,7 @@ use crate::near;
 use crate::place;
 use crate::put;
 use areas::lines;
-use lifting::line as short;
+use five_three_lines::line as short;
 ghost use mathlib.Core.Path.{_≡_};
 ghost use Prim.Native.Nat.{ℕ, _+_, _-_, _<_, _≤_};
 ghost use lib.ListN.{length, set};

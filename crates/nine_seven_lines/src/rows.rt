@@ -2,7 +2,7 @@
 // Each call changes row `target` by what stands in the same columns of the rows beside it, `left` and `right`, and three off, `before` and `after`. It answers
 // 0, or 5 with nothing changed where a row does not lie in the area or is wider than the stride.
 use crate::place;
-use lifting::rows;
+use five_three_lines::rows;
 ghost use mathlib.Core.Path.{_≡_};
 ghost use lib.ListN.{length};
 ghost use Rattle.numbers.specs.Signal.{at, pick};

@@ -2,7 +2,7 @@
 // The module is private: only this crate, which meets what is required, can call it.
 use crate::near;
 use level::moves;
-use lifting::rows as means;
+use five_three_lines::rows as means;
 use nine_seven_lines::line;
 use nine_seven_lines::rows;
 ghost use mathlib.Core.Path.{_≡_};

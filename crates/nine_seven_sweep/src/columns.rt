@@ -2,7 +2,7 @@
 // number: only whether it is odd counts. Both calls answer 5, with nothing changed, where a row does not lie in the area or is wider than the stride.
 use crate::back;
 use crate::forth;
-use lifting::rows;
+use five_three_lines::rows;
 use lone_rows::lone;
 ghost use mathlib.Core.Path.{_≡_};
 ghost use mathlib.Core.Bool.{true};
