@@ -15,8 +15,8 @@ use Rattle.reader.specs.Answers.{Reply, gives, refused, impossible, Handed, aRo
 use Rattle.reader.specs.State.{drawDue, fedReader, drawnReader, endedReader}
 use Rattle.reader.specs.Questions.{feedQuestion, drawQuestion}
 use Rattle.reader.specs.Calls.{feedReply, drawReply}
-use Rattle.terrain.specs.States.{zeroNext, zeroFrom, isState}
-use Rattle.terrain.specs.ReaderState.{isReader, readerOf, movedWords, readerWords}
+use Rattle.states.specs.States.{zeroNext, zeroFrom, isState}
+use Rattle.states.specs.ReaderState.{isReader, readerOf, movedWords, readerWords}
 use Rattle.terrain.specs.ReaderCalls.{feeding, drawing}
 use Rattle.terrain.proofs.WordLaws.{spelt}
 

@@ -17,8 +17,8 @@ use Rattle.writer.specs.declared.BandRow.{BandRow}
 use Rattle.writer.specs.Answers.{Took, aRow}
 use Rattle.writer.specs.Calls.{waits, afterDraw}
 use Rattle.writer.specs.Closing.{Shut}
-use Rattle.terrain.specs.States.{flag, zeroNext, zeroFrom, isState}
-use Rattle.terrain.specs.WriterState.{isWriter, writerOf, offeredWords, drawnWords, writerWords}
+use Rattle.states.specs.States.{flag, zeroNext, zeroFrom, isState}
+use Rattle.states.specs.WriterState.{isWriter, writerOf, offeredWords, drawnWords, writerWords}
 use Rattle.terrain.specs.WriterCalls.{offered, drawn}
 use Rattle.terrain.proofs.Steady.{Steady, offer-steady, draw-steady}
 

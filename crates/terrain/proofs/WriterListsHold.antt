@@ -11,11 +11,11 @@ use Rattle.writer.specs.Calls.{offerReply, offerStore, drawReply, drawStore, dr
 use Rattle.writer.specs.Holds.{left, after}
 use Rattle.writer.specs.History.{Call, World, event, next, events}
 use Rattle.writer.specs.History as rattle
-use Rattle.terrain.specs.States.{Memories}
-use Rattle.terrain.specs.WriterState.{writerWords, isWriter, writerOf}
+use Rattle.terrain.specs.Memories.{Memories}
+use Rattle.states.specs.WriterState.{writerWords, isWriter, writerOf}
 use Rattle.terrain.specs.WriterCalls as c
 use Rattle.terrain.specs.WriterLists.{CCall, offered, drew, finished, seenOf, leaves, seenAll, told, toldAll, holding, calls, Seen}
-use Rattle.terrain.proofs.StateTheorems.{writer-back, writer-is}
+use Rattle.states.proofs.StateTheorems.{writer-back, writer-is}
 use Rattle.level.specs.Level.{Memory}
 
 -- an answer told, and the state array that it leaves

@@ -6,8 +6,8 @@ use Rattle.calls.specs.Lists.{gives, refused, Area, events}
 use Rattle.reader.specs.Answers.{number}
 use Rattle.reader.specs.Demand3.{Call, Event, World, heights, nothing}
 use Rattle.reader.specs.Demand3 as rattle
-use Rattle.terrain.specs.States.{Memories}
-use Rattle.terrain.specs.ReaderState.{readerWords}
+use Rattle.terrain.specs.Memories.{Memories}
+use Rattle.states.specs.ReaderState.{readerWords}
 use Rattle.terrain.specs.ReaderCalls as c
 
 -- the arguments of a call that Rattle's has too, and what its out-parameter held: `want` of a want, `drawn` of a draw

@@ -9,7 +9,7 @@ use Rattle.writer.specs.declared.Writer.{Writer}
 use Rattle.writer.specs.Answers.{Took, Handed, aRow, nothing}
 use Rattle.writer.specs.declared.BandRow.{BandRow}
 use Rattle.writer.specs.Calls.{offerReply, offerStore, drawReply, drawStore, drawArea, waitsReply, finishReply, finishStore}
-use Rattle.terrain.specs.WriterState.{isWriter, writerOf, writerWords}
+use Rattle.states.specs.WriterState.{isWriter, writerOf, writerWords}
 
 -- 0, or the number of the question that turned the call away
 abbrev pub number : {A : Type 0} → Reply A → ℕ

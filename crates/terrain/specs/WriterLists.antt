@@ -6,8 +6,8 @@ use Rattle.calls.specs.Lists.{gives, refused, Area, events}
 use Rattle.writer.specs.History.{Call, Event, World, row, none}
 use Rattle.level.specs.Level.{Memory}
 use Rattle.writer.specs.History as rattle
-use Rattle.terrain.specs.States.{Memories}
-use Rattle.terrain.specs.WriterState.{writerWords}
+use Rattle.terrain.specs.Memories.{Memories}
+use Rattle.states.specs.WriterState.{writerWords}
 use Rattle.terrain.specs.WriterCalls as c
 
 -- the arguments of a call that Rattle's has too, and what its out-parameter held: `taken` of an offer, `row` of a draw

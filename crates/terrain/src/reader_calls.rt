@@ -1,5 +1,5 @@
 // The reader's calls. The state is the caller's array: `reader_state` unpacks and packs it.
-use crate::reader_state;
+use states::reader_state;
 use reader::Drawn;
 use reader::Fed;
 use reader::Reader;

@@ -1,5 +1,5 @@
 // The writer's calls. The state is the caller's array: `writer_state` unpacks and packs it.
-use crate::writer_state;
+use states::writer_state;
 use filters::figures;
 use wavelet::shape::Shape;
 use writer::Drawn;

@@ -6,7 +6,7 @@ use lib.Dec.{eqb}
 use borrow.Author.Needs.{needs}
 use Rattle.wavelet.specs.Shape.{columns, rows}
 use Rattle.wavelet.proofs.ViewLaws.{span-at, span-refused}
-use Rattle.terrain.proofs.StateLaws.{pick-no}
+use Rattle.terrain.proofs.CallLaws.{pick-no}
 use Rattle.terrain.proofs.map.terrain_band_row.Statement.{statement}
 use Rattle.terrain.proofs.map.terrain_band_row.Tie as tie
 

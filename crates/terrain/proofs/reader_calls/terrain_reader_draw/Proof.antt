@@ -9,8 +9,8 @@ use Rattle.reader.specs.Answers.{Reply, refused, number, Handed, ofDrawn}
 use Rattle.reader.specs.Questions.{drawQuestion}
 use Rattle.reader.specs.Calls.{drawReply, drawStore, drawArea}
 use Rattle.terrain.specs.ReaderCalls.{drawing, stateDrawn, countOf}
-use Rattle.terrain.specs.ReaderState.{isReader, readerOf}
-use Rattle.terrain.proofs.StateLaws.{turned, went}
+use Rattle.states.specs.ReaderState.{isReader, readerOf}
+use Rattle.terrain.proofs.CallLaws.{turned, went}
 use Rattle.terrain.proofs.MovedWords.{drawn-words}
 use Rattle.terrain.proofs.reader_calls.terrain_reader_draw.Statement.{statement}
 use Rattle.terrain.proofs.reader_calls.terrain_reader_draw.Tie as tie

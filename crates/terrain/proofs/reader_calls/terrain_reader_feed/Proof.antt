@@ -8,8 +8,8 @@ use Rattle.reader.specs.Answers.{Reply, refused, number, ofFed}
 use Rattle.reader.specs.Questions.{feedQuestion}
 use Rattle.reader.specs.Calls.{feedReply, feedStore}
 use Rattle.terrain.specs.ReaderCalls.{feeding, stateOf}
-use Rattle.terrain.specs.ReaderState.{isReader, readerOf}
-use Rattle.terrain.proofs.StateLaws.{turned, went}
+use Rattle.states.specs.ReaderState.{isReader, readerOf}
+use Rattle.terrain.proofs.CallLaws.{turned, went}
 use Rattle.terrain.proofs.MovedWords.{fed-words}
 use Rattle.terrain.proofs.reader_calls.terrain_reader_feed.Statement.{statement}
 use Rattle.terrain.proofs.reader_calls.terrain_reader_feed.Tie as tie

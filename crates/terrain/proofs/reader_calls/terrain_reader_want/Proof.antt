@@ -6,8 +6,8 @@ use Rattle.reader.specs.Answers.{Reply, refused, number, Want, ofWanted}
 use Rattle.reader.specs.Questions.{wantQuestion}
 use Rattle.reader.specs.Calls.{wantReply}
 use Rattle.terrain.specs.ReaderCalls.{wanting, wantOf}
-use Rattle.terrain.specs.ReaderState.{isReader, readerOf}
-use Rattle.terrain.proofs.StateLaws.{turned, went}
+use Rattle.states.specs.ReaderState.{isReader, readerOf}
+use Rattle.terrain.proofs.CallLaws.{turned, went}
 use Rattle.terrain.proofs.reader_calls.terrain_reader_want.Statement.{statement}
 use Rattle.terrain.proofs.reader_calls.terrain_reader_want.Tie as tie
 

@@ -8,9 +8,9 @@ use Rattle.calls.specs.Lists.{Reply, refused}
 use Rattle.writer.specs.declared.Writer.{Writer}
 use Rattle.writer.specs.Answers.{Handed, ofDrawn}
 use Rattle.writer.specs.Calls.{drawReply, drawStore, drawArea}
-use Rattle.terrain.specs.WriterState.{isWriter, writerOf}
+use Rattle.states.specs.WriterState.{isWriter, writerOf}
 use Rattle.terrain.specs.WriterCalls.{number, drawn, stateHanded, rowOf}
-use Rattle.terrain.proofs.StateLaws.{turned, went}
+use Rattle.terrain.proofs.CallLaws.{turned, went}
 use Rattle.terrain.proofs.WordLaws.{drawn-words}
 use Rattle.terrain.proofs.writer_calls.terrain_writer_draw.Statement.{statement}
 use Rattle.terrain.proofs.writer_calls.terrain_writer_draw.Tie as tie

@@ -8,9 +8,9 @@ use Rattle.calls.specs.Lists.{Reply, refused}
 use Rattle.writer.specs.declared.Writer.{Writer}
 use Rattle.writer.specs.Answers.{ofFinished}
 use Rattle.writer.specs.Calls.{finishReply, finishStore}
-use Rattle.terrain.specs.WriterState.{isWriter, writerOf}
+use Rattle.states.specs.WriterState.{isWriter, writerOf}
 use Rattle.terrain.specs.WriterCalls.{number, finished, stateOf}
-use Rattle.terrain.proofs.StateLaws.{turned, went}
+use Rattle.terrain.proofs.CallLaws.{turned, went}
 use Rattle.terrain.proofs.writer_calls.terrain_writer_finish.Statement.{statement}
 use Rattle.terrain.proofs.writer_calls.terrain_writer_finish.Tie as tie
 

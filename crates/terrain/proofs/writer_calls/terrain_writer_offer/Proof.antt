@@ -9,9 +9,9 @@ use Rattle.calls.specs.Lists.{Reply, refused}
 use Rattle.writer.specs.declared.Writer.{Writer}
 use Rattle.writer.specs.Answers.{Took, ofOffered}
 use Rattle.writer.specs.Calls.{offerReply, offerStore}
-use Rattle.terrain.specs.WriterState.{isWriter, writerOf}
+use Rattle.states.specs.WriterState.{isWriter, writerOf}
 use Rattle.terrain.specs.WriterCalls.{number, offered, stateTook, takenOf}
-use Rattle.terrain.proofs.StateLaws.{turned, went}
+use Rattle.terrain.proofs.CallLaws.{turned, went}
 use Rattle.terrain.proofs.WordLaws.{offered-words}
 use Rattle.terrain.proofs.writer_calls.terrain_writer_offer.Statement.{statement}
 use Rattle.terrain.proofs.writer_calls.terrain_writer_offer.Tie as tie

@@ -6,9 +6,9 @@ use Rattle.writer.specs.declared.Writer.{Writer}
 use Rattle.writer.specs.declared.BandRow.{BandRow}
 use Rattle.writer.specs.Answers.{ofLook}
 use Rattle.writer.specs.Calls.{waitsReply}
-use Rattle.terrain.specs.WriterState.{isWriter, writerOf}
+use Rattle.states.specs.WriterState.{isWriter, writerOf}
 use Rattle.terrain.specs.WriterCalls.{number, waiting, lookOf}
-use Rattle.terrain.proofs.StateLaws.{turned, went}
+use Rattle.terrain.proofs.CallLaws.{turned, went}
 use Rattle.terrain.proofs.writer_calls.terrain_writer_waits.Statement.{statement}
 use Rattle.terrain.proofs.writer_calls.terrain_writer_waits.Tie as tie
 
