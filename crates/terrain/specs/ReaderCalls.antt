@@ -54,10 +54,3 @@ stateDrawn (gives (aRow n r)) s = readerWords r
 stateDrawn (gives nothing) s = s
 stateDrawn (refused q) s = s
 stateDrawn (impossible r) s = readerWords r
-
--- how many heights, 0 for Nothing
-abbrev pub countOf : Reply Handed → ℕ → ℕ
-countOf (gives (aRow n r)) z = n
-countOf (gives nothing) z = 0
-countOf (refused q) z = z
-countOf (impossible r) z = z

@@ -11,7 +11,7 @@ use Rattle.terrain.proofs.map.terrain_band_row.Statement.{statement}
 use Rattle.terrain.proofs.map.terrain_band_row.Tie as tie
 
 locate-requires : tie.Need-locate-requires
-locate-requires c κs = search needs
+locate-requires c κs = tt
 
 enum-known-first : tie.Need-enum-known-first
 enum-known-first c = search needs
