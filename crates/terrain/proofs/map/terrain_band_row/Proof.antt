@@ -6,12 +6,12 @@ use lib.Dec.{eqb}
 use borrow.Author.Needs.{needs}
 use Rattle.wavelet.specs.Shape.{columns, rows}
 use Rattle.wavelet.proofs.ViewLaws.{span-at, span-refused}
-use Rattle.terrain.proofs.StateLaws.{pick-no}
+use Rattle.terrain.proofs.CallLaws.{pick-no}
 use Rattle.terrain.proofs.map.terrain_band_row.Statement.{statement}
 use Rattle.terrain.proofs.map.terrain_band_row.Tie as tie
 
 locate-requires : tie.Need-locate-requires
-locate-requires c κs = search needs
+locate-requires c κs = tt
 
 enum-known-first : tie.Need-enum-known-first
 enum-known-first c = search needs
