@@ -19,7 +19,8 @@ use Rattle.lifting.specs.Line.{Half, lo, hi, unupdated, unpredicted}
 use Rattle.lifting.specs.Grid.{Side, side, place, count, parted, joined, lineForward, lineHalvesBack, lineBack}
 use Rattle.lifting.specs.GridHalves.{halvesOf, liftedInPlace, forwardInto, backwardInto}
 use Rattle.lifting.specs.Passes.{near, evensCopied, evenBack, restPut}
-use Rattle.lifting.proofs.GridLaws.{ahead, counts, some, beside-lows, every-second, low-place, high-place, left-one, left-two, left-three, place-in, joined-place, joined-reads}
+use Rattle.lifting.proofs.GridLaws.{ahead, counts, some, beside-lows, every-second, low-place, high-place}
+use Rattle.lifting.proofs.GridLaws.{left-one, left-two, left-three, place-in, joined-place, joined-reads}
 use Rattle.lifting.proofs.GridLaws.{joined-parted, even-near, odd-near, halves-low, halves-high, halves-are, front-in, front-past}
 use Rattle.lifting.proofs.GridReads.{forward-reads}
 

@@ -17,7 +17,8 @@ use Rattle.numbers.proofs.Sweep.{both}
 use Rattle.lifting.specs.Line.{predicted, updated}
 use Rattle.lifting.specs.Rows.{rowFits, rowsFit, rowChanged}
 use Rattle.lifting.specs.Pairs.{first, pairFits, pairLifted, pairCopied, changedAt, liftedAt}
-use Rattle.lifting.proofs.RowLaws.{row-within, row-place, RowIn, RowsIn, row-in, row-fits, rows-in, rows-fit, row-at, row-before, row-past, row-other, row-order}
+use Rattle.lifting.proofs.RowLaws.{row-within, row-place, RowIn, RowsIn, row-in, row-fits, rows-in}
+use Rattle.lifting.proofs.RowLaws.{rows-fit, row-at, row-before, row-past, row-other, row-order}
 
 -- places in different columns differ
 pub columns-apart : (s q t i c : ℕ) → c < i → i < s → t * s + c ≡ q * s + i → ⊥

@@ -296,7 +296,8 @@ module _ {f : ℤ → ℤ → ℤ → ℤ} {l₀ : List ℤ} {low o high end n :
   module _ (x : List ℤ) (r : ℕ) (size : length l₀ ≡ length x) (e : r ≡ near (length x - low) o)
       (is : l₀ ≡ set x 0 (f (at x 0) (at x low) (at x (low + r)))) where
     lows-begun : Swept (length l₀) (lowsChanged f o low (length l₀) (at x)) (at x) 1 l₀
-    lows-begun = lows-first f o low (low + r) x l₀ (h .places .some) (subst (λ (N : ℕ). low < N) size (h .places .both)) (h .places .few) (ap (λ (k : ℕ). low + k) e) is
+    lows-begun =
+        lows-first f o low (low + r) x l₀ (h .places .some) (subst (λ (N : ℕ). low < N) size (h .places .both)) (h .places .few) (ap (λ (k : ℕ). low + k) e) is
 
     pub lows-last : (l′ : List ℤ) → end ≤ n → n < low → l′ ≡ set l n (f (at l n) (at l (low + high - 1)) (at l (low + high - 1)))
         → at l′ ≡ lowsChanged f o low (length x) (at x)
@@ -375,7 +376,8 @@ module _ (S : Side) (y : ℕ → ℤ) (g : 1 < S .length) where
       (λ j h. sym (highs-past (unpredicted wrap32) a low N z j (omega arith) h ∙ lows-past (unupdated wrap32) (ahead S hi) low N y j (omega arith)))
 
 -- the passes as they are called, each leaving as many numbers: x the line, x₁ and x₂ what the two leave
-module _ (S : Side) (low : ℕ) (x x₁ x₂ : List ℤ) (size : S .length ≡ length x) (size₁ : length x₁ ≡ length x) (more : 1 < S .length) (lows : low ≡ count lo S) where
+module _ (S : Side) (low : ℕ) (x x₁ x₂ : List ℤ) (size : S .length ≡ length x) (size₁ : length x₁ ≡ length x) (more : 1 < S .length)
+    (lows : low ≡ count lo S) where
   pub lifted-by : at x₁ ≡ highsChanged (predicted wrap32) (1 - S .start % 2) low (length x) (at x)
       → at x₂ ≡ lowsChanged (updated wrap32) (S .start % 2) low (length x₁) (at x₁) → at x₂ ≡ liftedInPlace S (at x)
   lifted-by e f = cc (lifted-is S (at x) more)

@@ -1,4 +1,5 @@
--- `five_three_lines::halves::unlift_by` meets its contract: a row lifted back in a part of `out` that is lent; a line of one number or none goes apart. Assumes nothing.
+-- `five_three_lines::halves::unlift_by` meets its contract: a row lifted back in a part of `out` that is lent; a line of one number or none goes apart.
+-- Assumes nothing.
 use Prim.Native.Nat.{_-_}
 use native.Mathlib.Omega.{arith}
 use lib.ListN.{length}

@@ -1,4 +1,5 @@
--- `five_three_lines::halves::unlift_highs` meets its contract: a sweep over the high numbers of `out`, the first before the loop and the last after it. Assumes nothing.
+-- `five_three_lines::halves::unlift_highs` meets its contract: a sweep over the high numbers of `out`, the first before the loop and the last after it.
+-- Assumes nothing.
 use mathlib.Core.Path.{refl, sym, _∙_}
 use Prim.Native.Nat.{_-_}
 use native.Mathlib.Omega.{arith}

@@ -1,4 +1,5 @@
--- `five_three_lines::halves::unlift_lows` meets its contract: a sweep over the low numbers of `out`, the first before the loop and the last after it. Assumes nothing.
+-- `five_three_lines::halves::unlift_lows` meets its contract: a sweep over the low numbers of `out`, the first before the loop and the last after it.
+-- Assumes nothing.
 use mathlib.Core.Path.{refl, sym, _∙_}
 use Prim.Native.Nat.{_-_}
 use Rattle.numbers.specs.Word.{wrap32}
@@ -26,7 +27,9 @@ nearest-requires : tie.Need-nearest-requires Inv-loop μ-loop
 nearest-requires c κs = let p = c .before .pre in low-begins _ _ _ (p .0, p .1, p .2, p .3, p .4) .2
 
 add-unupdate-by : tie.Need-add-unupdate-by Inv-loop μ-loop
-add-unupdate-by c = let p = c .before .before .pre in low-first-in _ _ _ _ (p .0, p .1, p .2, p .3, p .4) (c .before .before .good .0 .1) (c .nearest .ensures) .0
+add-unupdate-by c =
+    let p = c .before .before .pre in
+    low-first-in _ _ _ _ (p .0, p .1, p .2, p .3, p .4) (c .before .before .good .0 .1) (c .nearest .ensures) .0
 
 unupdate-by-requires : tie.Need-unupdate-by-requires Inv-loop μ-loop
 unupdate-by-requires c κs =

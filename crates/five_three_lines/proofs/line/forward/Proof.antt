@@ -1,5 +1,5 @@
--- `five_three_lines::line::forward` meets its contract: the line's places copied into its halves, and these lifted, each in a part of `out` that is lent. Assumes
--- nothing.
+-- `five_three_lines::line::forward` meets its contract: the line's places copied into its halves, and these lifted, each in a part of `out` that is lent.
+-- Assumes nothing.
 use mathlib.Core.Path.{_≡_, refl, sym, _∙_}
 use Prim.Native.Nat.{_-_}
 use native.Mathlib.Omega.{arith}
@@ -10,7 +10,8 @@ use borrow.Author.Tests.{le-leb, lt-leb}
 use borrow.Rule.Slice.PartMut.{putMid, same-len-mid}
 use Rattle.numbers.specs.Signal.{at}
 use Rattle.lifting.specs.Grid.{side}
-use Rattle.five_three_lines.proofs.AreaLaws.{Parts, part-sums, part-starts, low-room, high-room, from-none, to-all, less-none, up-to, forward-parts, forward-none}
+use Rattle.five_three_lines.proofs.AreaLaws.{Parts, part-sums, part-starts, low-room, high-room, from-none}
+use Rattle.five_three_lines.proofs.AreaLaws.{to-all, less-none, up-to, forward-parts, forward-none}
 use Rattle.five_three_lines.proofs.line.forward.Statement.{statement}
 use Rattle.five_three_lines.proofs.line.forward.Tie as tie
 
@@ -109,7 +110,8 @@ part-copy-evens-end-4 : tie.Need-part-copy-evens-end-4
 part-copy-evens-end-4 c = up-to _ _ _ (facts (c .before .before .before .before .before) .room) (size-once (c .before .before))
 
 copy-evens-requires-2 : tie.Need-copy-evens-requires-2
-copy-evens-requires-2 c κs = high-room (facts (c .before .before .before .before .before .before)) _ (once (c .before .before .before)) refl (size-once (c .before .before .before))
+copy-evens-requires-2 c κs =
+    high-room (facts (c .before .before .before .before .before .before)) _ (once (c .before .before .before)) refl (size-once (c .before .before .before))
 
 sub-lift : tie.Need-sub-lift
 sub-lift c = from-none _
@@ -148,7 +150,8 @@ returns-2 c =
     let ok = le-leb N (length (a .out .now)) (p .room) in (
       simp ok,
       simp ok
-          (forward-parts S x (a .out .now) (once first) (twice second) (first .copy-evens .last .1 .0) (second .copy-evens2 .last .1 .0) (c .before .lift .last .0) low (low - 0)
+          (forward-parts S x (a .out .now) (once first) (twice second) (first .copy-evens .last .1 .0) (second .copy-evens2 .last .1 .0)
+          (c .before .lift .last .0) low (low - 0)
           (N - 0) (p .some) refl (p .room) (lows .lows .ensures) (less-none low) (less-none N)
           (first .copy-evens .kept .1 .0) (first .copy-evens .ensures) refl
           (second .copy-evens2 .kept .1 .0) (second .copy-evens2 .ensures) refl

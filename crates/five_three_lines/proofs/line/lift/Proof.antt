@@ -44,7 +44,8 @@ returns-2 c =
     let a = lows .before .before .args in
     let x = a .line .now in
     let more = lows .before .if1 .left in
-    lifted-by (side (a .start) (length x)) _ x (first .predict-highs .last .0) (c .before .update-lows .last .0) refl (first .predict-highs .kept .0) more (lows .lows .ensures) (first .predict-highs .ensures) (c .before .update-lows .ensures)
+    lifted-by (side (a .start) (length x)) _ x (first .predict-highs .last .0) (c .before .update-lows .last .0) refl (first .predict-highs .kept .0) more
+    (lows .lows .ensures) (first .predict-highs .ensures) (c .before .update-lows .ensures)
 
 pub lift-spec : {M : Type 1} → statement M
 lift-spec =

@@ -8,7 +8,8 @@ use Rattle.numbers.specs.Signal.{at}
 use Rattle.numbers.proofs.Words.{read-back}
 use Rattle.lifting.specs.Grid.{side}
 use Rattle.lifting.proofs.PassLaws.{highs-beside, low-begins, low-first-in, first-in, first-sum, further}
-use Rattle.five_three_lines.proofs.AreaLaws.{Carried, carried-at, carried-next, carried-sums, carried-reads, carried-in, carried-end, first-turn, line-turn, line-put}
+use Rattle.five_three_lines.proofs.AreaLaws.{Carried, carried-at, carried-next, carried-sums, carried-reads, carried-in}
+use Rattle.five_three_lines.proofs.AreaLaws.{carried-end, first-turn, line-turn, line-put}
 use Rattle.five_three_lines.proofs.line.put_line.Statement.{statement}
 use Rattle.five_three_lines.proofs.line.put_line.Tie as tie
 
@@ -33,12 +34,14 @@ nearest-requires c κs =
 add-even-of : tie.Need-add-even-of Inv-loop μ-loop
 add-even-of c =
     let a = c .before in
-    low-first-in _ _ _ _ (highs-beside (side (a .args .start) (length (a .args .coefficients .now))) _ _ refl (a .pre .1) (a .pre .0)) (a .good .0 .1) (c .nearest .ensures) .0
+    low-first-in _ _ _ _ (highs-beside (side (a .args .start) (length (a .args .coefficients .now))) _ _ refl (a .pre .1) (a .pre .0)) (a .good .0 .1)
+    (c .nearest .ensures) .0
 
 even-of-requires : tie.Need-even-of-requires Inv-loop μ-loop
 even-of-requires c κs =
     let a = c .before in
-    low-first-in _ _ _ _ (highs-beside (side (a .args .start) (length (a .args .coefficients .now))) _ _ refl (a .pre .1) (a .pre .0)) (a .good .0 .1) (c .nearest .ensures) .1
+    low-first-in _ _ _ _ (highs-beside (side (a .args .start) (length (a .args .coefficients .now))) _ _ refl (a .pre .1) (a .pre .0)) (a .good .0 .1)
+    (c .nearest .ensures) .1
 
 put-first-requires : tie.Need-put-first-requires Inv-loop μ-loop
 put-first-requires c κs =

@@ -48,7 +48,8 @@ returns-2 c =
     let more = lows .before .if1 .left in
     let has = has-more (side (a .start) (length x)) (at x) more in (
       simp has,
-      simp has (unlifted-by (side (a .start) (length x)) _ x (first .unupdate-lows .last .0) (c .before .unpredict-highs .last .0) refl (first .unupdate-lows .kept .0) more (lows .lows .ensures) (first .unupdate-lows .ensures) (c .before .unpredict-highs .ensures)),
+      simp has (unlifted-by (side (a .start) (length x)) _ x (first .unupdate-lows .last .0) (c .before .unpredict-highs .last .0) refl
+          (first .unupdate-lows .kept .0) more (lows .lows .ensures) (first .unupdate-lows .ensures) (c .before .unpredict-highs .ensures)),
     )
 
 pub unlift-spec : {M : Type 1} → statement M

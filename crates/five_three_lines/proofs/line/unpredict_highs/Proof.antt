@@ -1,4 +1,5 @@
--- `five_three_lines::line::unpredict_highs` meets its contract: a sweep over the high numbers, the first before the loop and the last after it. Assumes nothing.
+-- `five_three_lines::line::unpredict_highs` meets its contract: a sweep over the high numbers, the first before the loop and the last after it.
+-- Assumes nothing.
 use mathlib.Core.Path.{refl, _∙_}
 use Prim.Native.Nat.{_-_}
 use native.Mathlib.Omega.{arith}
@@ -81,7 +82,8 @@ returns c =
     let head = c .before .before .before .before .before in
     let first = head .before .before in
     let near = first .before in
-    highs-last (head .loop .inv) (near .before .before .args .line .now) _ (first .unpredict-at .kept .0) (near .nearest .ensures) (first .unpredict-at .ensures) _
+    highs-last (head .loop .inv) (near .before .before .args .line .now) _ (first .unpredict-at .kept .0) (near .nearest .ensures)
+    (first .unpredict-at .ensures) _
     (c .before .before .before .before .loop-test .left) (c .before .before .before .if1 .taken) (c .before .unpredict-at3 .ensures)
 
 same-length-2 : tie.Need-same-length-2 Inv-loop μ-loop
@@ -94,7 +96,8 @@ returns-2 c =
     let head = c .before .before in
     let first = head .before .before in
     let near = first .before in
-    highs-done (head .loop .inv) (near .before .before .args .line .now) _ (first .unpredict-at .kept .0) (near .nearest .ensures) (first .unpredict-at .ensures)
+    highs-done (head .loop .inv) (near .before .before .args .line .now) _ (first .unpredict-at .kept .0) (near .nearest .ensures)
+    (first .unpredict-at .ensures)
     (c .if1 .left)
 
 pub unpredict-highs-spec : {M : Type 1} → statement M

@@ -80,7 +80,8 @@ loop-again c =
     let a = turn .before .before .before .before .args in
     let o = turn .before .loop in
     let within = row-within (o .inv .rows .last) (o .i) (turn .loop-test .taken) in
-    pass-turn _ _ _ _ _ _ _ _ (G (a .stride) (a .high) (a .low) (a .right) (a .before) (o .i)) (o .i) _ _ (o .inv) (turn .loop-test .taken) (c .before .lift-copy-at .kept .0)
+    pass-turn _ _ _ _ _ _ _ _ (G (a .stride) (a .high) (a .low) (a .right) (a .before) (o .i)) (o .i) _ _ (o .inv) (turn .loop-test .taken)
+    (c .before .lift-copy-at .kept .0)
     (c .before .lift-copy-at .ensures) (copied-more _ _ _ _ _ _ _ within)
 
 same-length : tie.Need-same-length Inv-loop μ-loop

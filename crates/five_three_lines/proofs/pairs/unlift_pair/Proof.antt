@@ -1,4 +1,5 @@
--- `five_three_lines::pairs::unlift_pair` meets its contract: before turn i the first i columns are lifted back, and the answer so far is theirs. Assumes nothing.
+-- `five_three_lines::pairs::unlift_pair` meets its contract: before turn i the first i columns are lifted back, and the answer so far is theirs.
+-- Assumes nothing.
 use mathlib.Core.Path.{_≡_, sym, _∙_}
 use mathlib.Core.Bool.{true}
 use Prim.Native.Nat.{ℕ, _+_, _-_, _*_, _^_, _<_}

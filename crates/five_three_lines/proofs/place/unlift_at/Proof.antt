@@ -1,7 +1,6 @@
 -- `five_three_lines::place::unlift_at` meets its contract: what is read and stored are 32-bit numbers read back. Assumes nothing.
 use mathlib.Core.Path.{_≡_, _∙_}
-use lib.ListN.{set}
-use borrow.Author.Needs.{needs}
+use lib.ListN.{set, length-set}
 use mir.Syntax.{w32}
 use mir.Val.{toZ, ofZ}
 use mir.ValLaws.{toZ-ofZ}
@@ -9,60 +8,63 @@ use Rattle.numbers.specs.Signal.{at}
 use Rattle.numbers.specs.Word.{wrap32}
 use Rattle.numbers.proofs.Words.{read-back}
 use Rattle.lifting.specs.Line.{unpredicted, unupdated}
+use Rattle.five_three_lines.proofs.PlaceLaws.{bytes, in-set}
 use Rattle.five_three_lines.proofs.BackLaws.{back-stores, back-tested}
 use Rattle.five_three_lines.proofs.place.unlift_at.Statement.{statement}
 use Rattle.five_three_lines.proofs.place.unlift_at.Tie as tie
 
 mul-d : tie.Need-mul-d
-mul-d c = search needs
+mul-d c = bytes _ _ (c .pre .0) (c .good .0 .1)
 
 slice-copy-out-d : tie.Need-slice-copy-out-d
-slice-copy-out-d c = search needs
+slice-copy-out-d c = c .pre .0
 
 mul-unupdate : tie.Need-mul-unupdate
-mul-unupdate c = search needs
+mul-unupdate c = bytes _ _ (c .before .pre .1) (c .before .good .0 .1)
 
 slice-copy-out-unupdate : tie.Need-slice-copy-out-unupdate
-slice-copy-out-unupdate c = search needs
+slice-copy-out-unupdate c = c .before .pre .1
 
 mul-unupdate-2 : tie.Need-mul-unupdate-2
-mul-unupdate-2 c = search needs
+mul-unupdate-2 c = bytes _ _ (c .before .before .pre .2) (c .before .before .good .0 .1)
 
 slice-copy-out-unupdate-2 : tie.Need-slice-copy-out-unupdate-2
-slice-copy-out-unupdate-2 c = search needs
+slice-copy-out-unupdate-2 c = c .before .before .pre .2
 
 unupdate-requires : tie.Need-unupdate-requires
-unupdate-requires c κs = search needs
+unupdate-requires c κs = tt
 
 mul-s : tie.Need-mul-s
-mul-s c = search needs
+mul-s c = bytes _ _ (c .before .before .before .before .pre .1) (c .before .before .before .before .good .0 .1)
 
 slice-set-from-s : tie.Need-slice-set-from-s
-slice-set-from-s c = search needs
+slice-set-from-s c = c .before .before .before .before .pre .1
 
 mul-unpredict : tie.Need-mul-unpredict
-mul-unpredict c = search needs
+mul-unpredict c = bytes _ _ (c .before .before .before .before .pre .3) (c .before .before .before .before .good .0 .1)
 
 slice-copy-out-unpredict : tie.Need-slice-copy-out-unpredict
-slice-copy-out-unpredict c = search needs
+slice-copy-out-unpredict c = let s = c .before .before .before .before in in-set (s .args .area .now) (s .args .l) _ _ (s .pre .3)
 
 unpredict-requires : tie.Need-unpredict-requires
-unpredict-requires c κs = search needs
+unpredict-requires c κs = tt
 
 mul-x : tie.Need-mul-x
-mul-x c = search needs
+mul-x c = bytes _ _ (c .before .before .before .before .before .before .pre .0) (c .before .before .before .before .before .before .good .0 .1)
 
 slice-set-from-x : tie.Need-slice-set-from-x
-slice-set-from-x c = search needs
+slice-set-from-x c = let s = c .before .before .before .before .before .before in in-set (s .args .area .now) (s .args .l) _ _ (s .pre .0)
 
 is-within-requires : tie.Need-is-within-requires
-is-within-requires c κs = search needs
+is-within-requires c κs = tt
 
 is-within-requires-2 : tie.Need-is-within-requires-2
-is-within-requires-2 c κs = search needs
+is-within-requires-2 c κs = tt
 
 same-length : tie.Need-same-length
-same-length c = search needs
+same-length c =
+    let m = c .before .before .before .before .before .before .before .before .args .area .now in
+    length-set (set m _ _) _ _ ∙ length-set m _ _
 
 returns : tie.Need-returns
 returns c =

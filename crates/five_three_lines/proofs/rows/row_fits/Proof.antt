@@ -1,4 +1,5 @@
--- `five_three_lines::rows::row_fits` meets its contract: with a stride of 0 every row is empty and at place 0, else the quotient is the last row with room. Assumes
+-- `five_three_lines::rows::row_fits` meets its contract: with a stride of 0 every row is empty and at place 0, else the quotient is the last row with room.
+-- Assumes
 -- nothing.
 use mathlib.Core.Path.{_≡_, sym}
 use Prim.Native.Nat.{ℕ, _+_, _-_, _*_, _/_, _≤_, _<_}
