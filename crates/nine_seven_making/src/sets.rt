@@ -3,8 +3,8 @@
 use crate::near;
 use five_three_lines::rows as means;
 use level::moves;
-use nine_seven::line;
-use nine_seven::rows;
+use nine_seven_lines::line;
+use nine_seven_lines::rows;
 ghost use mathlib.Core.Path.{_≡_};
 ghost use mathlib.Core.Bool.{true};
 ghost use Prim.Native.Nat.{_≤_, _*_, _+_, _<_};
