@@ -22,6 +22,7 @@ use Rattle.level.specs.Rebuilding.{widest, tallest, workAnswer, Kept}
 use Rattle.five_three_rebuilding.specs.Rebuilding.{workable, workLeft}
 use Rattle.nine_seven_rebuilding.specs.Work as work97
 use Rattle.nine_seven_rebuilding.specs.Rebuilding as rebuilding97
+use Rattle.figures.specs.Range as nine
 use Rattle.level.proofs.WorkedPast.{Keeps}
 use Rattle.five_three_rebuilding.proofs.WorkedPast as past
 use Rattle.nine_seven_rebuilding.proofs.WorkedPast as past97
@@ -119,6 +120,6 @@ module _ (last : Bool) (k : ℕ) (W H : Side) (n m r : ℕ) (x y : ℕ → ℤ) 
       × ((outcome (eqb r 0) y ≡ pick (rebuilding97.workable last k W H n m) (work97.setWorked last k W H n x) failed)
       × (Kept (8 * W .length) x y
       × (y ≡ rebuilding97.workLeft W (rebuilding97.workable last k W H n m) (work97.setWorked last k W H n x) x))) → Worked f
-  unfolding backOf filterOf rebuilding97.maxLevels
+  unfolding backOf filterOf nine.maxLevels
   second-worked zero d p = absurd (d refl)
   second-worked (suc f) d p = p
