@@ -22,8 +22,8 @@ ghost use Rattle.wavelet.specs.Limits.{maxLevels};
 ghost use Rattle.wavelet.specs.Order.{firstSet};
 ghost use Rattle.level.specs.Tried.{outcome};
 ghost use Rattle.five_three_rebuilding.specs.Slots.{rowPlace, lowRowTaken};
-ghost use Rattle.five_three_rebuilding.specs.Work.{lowNear, highNear, lowTaken, lineTried, lowTried, highTried, setUnlifted, evenRow, oddRow, rowFits, admitted};
-ghost use Rattle.five_three_rebuilding.specs.Work.{evenMade, oddMade, pairMade, loneMade, lastMade, rowsMade, setMade, setWorked};
+ghost use Rattle.five_three_rebuilding.specs.Work.{lowNear, highNear, lowTaken, lineTried, lowTried, highTried, setUnlifted, rowFits, admitted};
+ghost use Rattle.five_three_rebuilding.specs.Work.{evenRow, oddRow, evenMade, oddMade, pairMade, loneMade, lastMade, rowsMade, setMade, setWorked};
 ghost use Rattle.level.specs.Rebuilding.{Kept};
 ghost use Rattle.five_three_rebuilding.specs.Rebuilding.{lowestOf};
 
