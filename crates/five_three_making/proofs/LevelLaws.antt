@@ -30,7 +30,8 @@ use Rattle.level.proofs.RowSteps.{ap₃}
 use Rattle.five_three_making.proofs.SetRows.{high-mid, high-end, low-mid, low-end, low-only, high-only, high-first}
 use Rattle.level.proofs.Spots.{spot, cell-spot, spot-even, spot-odd, spot-in, spot-apart}
 use Rattle.five_three_making.proofs.Slots.{slots-apart′, Only, only-row, only-past, changed-only, changed-cell, spliced-only, spliced-at, stored-only}
-use Rattle.five_three_making.proofs.Slots.{next-stays, set-past, high-stays, set-stands, alone-stands, alone-past, high-past, high-keeps, high-alone-stands}
+use Rattle.five_three_making.proofs.Slots.{next-stays, set-past, high-stays, set-stands, alone-stands, alone-past}
+use Rattle.five_three_making.proofs.Slots.{high-past, high-keeps, high-alone-stands}
 use Rattle.level.proofs.LevelLaws.{LevelLaws}
 
 -- a number stored, or a row put, in the slot of row m, leaves the level's other rows

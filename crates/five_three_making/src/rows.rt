@@ -7,7 +7,6 @@ ghost use lib.Dec.{ltb};
 ghost use Rattle.numbers.specs.Signal.{pick};
 ghost use Rattle.lifting.specs.Grid.{side};
 ghost use Rattle.wavelet.specs.ViewCall.{named};
-ghost use Rattle.level.specs.Cells.{slot};
 ghost use Rattle.five_three_making.specs.FiveThreeLevel.{bandPlace, fiveThree};
 
 // How many numbers the stretch has.
@@ -16,16 +15,6 @@ pub fn stretch(w: usize, x: usize) -> usize
 {
     if w < 4611686018427387904 {
         return 4 * w;
-    }
-    0
-}
-
-// Where the slot of row q begins.
-pub fn slot(w: usize, q: usize) -> usize
-    ensures { λ s. ⌜ s ≡ pick (ltb w (2 ^ 62)) (slot w q) 0 ⌝ }
-{
-    if w < 4611686018427387904 {
-        return q % 4 * w;
     }
     0
 }

@@ -3,10 +3,11 @@
 // The module is private: only this crate, which meets what is required, can call it.
 use areas::lines;
 use areas::ranges;
-use level::lone;
 use five_three_lines::line;
 use five_three_lines::pairs;
 use five_three_lines::rows;
+use level::lone;
+use level::sets;
 use wavelet::sizes;
 ghost use mathlib.Core.Path.{_≡_};
 ghost use mathlib.Core.Bool.{true, false};
@@ -21,8 +22,8 @@ ghost use Rattle.wavelet.specs.Limits.{maxLevels};
 ghost use Rattle.wavelet.specs.Order.{firstSet};
 ghost use Rattle.level.specs.Tried.{outcome};
 ghost use Rattle.five_three_rebuilding.specs.Slots.{rowPlace, lowRowTaken};
-ghost use Rattle.five_three_rebuilding.specs.Work.{lowNear, highNear, lowTaken, lineTried, lowTried, highTried, setUnlifted, evenRow, oddRow, rowFits, admitted};
-ghost use Rattle.five_three_rebuilding.specs.Work.{evenMade, oddMade, pairMade, loneMade, lastMade, rowsMade, setMade, setWorked};
+ghost use Rattle.five_three_rebuilding.specs.Work.{lowNear, highNear, lowTaken, lineTried, lowTried, highTried, setUnlifted, rowFits, admitted};
+ghost use Rattle.five_three_rebuilding.specs.Work.{evenRow, oddRow, evenMade, oddMade, pairMade, loneMade, lastMade, rowsMade, setMade, setWorked};
 ghost use Rattle.level.specs.Rebuilding.{Kept};
 ghost use Rattle.five_three_rebuilding.specs.Rebuilding.{lowestOf};
 
@@ -36,18 +37,11 @@ pub fn row_place(w: usize, r: usize) -> usize
     r % 4 * w
 }
 
-// a − b, and 0 where b is more.
-fn less(a: usize, b: usize) -> usize
-    ensures { λ r. ⌜ r ≡ a - b ⌝ }
-{
-    if a < b { 0 } else { a - b }
-}
-
 // The number of m that is nearest to i.
 fn nearest(m: usize, i: usize) -> usize
     ensures { λ r. ⌜ r ≡ near m i ⌝ }
 {
-    let most = less(m, 1);
+    let most = sets::less(m, 1);
     if i < most { i } else { most }
 }
 
@@ -57,7 +51,7 @@ fn low_near(h: usize, y: usize, i: usize) -> usize
     ensures { λ r. ⌜ (r ≡ lowNear (side y h) i) × (r ≤ 2 ^ 32 + 1) ⌝ }
 {
     let p = y % 2;
-    p + nearest(sizes::low_count(y, h), less(i, p))
+    p + nearest(sizes::low_count(y, h), sets::less(i, p))
 }
 
 // and that has a high row.
@@ -125,7 +119,7 @@ fn undo_even(stretch: &mut [i32], w: usize, h: usize, y: usize, n: usize)
     ensures { λ _. ⌜ at (now (stretch .exit)) ≡ evenRow w (side y h) n (at (now (stretch .entry))) ⌝ }
 {
     if 1 < h {
-        let l = 2 * high_near(h, y, less(n, 1)) + 1;
+        let l = 2 * high_near(h, y, sets::less(n, 1)) + 1;
         let r = 2 * high_near(h, y, n) + 1;
         rows::unupdate_row(stretch, w, w, 2 * n % 4, l % 4, r % 4);
     }
@@ -195,10 +189,9 @@ fn make_lone(stretch: &mut [i32], k: usize, w: usize, q: usize) -> bool
 {
     let a = row_place(w, q);
     let e = a + w;
-    if !lone::all_even(&stretch[a..e]) {
+    if !lone::halve_even(&mut stretch[a..e]) {
         return false;
     }
-    lone::halve_all(&mut stretch[a..e]);
     admit_row(stretch, k, w, q)
 }
 
@@ -300,8 +293,7 @@ fn take_low_row(stretch: &mut [i32], w: usize, h: usize, x: usize, y: usize, n: 
     ensures { λ _. ⌜ at (now (stretch .exit)) ≡ lowRowTaken (side x w) (side y h) n (at (now (stretch .entry))) ⌝ }
 {
     let low = sizes::low_count(x, w);
-    let row = sizes::next_start(y) % 2 + (n - y % 2);
-    let from = 4 * w + row_place(low, row);
+    let from = 4 * w + row_place(low, sets::low_row(y, n));
     let to = row_place(w, 2 * n);
     lines::weave_down(stretch, sizes::next_start(x), from, to, low);
 }

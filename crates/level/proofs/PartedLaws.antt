@@ -1,5 +1,5 @@
--- A row parted into its halves by pairs of numbers, as the LL row is that goes to the next level. Where it starts at an odd coordinate, the first of a pair is a high one.
--- Assumes nothing.
+-- A row parted into its halves by pairs of numbers, as the LL row is that goes to the next level. Where it starts at an odd coordinate, the first of a pair is
+-- a high one. Assumes nothing.
 use mathlib.Core.Path.{_≡_, refl, sym, ap, _∙_}
 use mathlib.Core.Bool.{true}
 use Prim.Native.Nat.{ℕ, _+_, _-_, _*_, _/_, _%_, _≤_, _<_}

@@ -1,10 +1,11 @@
 -- Working out a set, step by step: what each call comes to. Assumes nothing.
 use mathlib.Core.Path.{_≡_, refl, sym, ap, _∙_}
 use mathlib.Core.Bool.{Bool, true, false}
-use Prim.Native.Nat.{ℕ, _+_, _-_, _*_, _%_, _/_, _≤_, _<_}
+use Prim.Native.Nat.{ℕ, _+_, _-_, _*_, _%_, _/_, _^_, _≤_, _<_}
 use lib.IntN.{ℤ}
+use lib.Dec.{ltb}
 use borrow.Author.Tests.{lt-ltb, le-ltb, lt-leb, le-leb}
-use Rattle.numbers.specs.Signal.{windowed, spliced}
+use Rattle.numbers.specs.Signal.{pick, windowed, spliced}
 use Rattle.lifting.specs.Line.{lo}
 use Rattle.lifting.specs.Grid.{Side, side, count, joined}
 use Rattle.lifting.specs.GridHalves.{halvesOf}
@@ -80,6 +81,11 @@ module _ (m : ℕ) (F : Filter) (k w q : ℕ) where
         outcome ok z ≡ stretch.loneMade m (stretch.admitted m F) k w q x
     unfolding stretch.loneMade
     lone-made ok z e ez eo = rw e (told ok z _ ez eo)
+
+-- ---- which row of the next level a set's low-low row is
+pub low-row : (y n r : ℕ) → n < 2 ^ 62 → r ≡ pick (ltb n (2 ^ 62)) (local (next (side y 0) .start) (n - y % 2)) 0 → r ≡ (y + 1) / 2 % 2 + (n - y % 2)
+unfolding next local
+low-row y n r h e = e ∙ simp (lt-ltb n (2 ^ 62) h)
 
 -- ---- the low-low row taken from the next level
 module _ (m : ℕ) (W H : Side) (n : ℕ) (x : ℕ → ℤ) where

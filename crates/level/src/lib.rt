@@ -5,3 +5,4 @@ mod copies;
 pub mod heights;
 pub mod lone;
 pub mod moves;
+pub mod sets;

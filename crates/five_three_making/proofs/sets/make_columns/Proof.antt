@@ -42,8 +42,8 @@ returns-2 : tie.Need-returns-2
 returns-2 c =
     let lifted = c .before .before .before .before in
     let a = lifted .before .before .before .args in
-    columns-first (a .w) (a .n) (a .r) (length (a .store .now)) _ _ _ (high-slot (a .n)) (low-slot (a .n)) (free-slot (a .n)) (omega arith) _ _ _ _ (lifted .lift-pair .kept .0)
-    (omega arith) (lifted .lift-pair .ensures .1) (c .before .copy-row .ensures .1)
+    columns-first (a .w) (a .n) (a .r) (length (a .store .now)) _ _ _ (high-slot (a .n)) (low-slot (a .n)) (free-slot (a .n)) (omega arith) _ _ _ _
+    (lifted .lift-pair .kept .0) (omega arith) (lifted .lift-pair .ensures .1) (c .before .copy-row .ensures .1)
 
 pub make-columns-spec : {M : Type 1} → statement M
 make-columns-spec =

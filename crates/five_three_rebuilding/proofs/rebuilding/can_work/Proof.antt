@@ -1,4 +1,4 @@
--- `level::rebuilding::can_work` meets its contract: one test after another. Assumes nothing.
+-- `rebuilding::can_work` meets its contract: one test after another. Assumes nothing.
 use mathlib.Core.Path.{_∙_, ap, sym}
 use Prim.Native.Nat.{ℕ}
 use native.Mathlib.Omega.{arith}

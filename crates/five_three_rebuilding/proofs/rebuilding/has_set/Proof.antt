@@ -1,4 +1,4 @@
--- `level::rebuilding::has_set` meets its contract, by whether there is a row. Assumes nothing.
+-- `rebuilding::has_set` meets its contract, by whether there is a row. Assumes nothing.
 use mathlib.Core.Path.{sym, ap}
 use mathlib.Core.Bool.{Bool}
 use native.Mathlib.Omega.{arith}

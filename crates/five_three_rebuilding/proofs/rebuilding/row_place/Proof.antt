@@ -1,4 +1,4 @@
--- `level::rebuilding::row_place` meets its contract: a slot of four, or 0. Assumes nothing.
+-- `rebuilding::row_place` meets its contract: a slot of four, or 0. Assumes nothing.
 use mathlib.Core.Path.{_∙_, sym, ap}
 use mathlib.Core.Bool.{Bool}
 use native.Mathlib.Omega.{arith}

@@ -1,4 +1,4 @@
--- `level::rebuilding::work_length` meets its contract: four rows, and below the last level four of the next. Assumes nothing.
+-- `rebuilding::work_length` meets its contract: four rows, and below the last level four of the next. Assumes nothing.
 use mathlib.Core.Path.{_≡_, refl}
 use mathlib.Core.Bool.{Bool, true, false}
 use Prim.Native.Nat.{ℕ, _+_, _*_}

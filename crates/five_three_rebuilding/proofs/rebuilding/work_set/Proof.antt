@@ -1,4 +1,4 @@
--- `level::rebuilding::work_set` meets its contract: refused, or worked out in the stretch. Assumes nothing.
+-- `rebuilding::work_set` meets its contract: refused, or worked out in the stretch. Assumes nothing.
 use mathlib.Core.Path.{_∙_, sym}
 use native.Mathlib.Omega.{arith}
 use borrow.Author.Tests.{not-true, not-false, le-leb}

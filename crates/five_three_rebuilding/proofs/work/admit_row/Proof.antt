@@ -1,4 +1,4 @@
--- `level::work::admit_row` meets its contract: every number of the row between the bounds. Assumes nothing.
+-- `work::admit_row` meets its contract: every number of the row between the bounds. Assumes nothing.
 use mathlib.Core.Path.{_∙_}
 use Prim.Native.Nat.{_+_, _-_}
 use native.Mathlib.Omega.{arith}

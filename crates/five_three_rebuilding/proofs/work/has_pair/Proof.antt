@@ -1,4 +1,4 @@
--- `level::work::has_pair` meets its contract: two tests. Assumes nothing.
+-- `work::has_pair` meets its contract: two tests. Assumes nothing.
 use native.Mathlib.Omega.{arith}
 use borrow.Author.Tests.{lt-ltb, le-ltb}
 use Rattle.five_three_rebuilding.proofs.work.has_pair.Statement.{statement}

@@ -1,4 +1,4 @@
--- `level::work::high_near` meets its contract: the nearest of the high rows. Assumes nothing.
+-- `work::high_near` meets its contract: the nearest of the high rows. Assumes nothing.
 use mathlib.Core.Path.{_∙_, ap}
 use Prim.Native.Nat.{ℕ}
 use native.Mathlib.Omega.{arith}

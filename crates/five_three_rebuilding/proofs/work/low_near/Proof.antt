@@ -1,4 +1,4 @@
--- `level::work::low_near` meets its contract: the nearest of the low rows. Assumes nothing.
+-- `work::low_near` meets its contract: the nearest of the low rows. Assumes nothing.
 use mathlib.Core.Path.{_∙_, ap, ap₂}
 use Prim.Native.Nat.{ℕ, _+_, _%_}
 use native.Mathlib.Omega.{arith}

@@ -1,4 +1,4 @@
--- `level::work::lowest_of` meets its contract: 0, or the range with its sign turned. Assumes nothing.
+-- `work::lowest_of` meets its contract: 0, or the range with its sign turned. Assumes nothing.
 use mathlib.Core.Path.{_∙_, ap}
 use lib.IntN.{ℤ, pos, _-ℤ_}
 use mir.Syntax.{w32}

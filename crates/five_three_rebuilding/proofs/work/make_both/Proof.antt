@@ -1,4 +1,4 @@
--- `level::work::make_both` meets its contract: in one pass, or one row after the other. Assumes nothing.
+-- `work::make_both` meets its contract: in one pass, or one row after the other. Assumes nothing.
 use mathlib.Core.Path.{_∙_}
 use Prim.Native.Nat.{_+_, _%_}
 use Rattle.numbers.specs.Signal.{at}

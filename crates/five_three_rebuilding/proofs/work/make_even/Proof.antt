@@ -1,4 +1,4 @@
--- `level::work::make_even` meets its contract: no row, or the even row and its test. Assumes nothing.
+-- `work::make_even` meets its contract: no row, or the even row and its test. Assumes nothing.
 use native.Mathlib.Omega.{arith}
 use borrow.Author.Needs.{needs}
 use Rattle.lifting.specs.Grid.{side}

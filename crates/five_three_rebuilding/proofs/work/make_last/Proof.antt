@@ -1,4 +1,4 @@
--- `level::work::make_last` meets its contract: no row, an only row, or the last row and its test. Assumes nothing.
+-- `work::make_last` meets its contract: no row, an only row, or the last row and its test. Assumes nothing.
 use mathlib.Core.Path.{_∙_, sym}
 use native.Mathlib.Omega.{arith}
 use borrow.Author.Needs.{needs}

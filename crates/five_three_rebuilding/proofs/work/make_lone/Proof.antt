@@ -1,14 +1,14 @@
--- `level::work::make_lone` meets its contract: a number is odd, or the row halved and its test. Assumes nothing.
-use mathlib.Core.Path.{refl, sym, _∙_}
+-- `work::make_lone` meets its contract: a number is odd, or the row halved and its test. Assumes nothing.
+use mathlib.Core.Path.{sym, _∙_}
 use Prim.Native.Nat.{_+_, _-_}
 use native.Mathlib.Omega.{arith}
 use borrow.Author.Needs.{needs}
 use borrow.Author.Tests.{not-true, not-false}
 use Rattle.lifting.specs.Grid.{side}
 use Rattle.lifting.specs.FiveThree.{fiveThreeFilter}
-use Rattle.level.proofs.SlotLaws.{even-part, halve-part}
+use Rattle.level.proofs.SlotLaws.{part-kept, even-part, halve-tried}
 use Rattle.level.proofs.WorkLaws.{lone-no, lone-made}
-use Rattle.level.proofs.KeptLaws.{kept-none, kept-is, only-kept}
+use Rattle.level.proofs.KeptLaws.{kept-is, only-kept}
 use Rattle.level.proofs.RowsIn.{only-halved}
 use Rattle.five_three_rebuilding.proofs.FourRows.{four}
 use Rattle.five_three_rebuilding.proofs.work.make_lone.Statement.{statement}
@@ -20,50 +20,36 @@ row-place-requires c κs = search needs
 add-e : tie.Need-add-e
 add-e c = search needs
 
-mul-all-even : tie.Need-mul-all-even
-mul-all-even c = search needs
+mul-halve-even : tie.Need-mul-halve-even
+mul-halve-even c = search needs
 
-sub-all-even : tie.Need-sub-all-even
-sub-all-even c = search needs
+sub-halve-even : tie.Need-sub-halve-even
+sub-halve-even c = search needs
 
-part-all-even-start : tie.Need-part-all-even-start
-part-all-even-start c = search needs
+part-halve-even-start : tie.Need-part-halve-even-start
+part-halve-even-start c = search needs
 
-part-all-even-end : tie.Need-part-all-even-end
-part-all-even-end c = search needs
+part-halve-even-end : tie.Need-part-halve-even-end
+part-halve-even-end c = search needs
 
-all-even-requires : tie.Need-all-even-requires
-all-even-requires c κs = tt
+halve-even-requires : tie.Need-halve-even-requires
+halve-even-requires c κs = tt
 
 same-length : tie.Need-same-length
-same-length c = refl
+same-length c = search needs
 
 returns : tie.Need-returns
 returns c =
-    let test = c .before in
-    let place = test .before .before .before in
+    let call = c .before .before in
+    let place = call .before .before in
     let a = place .before .args in
     let at = place .row-place .result in (
       lone-no 4 fiveThreeFilter (a .k) (a .w) (a .q) _
           (sym (even-part four (a .w) (a .q) at (at + a .w - at) (a .stretch .now) (place .row-place .ensures .0) (omega arith) (omega arith))
-          ∙ sym (test .all-even .ensures) ∙ not-true _ (c .if1 .taken)),
-      kept-none _ _,
+          ∙ sym (call .halve-even .ensures .0) ∙ not-true _ (c .if1 .taken)),
+      part-kept four (a .w) (a .q) at (at + a .w - at) (a .stretch .now) (place .row-place .ensures .0) (omega arith) (omega arith)
+          (call .halve-even .last .0) (omega arith),
     )
-
-mul-halve-all : tie.Need-mul-halve-all
-mul-halve-all c = search needs
-
-sub-halve-all : tie.Need-sub-halve-all
-sub-halve-all c = search needs
-
-part-halve-all-start : tie.Need-part-halve-all-start
-part-halve-all-start c = search needs
-
-part-halve-all-end : tie.Need-part-halve-all-end
-part-halve-all-end c = search needs
-
-halve-all-requires : tie.Need-halve-all-requires
-halve-all-requires c κs = tt
 
 admit-row-requires : tie.Need-admit-row-requires
 admit-row-requires c κs = search needs
@@ -73,17 +59,17 @@ same-length-2 c = search needs
 
 returns-2 : tie.Need-returns-2
 returns-2 c =
-    let halve = c .before .before .before in
-    let even = halve .before .before in
-    let test = even .before in
-    let place = test .before .before .before in
+    let even = c .before .before in
+    let call = even .before .before in
+    let place = call .before .before in
     let a = place .before .args in
     let at = place .row-place .result in
-    let halved = halve-part four (a .w) (a .q) at (at + a .w - at) (a .stretch .now) (place .row-place .ensures .0) (omega arith) (omega arith)
-    (halve .halve-all .last .0) (omega arith) (halve .halve-all .ensures) in (
+    let so = not-false _ (even .if1 .left) in
+    let halved = halve-tried four (a .w) (a .q) at (at + a .w - at) (a .stretch .now) (place .row-place .ensures .0) (omega arith) (omega arith)
+    _ (call .halve-even .last .0) so (omega arith) (call .halve-even .ensures .1) in (
       lone-made 4 fiveThreeFilter (a .k) (a .w) (a .q) _ _ _
           (sym (even-part four (a .w) (a .q) at (at + a .w - at) (a .stretch .now) (place .row-place .ensures .0) (omega arith) (omega arith))
-          ∙ sym (test .all-even .ensures) ∙ not-false _ (even .if1 .left)) halved (c .admit-row .ensures),
+          ∙ sym (call .halve-even .ensures .0) ∙ so) halved (c .admit-row .ensures),
       kept-is _ _ _ _ (only-kept (only-halved four (side 0 (a .w)) (a .q) _)) halved,
     )
 
@@ -93,18 +79,13 @@ make-lone-spec =
     (tie.spec
     row-place-requires
     add-e
-    mul-all-even
-    sub-all-even
-    part-all-even-start
-    part-all-even-end
-    all-even-requires
+    mul-halve-even
+    sub-halve-even
+    part-halve-even-start
+    part-halve-even-end
+    halve-even-requires
     same-length
     returns
-    mul-halve-all
-    sub-halve-all
-    part-halve-all-start
-    part-halve-all-end
-    halve-all-requires
     admit-row-requires
     same-length-2
     returns-2)

@@ -1,4 +1,4 @@
--- `level::work::make_odd` meets its contract: no row, or the odd row and its test. Assumes nothing.
+-- `work::make_odd` meets its contract: no row, or the odd row and its test. Assumes nothing.
 use Prim.Native.Nat.{_-_}
 use native.Mathlib.Omega.{arith}
 use borrow.Author.Needs.{needs}

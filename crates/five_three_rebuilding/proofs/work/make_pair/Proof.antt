@@ -1,4 +1,4 @@
--- `level::work::make_pair` meets its contract: the pair call, on slots. Assumes nothing.
+-- `work::make_pair` meets its contract: the pair call, on slots. Assumes nothing.
 use mathlib.Core.Path.{_∙_}
 use native.Mathlib.Omega.{arith}
 use Rattle.numbers.proofs.Words.{read-back}

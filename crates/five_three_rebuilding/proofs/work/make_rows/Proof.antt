@@ -1,4 +1,4 @@
--- `level::work::make_rows` meets its contract: the pair, and the last row, as long as they fit. Assumes nothing.
+-- `work::make_rows` meets its contract: the pair, and the last row, as long as they fit. Assumes nothing.
 use mathlib.Core.Path.{_∙_}
 use Rattle.numbers.specs.Signal.{at}
 use borrow.Author.Needs.{needs}

@@ -1,4 +1,4 @@
--- `level::work::make_set` meets its contract: along the rows, then the rows made. Assumes nothing.
+-- `work::make_set` meets its contract: along the rows, then the rows made. Assumes nothing.
 use mathlib.Core.Path.{_∙_}
 use native.Mathlib.Omega.{arith}
 use borrow.Author.Tests.{not-true, not-false}

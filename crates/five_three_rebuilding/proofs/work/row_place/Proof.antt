@@ -1,4 +1,4 @@
--- `level::work::row_place` meets its contract: a slot of four. Assumes nothing.
+-- `work::row_place` meets its contract: a slot of four. Assumes nothing.
 use native.Mathlib.Omega.{arith}
 use mathlib.Core.Path.{refl}
 use Rattle.level.specs.Stretch.{rowPlace}

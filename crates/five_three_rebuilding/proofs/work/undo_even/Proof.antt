@@ -1,4 +1,4 @@
--- `level::work::undo_even` meets its contract: the row call, on slots; an only row stays. Assumes nothing.
+-- `work::undo_even` meets its contract: the row call, on slots; an only row stays. Assumes nothing.
 use mathlib.Core.Path.{_∙_, sym, ap}
 use native.Mathlib.Omega.{arith}
 use Rattle.lifting.specs.Grid.{side}

@@ -1,4 +1,4 @@
--- `level::work::undo_odd` meets its contract: the row call, on slots. Assumes nothing.
+-- `work::undo_odd` meets its contract: the row call, on slots. Assumes nothing.
 use mathlib.Core.Path.{_∙_}
 use native.Mathlib.Omega.{arith}
 use Rattle.lifting.specs.Grid.{side}

@@ -1,4 +1,4 @@
--- `level::work::unlift_high` meets its contract: no row, or one lifted back. Assumes nothing.
+-- `work::unlift_high` meets its contract: no row, or one lifted back. Assumes nothing.
 use mathlib.Core.Path.{_∙_}
 use native.Mathlib.Omega.{arith}
 use borrow.Author.Needs.{needs}

@@ -1,4 +1,4 @@
--- `level::work::unlift_row` meets its contract: the line call on the part that is the row. Assumes nothing.
+-- `work::unlift_row` meets its contract: the line call on the part that is the row. Assumes nothing.
 use Prim.Native.Nat.{_+_, _-_}
 use native.Mathlib.Omega.{arith}
 use borrow.Author.Needs.{needs}

@@ -1,4 +1,4 @@
--- `level::work::unlift_set` meets its contract: one row after the other, as long as they are lines'. Assumes nothing.
+-- `work::unlift_set` meets its contract: one row after the other, as long as they are lines'. Assumes nothing.
 use mathlib.Core.Path.{_∙_}
 use borrow.Author.Needs.{needs}
 use borrow.Author.Tests.{not-true, not-false}

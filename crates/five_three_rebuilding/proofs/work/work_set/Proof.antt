@@ -1,4 +1,4 @@
--- `level::work::work_set` meets its contract: the low-low row first, below the last level. Assumes nothing.
+-- `work::work_set` meets its contract: the low-low row first, below the last level. Assumes nothing.
 use mathlib.Core.Path.{_∙_}
 use native.Mathlib.Omega.{arith}
 use Rattle.lifting.specs.Grid.{side}
