@@ -56,10 +56,17 @@ module _ (N s w : ℕ) (H : Side) (n low : ℕ) (x x′ : ℕ → ℤ) (el : low
 pub fits-below : (k h : ℕ) → k < h → Fits w64 h → Fits w64 k
 fits-below k h b f = omega arith
 
-module _ (H : Side) (fits : Fits w64 (H .length)) where
-  abbrev Places : ℕ → ℕ → Type 0
-  Places o k = Fits w64 (2 * k) × Fits w64 (2 * k + o)
+abbrev pub Places : ℕ → ℕ → Type 0
+Places o k = Fits w64 (2 * k) × Fits w64 (2 * k + o)
 
+-- of a low row and the high ones beside it, of a high row and the low ones around it; b is the parity of the first row
+abbrev pub LowPlaces : ℕ → ℕ → ℕ → ℕ → Type 0
+LowPlaces b n l r = Places b n × Places (1 - b) l × Places (1 - b) r
+
+abbrev pub HighPlaces : ℕ → ℕ → ℕ → ℕ → ℕ → ℕ → Type 0
+HighPlaces b n l r f a = Places (1 - b) n × Places b l × Places b r × Places b f × Places b a
+
+module _ (H : Side) (fits : Fits w64 (H .length)) where
   low-there : (k : ℕ) → k < count lo H → Places (H .start % 2) k
   unfolding count
   low-there k b = (omega arith, omega arith)
@@ -97,11 +104,11 @@ module _ (H : Side) (fits : Fits w64 (H .length)) where
       pub low-sums : Fits w64 (low + l) × Fits w64 (low + r)
       low-sums = (sum-below l (two .0), sum-below r (two .1))
 
-      pub low-places : n < count lo H → Places (H .start % 2) n × Places (1 - H .start % 2) l × Places (1 - H .start % 2) r
+      pub low-places : n < count lo H → LowPlaces (H .start % 2) n l r
       low-places b = (low-there n b, high-there l (rw highs-are at (two .0)), high-there r (rw highs-are at (two .1)))
 
     pub high-places : (l r b a : ℕ) → Around low (H .length - low) (1 - H .start % 2) n l r b a → n < count hi H
-        → Places (1 - H .start % 2) n × Places (H .start % 2) l × Places (H .start % 2) r × Places (H .start % 2) b × Places (H .start % 2) a
+        → HighPlaces (H .start % 2) n l r b a
     high-places l r b a by h =
         let f = four-there low (H .length - low) (1 - H .start % 2) n l r b a by some-low (near-low h) (high-room H low n el h) in
         (high-there n h, low-there l (rw el at (f .0)), low-there r (rw el at (f .1)), low-there b (rw el at (f .2)), low-there a (rw el at (f .3)))

@@ -82,7 +82,8 @@ module _ {l₀ : List ℤ} {s w y h end n : ℕ} {l : List ℤ} (v : Raising l�
         within = omega arith;
         last = v .last;
         size = e₂ ∙ e₁ ∙ v .size;
-        raised = raise-turn (length l) s w (side y h) (at l₀) (rows-kept (v .size) (v .rows)) (v .more) n (at l) (at l₁) (at l₂) (raise-room b) is₁ (rw e₁ at is₂)
+        raised = raise-turn (length l) s w (side y h) (at l₀) (rows-kept (v .size) (v .rows)) (v .more) n (at l) (at l₁) (at l₂) (raise-room b)
+            is₁ (rw e₁ at is₂)
             (v .raised);
       }
 
@@ -136,7 +137,8 @@ module _ {l₀ : List ℤ} {s w y h last n : ℕ} {l : List ℤ} (v : Lowering l
 
   turned : (l′ : List ℤ) → Turned n l′ → Lowered s w (side y h) (at l₀) (n + 1) (at l′)
   turned l′ is =
-      lower-turn (length l) s w (side y h) (at l₀) (rows-kept (v .size) (v .rows)) (v .more) n (at l) _ (at l′) (lower-room n (v .within) .0) refl is (v .lowered)
+      lower-turn (length l) s w (side y h) (at l₀) (rows-kept (v .size) (v .rows)) (v .more) n (at l) _ (at l′)
+      (lower-room n (v .within) .0) refl is (v .lowered)
 
   pub lower-again : (l′ : List ℤ) → n < last → length l′ ≡ length l → Turned n l′ → Lowering l₀ s w y h last (n + 1) l′
   lower-again l′ b e is =

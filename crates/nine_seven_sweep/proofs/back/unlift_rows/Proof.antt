@@ -41,7 +41,8 @@ loop-less c = let turn = c .before .before .before in lower-less (turn .before .
 loop-again : tie.Need-loop-again Inv-loop μ-loop
 loop-again c =
     let turn = c .before .before .before in
-    lower-again (turn .before .loop .inv) (c .before .unlift-turn .last .0) (turn .loop-test .taken) (c .before .unlift-turn .kept .0) (c .before .unlift-turn .ensures)
+    lower-again (turn .before .loop .inv) (c .before .unlift-turn .last .0) (turn .loop-test .taken) (c .before .unlift-turn .kept .0)
+    (c .before .unlift-turn .ensures)
 
 unlift-turn-requires-2 : tie.Need-unlift-turn-requires-2 Inv-loop μ-loop
 unlift-turn-requires-2 c κs =

@@ -1,7 +1,8 @@
 -- `back::unupdate` meets its contract: the call by the rows that it goes by. Assumes nothing.
+use Prim.Native.Nat.{_%_}
 use native.Mathlib.Omega.{arith}
 use Rattle.lifting.specs.Grid.{side}
-use Rattle.nine_seven_sweep.proofs.CallLaws.{lows-within, few, low-places, low-in-order}
+use Rattle.nine_seven_sweep.proofs.CallLaws.{lows-within, few, LowPlaces, low-places, low-in-order}
 use Rattle.nine_seven_sweep.proofs.back.unupdate.Statement.{statement}
 use Rattle.nine_seven_sweep.proofs.back.unupdate.Tie as tie
 
@@ -14,53 +15,38 @@ sub-beside c = let a = c .before .args in lows-within (side (a .y) (a .height)) 
 beside-requires : tie.Need-beside-requires
 beside-requires c κs = tt
 
-mul-unupdate-row : tie.Need-mul-unupdate-row
-mul-unupdate-row c =
-    let q = c .before in
+-- all three rows are there
+rooms : (q : tie.After-beside) → (let s = q .before .before in
+    LowPlaces (s .args .y % 2) (s .args .n) (q .beside .result .left) (q .beside .result .right))
+rooms q =
     let low = q .before in
     let s = low .before in
-    low-places (side (s .args .y) (s .args .height)) (s .fits .height) _ (s .args .n) (s .pre .0) (low .lows .ensures) _ _ (q .beside .ensures (few (s .args .y))) (s .pre .1) .0 .0
+    low-places (side (s .args .y) (s .args .height)) (s .fits .height) _ (s .args .n) (s .pre .0) (low .lows .ensures) _ _
+    (q .beside .ensures (few (s .args .y))) (s .pre .1)
+
+mul-unupdate-row : tie.Need-mul-unupdate-row
+mul-unupdate-row c = rooms (c .before) .0 .0
 
 add-unupdate-row : tie.Need-add-unupdate-row
-add-unupdate-row c =
-    let q = c .before in
-    let low = q .before in
-    let s = low .before in
-    low-places (side (s .args .y) (s .args .height)) (s .fits .height) _ (s .args .n) (s .pre .0) (low .lows .ensures) _ _ (q .beside .ensures (few (s .args .y))) (s .pre .1) .0 .1
+add-unupdate-row c = rooms (c .before) .0 .1
 
 mul-unupdate-row-2 : tie.Need-mul-unupdate-row-2
-mul-unupdate-row-2 c =
-    let q = c .before .before in
-    let low = q .before in
-    let s = low .before in
-    low-places (side (s .args .y) (s .args .height)) (s .fits .height) _ (s .args .n) (s .pre .0) (low .lows .ensures) _ _ (q .beside .ensures (few (s .args .y))) (s .pre .1) .1 .0
+mul-unupdate-row-2 c = rooms (c .before .before) .1 .0
 
 sub-unupdate-row : tie.Need-sub-unupdate-row
 sub-unupdate-row c = omega arith
 
 add-unupdate-row-2 : tie.Need-add-unupdate-row-2
-add-unupdate-row-2 c =
-    let q = c .before .before in
-    let low = q .before in
-    let s = low .before in
-    low-places (side (s .args .y) (s .args .height)) (s .fits .height) _ (s .args .n) (s .pre .0) (low .lows .ensures) _ _ (q .beside .ensures (few (s .args .y))) (s .pre .1) .1 .1
+add-unupdate-row-2 c = rooms (c .before .before) .1 .1
 
 mul-unupdate-row-3 : tie.Need-mul-unupdate-row-3
-mul-unupdate-row-3 c =
-    let q = c .before .before .before in
-    let low = q .before in
-    let s = low .before in
-    low-places (side (s .args .y) (s .args .height)) (s .fits .height) _ (s .args .n) (s .pre .0) (low .lows .ensures) _ _ (q .beside .ensures (few (s .args .y))) (s .pre .1) .2 .0
+mul-unupdate-row-3 c = rooms (c .before .before .before) .2 .0
 
 sub-unupdate-row-2 : tie.Need-sub-unupdate-row-2
 sub-unupdate-row-2 c = omega arith
 
 add-unupdate-row-3 : tie.Need-add-unupdate-row-3
-add-unupdate-row-3 c =
-    let q = c .before .before .before in
-    let low = q .before in
-    let s = low .before in
-    low-places (side (s .args .y) (s .args .height)) (s .fits .height) _ (s .args .n) (s .pre .0) (low .lows .ensures) _ _ (q .beside .ensures (few (s .args .y))) (s .pre .1) .2 .1
+add-unupdate-row-3 c = rooms (c .before .before .before) .2 .1
 
 unupdate-row-requires : tie.Need-unupdate-row-requires
 unupdate-row-requires c κs = tt

@@ -18,14 +18,16 @@ add-update-row c =
     let q = c .before .before in
     let low = q .before in
     let s = low .before in
-    low-sums (side (s .args .y) (s .args .height)) (s .fits .height) _ (s .args .n) (s .pre .0) (low .lows .ensures) _ _ (q .beside .ensures (few (s .args .y))) .0
+    low-sums (side (s .args .y) (s .args .height)) (s .fits .height) _ (s .args .n) (s .pre .0) (low .lows .ensures) _ _
+    (q .beside .ensures (few (s .args .y))) .0
 
 add-update-row-2 : tie.Need-add-update-row-2
 add-update-row-2 c =
     let q = c .before .before .before in
     let low = q .before in
     let s = low .before in
-    low-sums (side (s .args .y) (s .args .height)) (s .fits .height) _ (s .args .n) (s .pre .0) (low .lows .ensures) _ _ (q .beside .ensures (few (s .args .y))) .1
+    low-sums (side (s .args .y) (s .args .height)) (s .fits .height) _ (s .args .n) (s .pre .0) (low .lows .ensures) _ _
+    (q .beside .ensures (few (s .args .y))) .1
 
 update-row-requires : tie.Need-update-row-requires
 update-row-requires c κs = tt
