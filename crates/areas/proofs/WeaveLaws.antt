@@ -77,7 +77,8 @@ turns-are S x z e o p q n h ep eq en =
     ]
 
 -- the same of two parts of a row that are lent
-module _ (S : Side) (l : List ℤ) (a b p q : ℕ) (h : Halves S 0 a b) (room : S .length ≤ length l) (ep : p ≡ S .length - S .length / 2) (eq : q ≡ S .length / 2) where
+module _ (S : Side) (l : List ℤ) (a b p q : ℕ) (h : Halves S 0 a b) (room : S .length ≤ length l) (ep : p ≡ S .length - S .length / 2)
+    (eq : q ≡ S .length / 2) where
   sizes : (length (midOf a p l) ≡ p) × (length (midOf b q l) ≡ q)
   sizes = (length-mid a p l (omega arith), length-mid b q l (omega arith))
 
