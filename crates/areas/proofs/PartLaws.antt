@@ -14,7 +14,8 @@ use Rattle.lifting.specs.Grid.{Side, half, count, place, parted, joined}
 use Rattle.lifting.specs.GridHalves.{halvesOf, inHalves, partedInto}
 use Rattle.lifting.proofs.GridLaws.{count-lo, count-hi, half-even, half-odd, halves-are}
 use Rattle.half_places.specs.Places.{begins}
-use Rattle.half_places.proofs.HalfLaws.{evens, odds, by-parity, evens-fit, odds-fit}
+use Rattle.half_places.proofs.HalfLaws.{evens, odds, by-parity, evens-fit, odds-fit, evens-last, odds-first}
+use Rattle.areas.proofs.Splices.{splice-swap}
 
 -- ---- m numbers f laid in memory z from place a on
 module _ (a m : ℕ) (f z : ℕ → ℤ) where
@@ -103,3 +104,23 @@ module _ (S : Side) (x z : ℕ → ℤ) where
   pub parted-is : partedInto S x z ≡ bothLaid (evens S) (odds S)
   unfolding partedInto
   parted-is = by-parity S (λ e o. inHalves S (parted S x) z ≡ bothLaid e o) from-even from-odd
+
+  -- the two passes, in either order, with where the halves begin as the code has it
+  module _ (a b : ℕ) (ea : a ≡ begins S (evens S)) (eb : b ≡ begins S (odds S)) (y w : ℕ → ℤ) where
+    laid : w ≡ spliced b (S .length / 2) (λ j. x (2 * j + 1)) (spliced a (S .length - S .length / 2) (λ j. x (2 * j)) z) → w ≡ partedInto S x z
+    laid e =
+        e ∙ ap (λ (i : ℕ). spliced b (S .length / 2) (λ j. x (2 * j + 1)) (spliced i (S .length - S .length / 2) (λ j. x (2 * j)) z)) ea
+        ∙ ap (λ (i : ℕ). spliced i (S .length / 2) (λ j. x (2 * j + 1)) (evensLaid (evens S))) eb
+        ∙ sym parted-is
+
+    pub evens-then-odds : y ≡ spliced a (S .length - S .length / 2) (λ j. x (2 * j)) z → w ≡ spliced b (S .length / 2) (λ j. x (2 * j + 1)) y
+        → w ≡ partedInto S x z
+    evens-then-odds h k = laid (k ∙ ap (spliced b (S .length / 2) (λ j. x (2 * j + 1))) h)
+
+    pub odds-then-evens : S .start % 2 ≡ 1 → y ≡ spliced b (S .length / 2) (λ j. x (2 * j + 1)) z
+        → w ≡ spliced a (S .length - S .length / 2) (λ j. x (2 * j)) y → w ≡ partedInto S x z
+    odds-then-evens o h k =
+        let N = S .length in
+        let ends : b + N / 2 ≤ a = omega (arith, odds-first S o, evens-last S o) in
+        laid (k ∙ ap (spliced a (N - N / 2) (λ j. x (2 * j))) h
+        ∙ sym (splice-swap b (N / 2) a (N - N / 2) (λ j. x (2 * j + 1)) (λ j. x (2 * j)) z ends))

@@ -9,7 +9,8 @@ use lib.ListN.{length, set}
 use borrow.Author.Tests.{eq-eqb, ne-eqb}
 use Rattle.numbers.specs.Signal.{at, windowed, spliced}
 use Rattle.numbers.proofs.Sweep.{Swept, store, finish}
-use Rattle.numbers.proofs.Parts.{window-in, splice-below, splice-in, splice-past}
+use borrow.Rule.Slice.PartMut.{midOf}
+use Rattle.numbers.proofs.Parts.{length-mid, at-mid, window-in, splice-below, splice-in, splice-past}
 use Rattle.lifting.specs.Grid.{Side, joined}
 use Rattle.lifting.specs.GridHalves.{halvesOf}
 use Rattle.lifting.specs.Halves.{fronted}
@@ -49,7 +50,7 @@ module _ (n : ℕ) (a b z : ℕ → ℤ) where
     pair-last h = store _ sw (omega arith) (sym (front-at n _ z (2 * j) h ∙ first-is j))
 
 -- the even and the odd places of a row in halves, in turn, are the line
-pub turns-are : (S : Side) (x z : ℕ → ℤ) (e o p q n : ℕ) → Halves S 0 e o → p ≡ S .length - S .length / 2 → q ≡ S .length / 2 → n ≡ p + q →
+turns-are : (S : Side) (x z : ℕ → ℤ) (e o p q n : ℕ) → Halves S 0 e o → p ≡ S .length - S .length / 2 → q ≡ S .length / 2 → n ≡ p + q →
     fronted n (alternated (windowed e p x) (windowed o q x)) z ≡ fronted (S .length) (joined S (halvesOf S x)) z
 turns-are S x z e o p q n h ep eq en =
     let a = windowed e p x in
@@ -74,6 +75,25 @@ turns-are S x z e o p q n h ep eq en =
           ∙ sym (front-at (S .length) _ z j l)
       | no l ↦ front-rest n _ z j (omega arith) ∙ sym (front-rest (S .length) _ z j (omega arith))
     ]
+
+-- the same of two parts of a row that are lent
+module _ (S : Side) (l : List ℤ) (a b p q : ℕ) (h : Halves S 0 a b) (room : S .length ≤ length l) (ep : p ≡ S .length - S .length / 2)
+    (eq : q ≡ S .length / 2) where
+  sizes : (length (midOf a p l) ≡ p) × (length (midOf b q l) ≡ q)
+  sizes = (length-mid a p l (omega arith), length-mid b q l (omega arith))
+
+  pub parts-fit : (L : ℕ) → S .length ≤ L → (length (midOf b q l) ≤ length (midOf a p l)) × (length (midOf a p l) ≤ length (midOf b q l) + 1)
+      × (length (midOf a p l) + length (midOf b q l) ≤ L)
+  parts-fit L le = let s = sizes in (omega arith, omega arith, omega arith)
+
+  pub parts-woven : (z w : ℕ → ℤ) → w ≡ fronted (length (midOf a p l) + length (midOf b q l)) (alternated (at (midOf a p l)) (at (midOf b q l))) z
+      → w ≡ fronted (S .length) (joined S (halvesOf S (at l))) z
+  parts-woven z w e =
+      let s = sizes in
+      let n = length (midOf a p l) + length (midOf b q l) in
+      e ∙ ap (λ (f : ℕ → ℤ). fronted n (alternated f (at (midOf b q l))) z) (at-mid a p l)
+      ∙ ap (λ (f : ℕ → ℤ). fronted n (alternated (windowed a p (at l)) f) z) (at-mid b q l)
+      ∙ turns-are S (at l) z a b p q n h ep eq (omega arith)
 
 -- ---- within one area: the numbers at `even` and at `odd` in turn, n of them, laid from `to` on, before both
 module _ (to even odd n : ℕ) (x : ℕ → ℤ) where
