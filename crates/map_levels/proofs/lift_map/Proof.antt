@@ -1,7 +1,6 @@
 -- `lift_map` meets its contract: the questions, and then the transform. Assumes nothing.
 use mathlib.Core.Path.{refl, sym, _∙_}
 use Rattle.map_questions.proofs.QuestionLaws.{roomy-is, passed-no, passed-yes}
-use borrow.Author.Needs.{needs}
 use Rattle.map_levels.proofs.lift_map.Statement.{statement}
 use Rattle.map_levels.proofs.lift_map.Tie as tie
 
@@ -19,10 +18,10 @@ transform-requires c κs =
     (r .size, r .first, r .second, r .third, r .few)
 
 same-length : tie.Need-same-length
-same-length c = search needs
+same-length c = c .before .before .transform .kept .1 .1 .1 .1 .1 .1 .0
 
 same-length-2 : tie.Need-same-length-2
-same-length-2 c = search needs
+same-length-2 c = c .before .before .transform .kept .1 .1 .1 .1 .1 .1 .1 .0
 
 returns-2 : tie.Need-returns-2
 returns-2 c =

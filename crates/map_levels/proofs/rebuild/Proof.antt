@@ -1,11 +1,11 @@
 -- `rebuild` meets its contract: the levels, and then the rows tested and stored. Assumes nothing.
+use mathlib.Core.Path.{_∙_}
 use native.Mathlib.Omega.{arith}
 use borrow.Author.Tests.{not-true, not-false}
 use Rattle.nine_seven.proofs.Filters.{filter-laws}
 use Rattle.nine_seven.specs.Filters.{filterOf}
 use Rattle.map_levels.proofs.GridSweep.{rows-kept}
 use Rattle.map_levels.proofs.CallLaws.{map-rows, map-doubling, map-no, map-yes}
-use borrow.Author.Needs.{needs}
 use Rattle.map_levels.proofs.rebuild.Statement.{statement}
 use Rattle.map_levels.proofs.rebuild.Tie as tie
 
@@ -16,7 +16,7 @@ back-levels-requires c κs =
     (map-rows _ _ _ _ s (start .pre .1), map-rows _ _ _ _ s (start .pre .3), map-doubling _ _ _ s, omega (arith, start .pre .4))
 
 same-length : tie.Need-same-length
-same-length c = search needs
+same-length c = c .before .before .back-levels .kept .1 .0
 
 returns : tie.Need-returns
 returns c =
@@ -33,10 +33,12 @@ finish-rows-requires c κs =
     (rows-kept (back .back-levels .kept .1 .0) (map-rows _ _ _ _ s (start .pre .3)), map-rows _ _ _ _ s (start .pre .2))
 
 same-length-2 : tie.Need-same-length-2
-same-length-2 c = search needs
+same-length-2 c = c .before .before .before .finish-rows .kept .1 .0
 
 same-length-3 : tie.Need-same-length-3
-same-length-3 c = search needs
+same-length-3 c =
+    let finish = c .before .before .before in
+    finish .finish-rows .kept .0 ∙ finish .before .before .before .before .before .back-levels .kept .1 .0
 
 returns-2 : tie.Need-returns-2
 returns-2 c =

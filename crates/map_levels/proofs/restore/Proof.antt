@@ -10,7 +10,6 @@ use Rattle.nine_seven.proofs.Filters.{filter-laws}
 use Rattle.nine_seven.specs.Filters.{filterOf}
 use Rattle.map_levels.proofs.CallLaws.{cleared, out-of-range, not-rebuilt, all-rebuilt}
 use Rattle.map_questions.proofs.QuestionLaws.{rebuilt-no, rebuilt-yes, rebuilt-zero}
-use borrow.Author.Needs.{needs}
 use Rattle.map_levels.proofs.restore.Statement.{statement}
 use Rattle.map_levels.proofs.restore.Tie as tie
 
@@ -26,25 +25,29 @@ returns c =
     )
 
 rebuild-requires : tie.Need-rebuild-requires
-rebuild-requires c κs = search needs
+rebuild-requires c κs = c .before .before .before .before .before .pre
 
 mul-clear-heights : tie.Need-mul-clear-heights
-mul-clear-heights c = search needs
+mul-clear-heights c = omega arith
 
 clear-heights-requires : tie.Need-clear-heights-requires
 clear-heights-requires c κs = tt
 
 mul-clear : tie.Need-mul-clear
-mul-clear c = search needs
+mul-clear c = omega arith
 
 clear-requires : tie.Need-clear-requires
 clear-requires c κs = tt
 
 same-length : tie.Need-same-length
-same-length c = search needs
+same-length c =
+    let heights = c .before .before .before .before .before in
+    heights .clear-heights .kept .0 ∙ heights .before .before .before .before .before .before .rebuild .kept .1 .1 .1 .1 .1 .1 .0
 
 same-length-2 : tie.Need-same-length-2
-same-length-2 c = search needs
+same-length-2 c =
+    let heights = c .before .before .before .before .before in
+    c .before .clear .kept .0 ∙ heights .before .before .before .before .before .before .rebuild .kept .1 .1 .1 .1 .1 .1 .1 .0
 
 returns-2 : tie.Need-returns-2
 returns-2 c =
@@ -69,10 +72,10 @@ returns-2 c =
     )
 
 same-length-3 : tie.Need-same-length-3
-same-length-3 c = search needs
+same-length-3 c = c .before .before .before .before .rebuild .kept .1 .1 .1 .1 .1 .1 .0
 
 same-length-4 : tie.Need-same-length-4
-same-length-4 c = search needs
+same-length-4 c = c .before .before .before .before .rebuild .kept .1 .1 .1 .1 .1 .1 .1 .0
 
 returns-3 : tie.Need-returns-3
 returns-3 c =

@@ -1,4 +1,5 @@
 -- `transform` meets its contract: the rows loaded are the map, the levels write its plane, and for a map the words are whole numbers. Assumes nothing.
+use mathlib.Core.Path.{_∙_}
 use Prim.Native.Nat.{ℕ, _*_, _<_}
 use native.Mathlib.Omega.{arith}
 use lib.ListN.{length, getD}
@@ -7,7 +8,6 @@ use Rattle.areas.proofs.AreaLaws.{did}
 use Rattle.nine_seven.specs.Filters.{filterOf}
 use Rattle.nine_seven.proofs.Filters.{filter-laws}
 use Rattle.map_levels.proofs.CallLaws.{map-rows, plane-made, cleared}
-use borrow.Author.Needs.{needs}
 use Rattle.map_levels.proofs.transform.Statement.{statement}
 use Rattle.map_levels.proofs.transform.Tie as tie
 
@@ -24,16 +24,18 @@ forward-levels-requires c κs =
     (rw (load .load-rows .kept .1 .0) (map-rows _ _ _ _ s (start .pre .2)), map-rows _ _ _ _ s (start .pre .3), omega (arith, s .levels .0))
 
 mul-clear : tie.Need-mul-clear
-mul-clear c = search needs
+mul-clear c = omega arith
 
 clear-requires : tie.Need-clear-requires
 clear-requires c κs = tt
 
 same-length : tie.Need-same-length
-same-length c = search needs
+same-length c =
+    let levels = c .before .before .before .before .before in
+    levels .forward-levels .kept .0 ∙ levels .before .before .before .before .load-rows .kept .1 .0
 
 same-length-2 : tie.Need-same-length-2
-same-length-2 c = search needs
+same-length-2 c = c .before .clear .kept .0 ∙ c .before .before .before .before .before .forward-levels .kept .1 .0
 
 returns : tie.Need-returns
 returns c =

@@ -1,7 +1,6 @@
 -- `unlift_map` meets its contract: the questions of the sizes, and then those of the plane. Assumes nothing.
 use mathlib.Core.Path.{sym, _∙_}
 use Rattle.map_questions.proofs.QuestionLaws.{roomy-is, asked-on, asked-no, never-fourteen, rebuilt-no}
-use borrow.Author.Needs.{needs}
 use Rattle.map_levels.proofs.unlift_map.Statement.{statement}
 use Rattle.map_levels.proofs.unlift_map.Tie as tie
 
@@ -25,10 +24,10 @@ restore-requires c κs =
     (r .size, r .first, r .second, r .third, r .few)
 
 same-length : tie.Need-same-length
-same-length c = search needs
+same-length c = c .before .before .before .restore .kept .1 .1 .1 .1 .1 .1 .0
 
 same-length-2 : tie.Need-same-length-2
-same-length-2 c = search needs
+same-length-2 c = c .before .before .before .restore .kept .1 .1 .1 .1 .1 .1 .1 .0
 
 returns-2 : tie.Need-returns-2
 returns-2 c =
