@@ -24,7 +24,7 @@ returns c =
     (omega arith)
 
 sub-below : tie.Need-sub-below
-sub-below c = search needs
+sub-below c = omega (arith, c .before .before .before .before .pre .0 .walk)
 
 mul-pass-on : tie.Need-mul-pass-on
 mul-pass-on c = search needs
