@@ -10,6 +10,7 @@ use Rattle.numbers.specs.Signal.{pick, both}
 use Rattle.numbers.proofs.Sweep.{both as split-both}
 use Rattle.lifting.specs.Halves.{fronted}
 use Rattle.wavelet.specs.Limits.{maxWidth, maxHeight}
+use Rattle.wavelet.proofs.LimitLaws.{width-small, height-small}
 use Rattle.wavelet.specs.Questions.{ask, within}
 use Rattle.lifting.specs.Grid.{Side}
 use Rattle.nine_seven.specs.Filters.{filterOf, isFilter}
@@ -29,7 +30,7 @@ use Rattle.writer.specs.Gate.{stateQuestion}
 use Rattle.writer.specs.Answers.{Handed, aRow, nothing}
 use Rattle.writer.specs.Calls.{fresh, setUpReply, setUpStore, waits, closing, finishReply, finishStore, resumed, pulled, afterDraw, bandRow, handed}
 use Rattle.writer.specs.Calls.{handedStore, handedArea, drawReply, drawStore, drawArea}
-use Rattle.writer.specs.Steps.{Left, Found, Closed, Drew}
+use Rattle.writer.specs.Steps.{Room, Left, Walk, Found, Closed, Drawable, Drew}
 use Rattle.writer.proofs.GateLaws.{Sound, sound, state-no, state-yes}
 use Rattle.level.specs.Level.{Memory, rest}
 
@@ -160,6 +161,19 @@ module _ (s : Writer) (n q : ℕ) (x : Memory) (e : q ≡ finishQuestion s n) wh
             (f .left .offset)) ∙ unless-yes q _ z,
         f .left .store ∙ changed-yes q _ x z,
       )
+
+-- ---- what the steps behind a call ask for
+pub sound-room : (s : Writer) (n : ℕ) → Sound s n → Room (s .filter) (s .levels) (columnsOf s) (s .rows) n
+sound-room s n f =
+    record { room = f .room; wide = omega (arith, f .width, width-small); rows = omega (arith, f .rows, height-small); deep = f .deep }
+
+pub sound-walk : (s : Writer) (n : ℕ) → Sound s n → 0 < s .level → Walk (s .levels) (columnsOf s) (s .level) (s .rows)
+sound-walk s n f h =
+    let r = sound-room s n f in
+    record { first = h; last = f .level; wide = r .wide; rows = r .rows; deep = r .deep }
+
+pub sound-drawable : (s : Writer) (n : ℕ) → Sound s n → 0 < s .level → Drawable s n
+sound-drawable s n f h = record { room = sound-room s n f; walk = sound-walk s n f h; placed = f .placed; closed = f .closed }
 
 -- ---- what a draw leaves
 module _ (s : Writer) (x y : Memory) (r : Wait) (l : Left (s .filter) (s .levels) (columnsOf s) (pulled s x) r y) where

@@ -289,7 +289,8 @@ module _ (s : Writer) (r : Level) (f : Reaches (s .filter) (s .levels) (columnsO
       (at-is (s .filter) (s .level) (s .offset) r (s .left) i b n d _ ei eb en ed refl ∙ ap spotOf (sym row-is))
 
   module _ (x : Memory) (p i : ℕ) (ep : p ≡ prev (s .left)) (ei : i ≡ skip (columns r) (received r) (r .set) p) where
-    draw-is : pulled s x ≡ from (prev (s .level)) (s .offset) x (settled (passOn (kind s) (s .levels - s .level) (columns r) (r .y)) (r .set) (rest (s .offset) x) i)
+    draw-is : pulled s x
+        ≡ from (prev (s .level)) (s .offset) x (settled (passOn (kind s) (s .levels - s .level) (columns r) (r .y)) (r .set) (rest (s .offset) x) i)
     draw-is =
         f .pulls (s .left) x
         ∙ ap (λ (a : ℕ). pullAt (s .filter) (s .levels - s .level) (s .level) a r (s .left) x) (sym placed)

@@ -27,7 +27,7 @@ use Rattle.writer.specs.Questions.{offerQuestion, either, inRanges, long
 use Rattle.writer.specs.Calls.{offerReply, offerStore}
 use Rattle.writer.specs.Steps.{Left}
 use Rattle.writer.proofs.GateLaws.{Sound}
-use Rattle.writer.proofs.CallLaws.{unless-no, unless-yes, changed-no, changed-yes}
+use Rattle.writer.proofs.CallLaws.{sound-room, unless-no, unless-yes, changed-no, changed-yes}
 use Rattle.writer.specs.Stretch.{nextCount, atColumn, Taker, Stretched}
 use Rattle.wavelet.specs.Questions.{ask}
 
@@ -279,12 +279,7 @@ module _ (s : Writer) (l q : ℕ) (run : List ℕ) (x : Memory) (e : q ≡ offer
 pub sound-taker : (s : Writer) (l : ℕ) → Sound s l → Taker s l
 sound-taker s l f =
     record {
-      room = record {
-        room = f .room;
-        wide = omega (arith, f .width, width-small);
-        rows = omega (arith, f .rows, height-small);
-        deep = f .deep;
-      };
+      room = sound-room s l f;
       column = f .column;
       deep = omega (arith, f .levels);
     }

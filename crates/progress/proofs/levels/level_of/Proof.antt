@@ -69,7 +69,8 @@ minus-requires-3 c κs = tt
 returns : tie.Need-returns Inv-loop μ-loop
 returns c =
     let l = c .before .before .before .loop in
-    walk-end _ (side (l .column) (l .width)) (l .row) (l .closed) (l .k) (l .rows) _ _ (omega arith) (c .before .made2 .ensures) (c .minus3 .ensures) ∙ l .inv .1
+    walk-end _ (side (l .column) (l .width)) (l .row) (l .closed) (l .k) (l .rows) _ _ (omega arith) (c .before .made2 .ensures) (c .minus3 .ensures)
+    ∙ l .inv .1
 
 pub level-of-spec : {M : Type 1} → statement M
 level-of-spec =

@@ -1,17 +1,13 @@
 -- `Writer::draw` meets its contract. Assumes nothing.
 use mathlib.Core.Path.{_≡_}
 use native.Mathlib.Omega.{arith}
-use borrow.Author.Needs.{needs}
 use lib.ListN.{length}
 use Rattle.numbers.specs.Signal.{at}
-use Rattle.wavelet.proofs.LimitLaws.{width-small, height-small}
 use Rattle.level.specs.Level.{rest}
-use Rattle.writer.specs.Taking.{columnsOf}
 use Rattle.writer.specs.Gate.{stateQuestion}
-use Rattle.writer.specs.Steps.{Walk, Drawable}
 use Rattle.writer.proofs.GateLaws.{sound}
 use Rattle.writer.proofs.DrawLaws.{reached}
-use Rattle.writer.proofs.CallLaws.{draw-refused, draw-nothing, draw-no-room, draw-row}
+use Rattle.writer.proofs.CallLaws.{sound-walk, sound-drawable, draw-refused, draw-nothing, draw-no-room, draw-row}
 use Rattle.writer.proofs.CallsKeep.{draw-kept}
 use Rattle.writer.proofs.Writer.draw.Statement.{statement}
 use Rattle.writer.proofs.Writer.draw.Tie as tie
@@ -38,7 +34,7 @@ waiting-requires c κs =
     let a = c .before .before .before .before .before .before .args in
     let q : stateQuestion (a .self) (length (a .store .now)) ≡ 0 = omega arith in
     let f = sound (a .self) (length (a .store .now)) q in
-    let walk : Walk (a .self .levels) (columnsOf (a .self)) (a .self .level) (a .self .rows) = omega (arith, width-small, height-small) in
+    let walk = sound-walk (a .self) (length (a .store .now)) f (omega arith) in
     (walk, f .placed, reached (a .self .filter) _ _ _ _ _ _ _ walk (c .level-of .ensures))
 
 returns-3 : tie.Need-returns-3
@@ -61,7 +57,7 @@ draw-on-requires c κs =
     let a = c .before .before .before .before .before .before .before .before .before .before .before .before .before .before .args in
     let q : stateQuestion (a .self) (length (a .store .now)) ≡ 0 = omega arith in
     let f = sound (a .self) (length (a .store .now)) q in
-    let d : Drawable (a .self) (length (a .store .now)) = omega (arith, width-small, height-small) in
+    let d = sound-drawable (a .self) (length (a .store .now)) f (omega arith) in
     (d, reached (a .self .filter) _ _ _ _ _ _ _ (d .walk) (c .before .before .before .before .before .before .before .before .level-of .ensures))
 
 same-length : tie.Need-same-length

@@ -2,9 +2,8 @@
 use mathlib.Core.Path.{_≡_}
 use native.Mathlib.Omega.{arith}
 use lib.ListN.{length}
-use Rattle.wavelet.proofs.LimitLaws.{width-small, height-small}
 use Rattle.writer.specs.Questions.{finishQuestion}
-use Rattle.writer.proofs.CallLaws.{finish-sound, finish-no, finish-yes}
+use Rattle.writer.proofs.CallLaws.{sound-room, finish-sound, finish-no, finish-yes}
 use Rattle.writer.proofs.CallsKeep.{finish-kept}
 use Rattle.writer.proofs.Writer.finish.Statement.{statement}
 use Rattle.writer.proofs.Writer.finish.Tie as tie
@@ -19,8 +18,7 @@ shut-requires : tie.Need-shut-requires
 shut-requires c κs =
     let a = c .before .before .before .args in
     let q : finishQuestion (a .self) (length (a .store .now)) ≡ 0 = omega arith in
-    let f = finish-sound (a .self) (length (a .store .now)) q in
-    omega (arith, width-small, height-small)
+    (sound-room (a .self) (length (a .store .now)) (finish-sound (a .self) (length (a .store .now)) q), omega arith)
 
 same-length : tie.Need-same-length
 same-length c = c .before .shut .kept .1 .0

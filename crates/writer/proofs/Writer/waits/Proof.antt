@@ -1,8 +1,6 @@
 -- `Writer::waits` meets its contract. Assumes nothing.
 use native.Mathlib.Omega.{arith}
-use Rattle.wavelet.proofs.LimitLaws.{width-small, height-small}
-use Rattle.writer.specs.Taking.{columnsOf}
-use Rattle.writer.specs.Steps.{Walk}
+use Rattle.writer.proofs.CallLaws.{sound-walk}
 use Rattle.writer.proofs.DrawLaws.{reached}
 use Rattle.writer.proofs.LookLaws.{look-no, look-none, look-sound, look-row}
 use Rattle.writer.proofs.Writer.waits.Statement.{statement}
@@ -21,7 +19,7 @@ looked-requires : tie.Need-looked-requires
 looked-requires c κs =
     let f = look-sound _ _ (c .before .before .before .before .in-ranges .ensures) (c .before .before .before .if1 .left) in
     let s = c .before .before .before .before .before .args .self in
-    let walk : Walk (s .levels) (columnsOf s) (s .level) (s .rows) = omega (arith, width-small, height-small) in
+    let walk = sound-walk s _ f (omega arith) in
     (walk, f .placed, reached (s .filter) _ _ _ _ _ _ _ walk (c .level-of .ensures))
 
 returns-2 : tie.Need-returns-2

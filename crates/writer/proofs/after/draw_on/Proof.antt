@@ -1,7 +1,6 @@
 -- `after::draw_on` meets its contract: the row pulled, and the levels closed on where it is due. Assumes nothing.
 use mathlib.Core.Path.{_∙_}
 use native.Mathlib.Omega.{arith}
-use borrow.Author.Needs.{needs}
 use Rattle.writer.proofs.CallLaws.{drew-open, drew-waits, drew-closes}
 use Rattle.writer.proofs.after.draw_on.Statement.{statement}
 use Rattle.writer.proofs.after.draw_on.Tie as tie
@@ -10,7 +9,13 @@ pull-requires : tie.Need-pull-requires
 pull-requires c κs = c .before .pre
 
 shut-requires : tie.Need-shut-requires
-shut-requires c κs = search needs
+shut-requires c κs =
+    let pulled = c .before .before .before .before .before in
+    let start = pulled .before .before in
+    let room = start .pre .0 .room in (
+      record { room = omega (arith, room .room, pulled .pull .kept .1 .1 .0); wide = room .wide; rows = room .rows; deep = room .deep },
+      start .pre .0 .closed,
+    )
 
 same-length : tie.Need-same-length
 same-length c = c .before .shut .kept .1 .0 ∙ c .before .before .before .before .before .before .before .pull .kept .1 .1 .0

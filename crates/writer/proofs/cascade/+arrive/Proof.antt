@@ -238,8 +238,9 @@ arrive-arrive-requires t c κs =
     let a = start .args in
     let off = sets-off (a .filter) (a .l) (a .y) (a .m) _ (sure .before .sets-off .ensures) (sure .if1 .left) in (
       omega (arith, start .pre .0, off .0),
-      room-below (a .filter) (a .l) (a .l - 1) (side (a .x) (a .w)) _ (a .m) _ (length (a .store .now)) (st .stretch .result) _ (omega (arith, off .0)) (start .pre .1)
-          (st .stretch .ensures) (next-is (a .x) (a .w) _ _ (c .next-start2 .ensures) (c .before .low-count .ensures)) (omega (arith, start .pre .1 .rows))
+      room-below (a .filter) (a .l) (a .l - 1) (side (a .x) (a .w)) _ (a .m) _ (length (a .store .now)) (st .stretch .result) _ (omega (arith, off .0))
+          (start .pre .1) (st .stretch .ensures) (next-is (a .x) (a .w) _ _ (c .next-start2 .ensures) (c .before .low-count .ensures))
+          (omega (arith, start .pre .1 .rows))
           (omega (arith, st .before .before .deliver, st .before .before .before .before .before .before .before .before .before .before .before .make)),
     )
 

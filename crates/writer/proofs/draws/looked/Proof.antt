@@ -22,7 +22,8 @@ returns c =
     let b = c .before .before in
     let d = b .before .before in
     let a = d .args in
-    told (a .s) (a .q) (d .pre .2) (d .pre .1) _ _ _ _ (b .before .minus .ensures ∙ sym (prev-is _)) (b .code .ensures) (c .before .set-row .ensures) (c .columns .ensures)
+    told (a .s) (a .q) (d .pre .2) (d .pre .1) _ _ _ _ (b .before .minus .ensures ∙ sym (prev-is _)) (b .code .ensures)
+    (c .before .set-row .ensures) (c .columns .ensures)
 
 pub looked-spec : {M : Type 1} → statement M
 looked-spec = tie.close (tie.spec minus-requires code-requires set-row-requires columns-requires returns)

@@ -20,11 +20,11 @@ returns c =
     let b = c .before in
     let d = b .before .before in
     let a = d .args in
-    pull-waits (a .s) (a .q) (d .pre .1) (d .pre .0 .placed) (at (a .store .now)) _ _ (b .before .minus .ensures ∙ sym (prev-is _)) (b .next-band .ensures) (omega arith)
-    (omega arith)
+    pull-waits (a .s) (a .q) (d .pre .1) (d .pre .0 .placed) (at (a .store .now)) _ _ (b .before .minus .ensures ∙ sym (prev-is _))
+    (b .next-band .ensures) (omega arith) (omega arith)
 
 sub-below : tie.Need-sub-below
-sub-below c = search needs
+sub-below c = omega (arith, c .before .before .before .before .pre .0 .walk)
 
 mul-pass-on : tie.Need-mul-pass-on
 mul-pass-on c = search needs

@@ -57,8 +57,8 @@ returns c =
     let a = d .args in
     found (a .s) (a .q) (d .pre .2) (d .pre .1) _ _ _ _ _ (omega arith)
     (b .before .minus .ensures ∙ sym (prev-is _)) (b .code .ensures) (e .before .before .set-row .ensures) (e .before .columns .ensures)
-    (place-code (a .s .filter) (columns (a .q)) (a .q .y) (a .q .set) (bandAt (b .before .minus .result)) _ _ (omega (arith, d .pre .2 .wide)) (b .code .ensures)
-    (e .band-place .ensures))
+    (place-code (a .s .filter) (columns (a .q)) (a .q .y) (a .q .set) (bandAt (b .before .minus .result)) _ _ (omega (arith, d .pre .2 .wide))
+    (b .code .ensures) (e .band-place .ensures))
 
 pub waiting-spec : {M : Type 1} → statement M
 waiting-spec =
