@@ -23,6 +23,13 @@ use Rattle.reader_steps.specs.Places as machine
 use Rattle.reader.specs.Inside.{IsLevel, Is, IsNext}
 use Rattle.reader.proofs.PartLaws.{level-wide, level-high}
 
+-- ---- a level down from level k, of L levels
+pub step-down : (to k L : ℕ) → to < k → k ≤ L → (1 ≤ k) × (k - 1 < L) × (k - 1 ≤ L) × (k - 1 < k)
+step-down to k L h m = (omega arith, omega arith, omega arith, omega arith)
+
+pub none-left : {A : Type 0} (n : ℕ) → n ≤ 0 → 0 < n → A
+none-left n h m = absurd (omega arith)
+
 -- a place by its numbers
 pub is-spot : (q : machine.Spot) (p : Spot) → spot (p .level) (p .set) (p .band) ≡ q → Is q p
 is-spot q p e = record {

@@ -121,8 +121,8 @@ returns-5 c =
     let is-due = sym (due .before .draw-due .ensures) ∙ not-false _ (due .if2 .left) in
     let made = told-no (call .settle .result) y _ (call .settle .ensures .0) (failed .if4 .left) in
     draw-also s n m x (heightsAt (a .out .now))
-    (draw-end s _ x (heightsAt (a .out .now)) (ended .over .result) _ (fits-no _ made ∙ draw-last s n m x one is-due (wide .if3 .left)) (ended .over .ensures .0)
-    (zero-kept (s .filter) (columns s) (s .levels) x y _ (call .settle .ensures .1) (ended .over .ensures .1)))
+    (draw-end s _ x (heightsAt (a .out .now)) (ended .over .result) _ (fits-no _ made ∙ draw-last s n m x one is-due (wide .if3 .left))
+    (ended .over .ensures .0) (zero-kept (s .filter) (columns s) (s .levels) x y _ (call .settle .ensures .1) (ended .over .ensures .1)))
 
 pub draw-spec : {M : Type 1} → statement M
 draw-spec =
