@@ -1,7 +1,7 @@
--- `listing_io::run::run_on` puts together what a round left. Assumes nothing.
+-- `listing_rounds::run::run_on` puts together what a round left. Assumes nothing.
 use mathlib.Core.Path.{refl}
-use Rattle.listing_io.proofs.run.run_on.Statement.{statement}
-use Rattle.listing_io.proofs.run.run_on.Tie as tie
+use Rattle.listing_rounds.proofs.run.run_on.Statement.{statement}
+use Rattle.listing_rounds.proofs.run.run_on.Tie as tie
 
 used-requires : tie.Need-used-requires
 used-requires c κs = tt

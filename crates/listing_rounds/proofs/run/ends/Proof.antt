@@ -1,8 +1,8 @@
--- `listing_io::run::ends` is the test of the definition. Assumes nothing.
+-- `listing_rounds::run::ends` is the test of the definition. Assumes nothing.
 use mathlib.Core.Path.{sym, _∙_}
-use Rattle.listing_io.specs.Rounds.{ends}
-use Rattle.listing_io.proofs.run.ends.Statement.{statement}
-use Rattle.listing_io.proofs.run.ends.Tie as tie
+use Rattle.listing_rounds.specs.Rounds.{ends}
+use Rattle.listing_rounds.proofs.run.ends.Statement.{statement}
+use Rattle.listing_rounds.proofs.run.ends.Tie as tie
 
 has-ended-requires : tie.Need-has-ended-requires
 has-ended-requires c κs = tt

@@ -18,8 +18,8 @@ use Rattle.listing.specs.declared.listing.Listing.{Listing}
 use Rattle.listing.specs.declared.listing.Fed.{Fed}
 use Rattle.listing.specs.States.{State, stateOf, Leaves, started, endState}
 use Rattle.listing.specs.Moves.{Idle, Went, Stops, full, idle}
-use Rattle.listing_io.specs.Rounds.{runOf, waiting, failed, ended, ends, going, Round, Rounds, begun, then, Ran, Listed, before, after}
-use Rattle.listing_io.specs.declared.run.Run.{Run}
+use Rattle.listing_rounds.specs.Rounds.{runOf, waiting, failed, ended, ends, going, Round, Rounds, begun, then, Ran, Listed, before, after}
+use Rattle.listing_rounds.specs.declared.run.Run.{Run}
 
 pub round-is : {n k : ℕ} {s : State} {l : Left} {c c′ o o′ : List ℕ} {x z : Memory} (w : Bool) (f : Fed) (g : Filled) (q : Sent) {r : Run}
     → Within c l → w ≡ waiting (s .listing) → Fills w l c c′ g

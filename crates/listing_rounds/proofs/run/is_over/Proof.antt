@@ -1,8 +1,8 @@
--- `listing_io::run::is_over` is the test of the definition. Assumes nothing.
+-- `listing_rounds::run::is_over` is the test of the definition. Assumes nothing.
 use borrow.Author.Tests.{eq-eqb, ne-eqb}
-use Rattle.listing_io.specs.Rounds.{over}
-use Rattle.listing_io.proofs.run.is_over.Statement.{statement}
-use Rattle.listing_io.proofs.run.is_over.Tie as tie
+use Rattle.listing_rounds.specs.Rounds.{over}
+use Rattle.listing_rounds.proofs.run.is_over.Statement.{statement}
+use Rattle.listing_rounds.proofs.run.is_over.Tie as tie
 
 returns : tie.Need-returns
 unfolding over

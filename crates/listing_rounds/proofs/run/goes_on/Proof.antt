@@ -1,8 +1,8 @@
--- `listing_io::run::goes_on` is the test of the definition. Assumes nothing.
+-- `listing_rounds::run::goes_on` is the test of the definition. Assumes nothing.
 use mathlib.Core.Path.{sym, _∙_}
-use Rattle.listing_io.specs.Rounds.{going}
-use Rattle.listing_io.proofs.run.goes_on.Statement.{statement}
-use Rattle.listing_io.proofs.run.goes_on.Tie as tie
+use Rattle.listing_rounds.specs.Rounds.{going}
+use Rattle.listing_rounds.proofs.run.goes_on.Statement.{statement}
+use Rattle.listing_rounds.proofs.run.goes_on.Tie as tie
 
 has-failed-requires : tie.Need-has-failed-requires
 has-failed-requires c κs = tt

@@ -1,5 +1,6 @@
 -- The listing over descriptors, round by round: read, turn, write. n and k are the lengths of line store and row area.
--- proofs/ListedTheorem: whatever the rounds, once the listing is over all that was written is `listingOf` all that was read, however much more would have come.
+-- listing_io/proofs/ListedTheorem: whatever the rounds, once the listing is over all that was written is `listingOf` all that was read, however much more
+-- would have come.
 use mathlib.Core.Path.{_≡_}
 use mathlib.Core.Bool.{Bool, true, false, not}
 use mathlib.Core.List.{List, [], _++_}
@@ -16,7 +17,7 @@ use Rattle.listing.specs.States.{State, stateOf, started, endState}
 use Rattle.listing.specs.Moves.{Idle, Went, Stops}
 use Rattle.listing.specs.declared.listing.Listing.{Listing}
 use Rattle.listing.specs.declared.listing.Fed.{Fed}
-use Rattle.listing_io.specs.declared.run.Run.{Run}
+use Rattle.listing_rounds.specs.declared.run.Run.{Run}
 
 -- no line is being written, and the listing reads: it waits for input
 unfoldable pub waiting : Listing → Bool

@@ -1,8 +1,8 @@
--- `listing_io::run::waits` is the test of the definition. Assumes nothing.
+-- `listing_rounds::run::waits` is the test of the definition. Assumes nothing.
 use borrow.Author.Tests.{eq-eqb, ne-eqb}
-use Rattle.listing_io.specs.Rounds.{waiting}
-use Rattle.listing_io.proofs.run.waits.Statement.{statement}
-use Rattle.listing_io.proofs.run.waits.Tie as tie
+use Rattle.listing_rounds.specs.Rounds.{waiting}
+use Rattle.listing_rounds.proofs.run.waits.Statement.{statement}
+use Rattle.listing_rounds.proofs.run.waits.Tie as tie
 
 returns : tie.Need-returns
 unfolding waiting

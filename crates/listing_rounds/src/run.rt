@@ -7,7 +7,7 @@ use listing::listing::Fed;
 use listing::listing::Listing;
 ghost use mathlib.Core.Path.{_≡_};
 ghost use mathlib.Core.Bool.{false};
-ghost use Rattle.listing_io.specs.Rounds.{waiting, over, failed, ended, ends, whole, going, runOf};
+ghost use Rattle.listing_rounds.specs.Rounds.{waiting, over, failed, ended, ends, whole, going, runOf};
 
 // The listing after a round, what is left of the chunk, and of that round: what was read, how many bytes of the area were written and how many of those
 // were sent,
