@@ -1,6 +1,5 @@
 -- `reader_state::is_reader` meets its contract: its tests in turn. Assumes nothing.
 use mathlib.Core.Path.{sym, _∙_}
-use native.Mathlib.Omega.{arith}
 use borrow.Author.Needs.{needs}
 use Rattle.states.proofs.StateLaws.{no-kind, no-flag, rest-left}
 use Rattle.states.proofs.reader_state.is_reader.Statement.{statement}

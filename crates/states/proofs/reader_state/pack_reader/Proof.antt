@@ -1,5 +1,4 @@
 -- `reader_state::pack_reader` meets its contract: the numbers as they are, and the flag as one. Assumes nothing.
-use borrow.Author.Needs.{needs}
 use Rattle.states.proofs.reader_state.pack_reader.Statement.{statement}
 use Rattle.states.proofs.reader_state.pack_reader.Tie as tie
 

@@ -1,6 +1,5 @@
 -- `writer_state::is_writer` meets its contract: its tests in turn. Assumes nothing.
 use mathlib.Core.Path.{sym, _∙_}
-use native.Mathlib.Omega.{arith}
 use borrow.Author.Needs.{needs}
 use Rattle.states.proofs.StateLaws.{no-kind, no-flag, rest-left}
 use Rattle.states.proofs.writer_state.is_writer.Statement.{statement}

@@ -1,6 +1,5 @@
 -- `writer_state::pack_drawn` meets its contract: what the answer says, in its three cases. Assumes nothing.
-use mathlib.Core.Path.{_≡_, sym, ap}
-use mathlib.Core.List.{List}
+use mathlib.Core.Path.{sym, ap}
 use borrow.Author.Needs.{needs}
 use Rattle.writer.specs.declared.Drawn.{Drawn}
 use Rattle.writer.specs.Answers.{ofDrawn}

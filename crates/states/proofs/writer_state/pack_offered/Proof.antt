@@ -1,7 +1,5 @@
 -- `writer_state::pack_offered` meets its contract: what the answer says, in its two cases. Assumes nothing.
-use mathlib.Core.Path.{_≡_, sym, ap}
-use mathlib.Core.List.{List}
-use Prim.Native.Nat.{ℕ}
+use mathlib.Core.Path.{sym, ap}
 use borrow.Author.Needs.{needs}
 use Rattle.writer.specs.declared.Offered.{Offered}
 use Rattle.writer.specs.Answers.{ofOffered}

@@ -1,5 +1,4 @@
 -- `writer_state::pack_writer` meets its contract: the numbers as they are, and the flag as one. Assumes nothing.
-use borrow.Author.Needs.{needs}
 use Rattle.states.proofs.writer_state.pack_writer.Statement.{statement}
 use Rattle.states.proofs.writer_state.pack_writer.Tie as tie
 
