@@ -2,7 +2,6 @@
 use mathlib.Core.Path.{_≡_, refl, sym, ap, _∙_, subst}
 use mathlib.Core.List.{List}
 use Prim.Native.Nat.{ℕ, _+_, _-_, _*_, _/_, _%_, _≤_, _<_}
-use native.Mathlib.Decide.{ℕ-discrete}
 use native.Mathlib.Omega.{arith}
 use lib.IntN.{ℤ}
 use lib.ListN.{set}
@@ -12,7 +11,7 @@ use Rattle.numbers.proofs.Parts.{splice-below, splice-in, splice-past}
 use Rattle.lifting.specs.Line.{Half, lo, hi}
 use Rattle.lifting.specs.Grid.{Side, half, count, place, parted, joined}
 use Rattle.lifting.specs.GridHalves.{halvesOf, inHalves, partedInto}
-use Rattle.lifting.proofs.GridLaws.{count-lo, count-hi, half-even, half-odd, halves-are}
+use Rattle.lifting.proofs.GridLaws.{halves-are}
 use Rattle.half_places.specs.Places.{begins}
 use Rattle.half_places.proofs.HalfLaws.{evens, odds, by-parity, evens-fit, odds-fit, evens-last, odds-first}
 use Rattle.areas.proofs.Splices.{splice-swap}

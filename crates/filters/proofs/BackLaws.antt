@@ -1,18 +1,16 @@
 -- A level by the number of its filter, case by case: what is asked and left is what the filter's own level asks and leaves. Assumes nothing.
 use mathlib.Core.Path.{_≡_, refl}
 use mathlib.Core.Bool.{Bool, true}
-use Prim.Native.Nat.{ℕ, zero, suc, _+_, _*_, _≤_, _<_, min}
+use Prim.Native.Nat.{ℕ, zero, suc, _+_, _*_, _≤_, _<_}
 use native.Mathlib.Omega.{arith}
-use lib.IntN.{ℤ, pos}
+use lib.IntN.{ℤ}
 use lib.Dec.{leb, eqb}
 use Rattle.numbers.specs.Signal.{pick, windowed, spliced}
 use Rattle.lifting.specs.Line.{lo}
 use Rattle.lifting.specs.Grid.{Side, count, joined}
 use Rattle.lifting.specs.GridHalves.{halvesOf}
-use Rattle.lifting.specs.FiveThree.{fiveThreeFilter}
-use Rattle.nine_seven.specs.NineSevenFilter.{nineSevenFilter}
 use Rattle.nine_seven.specs.Filters.{filterOf}
-use Rattle.wavelet.specs.Limits.{maxLevels, range}
+use Rattle.wavelet.specs.Limits.{maxLevels}
 use Rattle.wavelet.specs.Bands.{Band, across, down}
 use Rattle.wavelet.specs.Order.{lastSet}
 use Rattle.level.specs.Tried.{failed, outcome}

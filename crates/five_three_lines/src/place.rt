@@ -2,7 +2,7 @@
 // The module is private: only the loops of this crate, which meet what is required, can call it.
 use lifting::sample;
 ghost use mathlib.Core.Path.{_≡_};
-ghost use Prim.Native.Nat.{ℕ, _<_};
+ghost use Prim.Native.Nat.{_<_};
 ghost use lib.ListN.{length, set};
 ghost use Rattle.numbers.specs.Signal.{at, both};
 ghost use Rattle.numbers.specs.Word.{wrap32};

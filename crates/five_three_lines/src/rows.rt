@@ -3,8 +3,8 @@
 // changed where a row does not lie in the area or is wider than the stride.
 use crate::place;
 ghost use mathlib.Core.Path.{_≡_};
-ghost use Prim.Native.Nat.{ℕ, _+_, _*_, _<_, _≤_};
-ghost use lib.ListN.{length, set};
+ghost use Prim.Native.Nat.{_+_, _*_, _<_};
+ghost use lib.ListN.{length};
 ghost use Rattle.numbers.specs.Signal.{at, pick};
 ghost use Rattle.numbers.specs.Word.{wrap32};
 ghost use Rattle.lifting.specs.Line.{predicted, unpredicted, updated, unupdated};

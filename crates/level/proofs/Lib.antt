@@ -9,7 +9,6 @@ pub mod PairLaws
 pub mod PartedLaws
 pub mod FillLaws
 -- The way back.
-pub mod LoneTests
 pub mod OpenedSets
 pub mod RowsIn
 pub mod SlotLaws

@@ -4,7 +4,7 @@ ghost use mathlib.Core.Path.{_≡_};
 ghost use lib.IntN.{pos, _*ℤ_};
 ghost use lib.ListN.{length};
 ghost use lib.Signed.{shrZ};
-ghost use Rattle.numbers.specs.Signal.{at};
+ghost use Rattle.numbers.specs.Signal.{at, pick};
 ghost use Rattle.numbers.specs.Tests.{every};
 ghost use Rattle.numbers.specs.Word.{wrap32};
 ghost use Rattle.lifting.specs.Grid.{side, loneHigh, isEven};
@@ -51,4 +51,17 @@ pub fn halve_all(row: &mut [i32])
         row[i] = sample::halve(row[i]);
         i += 1;
     }
+}
+
+// All halved if all are even; else false, and nothing is changed.
+pub fn halve_even(row: &mut [i32]) -> bool
+    ensures even { λ ok. ⌜ ok ≡ every (length (now (row .entry))) (λ i. isEven (at (now (row .entry)) i)) ⌝ }
+    ensures row { λ ok. ⌜ at (now (row .exit)) ≡ pick ok
+        (fronted (length (now (row .entry))) (λ i. shrZ (at (now (row .entry)) i) 2) (at (now (row .entry)))) (at (now (row .entry))) ⌝ }
+{
+    if !all_even(row) {
+        return false;
+    }
+    halve_all(row);
+    true
 }

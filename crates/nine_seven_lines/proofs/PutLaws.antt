@@ -11,7 +11,7 @@ use Rattle.numbers.specs.Signal.{at}
 use Rattle.numbers.specs.Word.{wrap32}
 use Rattle.numbers.proofs.Sweep.{Swept, start, store, finish}
 use Rattle.lifting.specs.Line.{Half, lo, hi}
-use Rattle.lifting.specs.Grid.{Side, place, count, joined}
+use Rattle.lifting.specs.Grid.{Side, count, joined}
 use Rattle.lifting.specs.GridHalves.{halvesOf}
 use Rattle.lifting.specs.Passes.{near}
 use Rattle.lifting.proofs.GridLaws.{counts, some, beside-lows, half-even, half-odd, front-in, front-past}

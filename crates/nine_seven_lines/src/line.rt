@@ -6,7 +6,7 @@ use crate::put;
 use areas::lines;
 use five_three_lines::line as short;
 ghost use mathlib.Core.Path.{_≡_};
-ghost use Prim.Native.Nat.{ℕ, _+_, _-_, _<_, _≤_};
+ghost use Prim.Native.Nat.{_+_, _-_, _<_, _≤_};
 ghost use lib.ListN.{length, set};
 ghost use lib.Dec.{leb};
 ghost use Rattle.numbers.specs.Signal.{at, pick, both};

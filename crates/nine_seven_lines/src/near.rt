@@ -1,7 +1,7 @@
 // Which numbers of one half a number of the other goes by, those of each half counted from 0: in a line, or the rows of a column. Where there is none such it
 // is the nearest, but the farther ones of the first and of the last high number are mirrored.
 ghost use mathlib.Core.Path.{_≡_};
-ghost use Prim.Native.Nat.{ℕ, _-_, _<_, _≤_};
+ghost use Prim.Native.Nat.{_-_, _<_, _≤_};
 ghost use Rattle.lifting.specs.Line.{lo};
 ghost use Rattle.lifting.specs.Grid.{side, count};
 ghost use Rattle.lifting.specs.Passes.{near};

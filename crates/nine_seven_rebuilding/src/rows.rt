@@ -5,7 +5,7 @@ use crate::neighbours;
 use crate::range;
 use areas::lines;
 use areas::ranges;
-use level::lone;
+use lone_rows::lone;
 use nine_seven_lines::line;
 use nine_seven_lines::rows;
 use wavelet::sizes;

@@ -1,7 +1,7 @@
 // A set worked out in its level's stretch of the line store. Set n has the rows at 2n and 2n + 1; it makes those at 2n − 3 and 2n − 2, the last set all that
 // is left. The module is private: only this crate, which meets what is required, can call it.
 use crate::rows;
-use level::lone;
+use lone_rows::lone;
 ghost use mathlib.Core.Path.{_≡_};
 ghost use Prim.Native.Nat.{_+_, _-_, _*_, _%_, _<_, _≤_, _^_};
 ghost use lib.ListN.{length};

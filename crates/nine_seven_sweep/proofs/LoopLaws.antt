@@ -1,5 +1,5 @@
 -- The loops of the two sweeps: before turn n, l₀ being the area where it began, the numbers that a turn needs, a turn, and the end. Assumes nothing.
-use mathlib.Core.Path.{_≡_, refl, ap, _∙_}
+use mathlib.Core.Path.{_≡_, refl, _∙_}
 use mathlib.Core.List.{List}
 use Prim.Native.Nat.{ℕ, _+_, _-_, _%_, _≤_, _<_}
 use native.Mathlib.Omega.{arith}

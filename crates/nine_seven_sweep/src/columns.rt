@@ -6,7 +6,7 @@ use five_three_lines::rows;
 use lone_rows::lone;
 ghost use mathlib.Core.Path.{_≡_};
 ghost use mathlib.Core.Bool.{true};
-ghost use Prim.Native.Nat.{ℕ, _-_, _≤_};
+ghost use Prim.Native.Nat.{_-_, _≤_};
 ghost use lib.ListN.{length};
 ghost use Rattle.numbers.specs.Signal.{at, pick, both};
 ghost use Rattle.lifting.specs.Grid.{side};

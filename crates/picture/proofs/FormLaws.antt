@@ -2,14 +2,10 @@
 use mathlib.Core.Path.{_≡_, refl, sym, ap, subst, _∙_}
 use mathlib.Core.Bool.{Bool, true, false}
 use mathlib.Core.List.{List, [], _∷_, _++_}
-use Prim.Native.Nat.{ℕ, zero, suc, _+_, _-_, _*_, _/_, _%_, _^_, _≤_, _<_, min}
+use Prim.Native.Nat.{ℕ, zero, suc, _+_, _-_, _^_, _≤_, _<_, min}
 use native.Mathlib.Omega.{arith}
-use native.Mathlib.Numerals.{add-one}
-use native.Mathlib.Nat.{zero-add}
-use lib.Dec.{eqb}
-use lib.ListN.{length, take, drop, getD, set, length-set, length-drop, length-append}
-use lib.Seq.{paste, paste-zero, paste-suc, getD-drop}
-use Rattle.numbers.specs.Signal.{pick}
+use lib.ListN.{length, take, drop, length-append}
+use lib.Seq.{paste}
 use Rattle.wavelet.specs.Limits.{maxWidth, maxHeight}
 use Rattle.wavelet.specs.Questions.{within}
 use Rattle.text.specs.Decimal.{numeral}

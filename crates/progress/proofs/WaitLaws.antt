@@ -1,6 +1,6 @@
 -- What waits, seen from the levels above. Assumes nothing.
 use mathlib.Core.Path.{_≡_, refl, sym, _∙_}
-use Prim.Native.Nat.{ℕ, zero, suc, _+_, _<_, _%_, _^_}
+use Prim.Native.Nat.{ℕ, _+_, _<_, _%_, _^_}
 use native.Mathlib.Nat.{mod-eq-of-lt}
 use native.Mathlib.Omega.{arith}
 use Rattle.progress.specs.declared.waits.Wait.{Wait}

@@ -8,16 +8,15 @@ use lib.IntN.{ℤ}
 use lib.Dec.{eqb}
 use borrow.Author.Tests.{lt-ltb, le-ltb}
 use Rattle.lifting.specs.Grid.{Side, side}
-use Rattle.wavelet.specs.Levels.{sideAt}
 use Rattle.level.specs.Tried.{failed, passed}
 use Rattle.level.proofs.WorkLaws.{bind-failed, bind-passed}
 use Rattle.reader.specs.declared.walk.Level.{Level}
 use Rattle.reader.specs.declared.walk.Spot.{Spot}
 use Rattle.reader.specs.declared.walk.Next.{Next}
-use Rattle.reader_steps.specs.Sets.{makes, waiting}
+use Rattle.reader_steps.specs.Sets.{waiting}
 use Rattle.reader_steps.specs.Asked.{nextBand}
 use Rattle.reader.specs.Store.{workedAt}
-use Rattle.reader_steps.specs.Places.{spot, bandAt, lastOfSet, nextUp, past, beyond, begins}
+use Rattle.reader_steps.specs.Places.{spot, bandAt, lastOfSet, nextUp, past, beyond}
 use Rattle.reader.specs.Machine.{settled, finished}
 use Rattle.reader_steps.specs.Places as machine
 use Rattle.reader.specs.Inside.{IsLevel, Is, IsNext}

@@ -1,5 +1,5 @@
 -- The state of a writer or a reader as the caller's sixteen numbers: a kind, the counts, and 0 in the rest. docs/STATE.md lists them.
-use mathlib.Core.Bool.{Bool, true, false}
+use mathlib.Core.Bool.{Bool, true}
 use mathlib.Core.List.{List}
 use Prim.Native.Nat.{ℕ, zero, suc, _+_, _-_}
 use lib.Dec.{eqb, leb}

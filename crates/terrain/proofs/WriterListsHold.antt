@@ -1,7 +1,7 @@
 -- A list of C calls on a state array shows what the list of Rattle's calls shows, told in C's numbers: so what is proved of the lists
 -- of a writer (demand 3) holds of them. Assumes nothing.
-use mathlib.Core.Path.{_≡_, refl, ap, ap₂, _∙_}
-use mathlib.Core.List.{List, [], _∷_}
+use mathlib.Core.Path.{_≡_, refl, ap}
+use mathlib.Core.List.{List, []}
 use Prim.Native.Nat.{ℕ}
 use Rattle.calls.specs.Lists.{Reply, gives, refused, seen, Area}
 use Rattle.calls.proofs.ListLaws.{told-events}
@@ -12,10 +12,10 @@ use Rattle.writer.specs.Holds.{left, after}
 use Rattle.writer.specs.History.{Call, World, event, next, events}
 use Rattle.writer.specs.History as rattle
 use Rattle.terrain.specs.Memories.{Memories}
-use Rattle.states.specs.WriterState.{writerWords, isWriter, writerOf}
+use Rattle.states.specs.WriterState.{writerWords}
 use Rattle.states.specs.WriterAnswers.{number, takenOf, rowOf}
 use Rattle.terrain.specs.WriterCalls as c
-use Rattle.terrain.specs.WriterLists.{CCall, offered, drew, finished, seenOf, leaves, seenAll, told, toldAll, holding, calls, Seen}
+use Rattle.terrain.specs.WriterLists.{CCall, offered, drew, finished, seenOf, leaves, seenAll, told, toldAll, holding, calls}
 use Rattle.states.proofs.StateTheorems.{writer-back, writer-is}
 use Rattle.level.specs.Level.{Memory}
 

@@ -13,7 +13,7 @@ use borrow.Author.Tests.{eq-eqb, ne-eqb, lt-ltb, le-ltb, ltb-true, eqb-true}
 use Rattle.numbers.specs.Signal.{at, both, pick}
 use Rattle.numbers.proofs.Sweep as sweep
 use Rattle.wavelet.specs.Limits.{maxHeight}
-use Rattle.wavelet.proofs.LimitLaws.{width-small, height-small}
+use Rattle.wavelet.proofs.LimitLaws.{height-small}
 use Rattle.calls.specs.Lists.{gives, refused}
 use Rattle.level.specs.Level.{Memory}
 use Rattle.level.specs.Heights.{heightAt}

@@ -1,5 +1,5 @@
 -- `five_three_lines::line::put_lone` meets its contract, by the laws of a line so short. Assumes nothing.
-use mathlib.Core.Path.{_≡_, refl, sym, ap, _∙_}
+use mathlib.Core.Path.{_≡_, sym, ap, _∙_}
 use mathlib.Core.Bool.{true, false}
 use native.Mathlib.Omega.{arith}
 use lib.ListN.{length, length-set}

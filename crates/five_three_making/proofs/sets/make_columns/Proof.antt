@@ -1,5 +1,4 @@
 -- `sets::make_columns` meets its contract: the definition's steps in one pass. Assumes nothing.
-use Prim.Native.Nat.{_+_, _*_, _%_}
 use native.Mathlib.Omega.{arith}
 use lib.ListN.{length}
 use Rattle.five_three_making.proofs.Places.{low-slot, high-slot, free-slot}

@@ -1,5 +1,4 @@
 -- `levels::copy_row` meets its contract: one copy, from the first number that is not made. Assumes nothing.
-use mathlib.Core.Path.{_≡_, _∙_}
 use Prim.Native.Nat.{_+_, _*_, _≤_}
 use native.Mathlib.Omega.{arith}
 use lib.ListN.{length}

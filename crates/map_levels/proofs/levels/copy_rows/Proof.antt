@@ -6,7 +6,7 @@ use lib.ListN.{length}
 use Rattle.numbers.specs.Signal.{at}
 use Rattle.lifting.specs.Grid.{side}
 use Rattle.wavelet.specs.Plane.{cells}
-use Rattle.map_levels.specs.Passes.{Rows, rowsFetched}
+use Rattle.map_levels.specs.Passes.{rowsFetched}
 use Rattle.map_levels.proofs.GridSweep.{RowSwept, rows-kept, few, start, finish, within-past}
 use Rattle.map_levels.proofs.CellLaws.{fetched-out}
 use Rattle.map_levels.proofs.NineSevenBack.{copied-turn}

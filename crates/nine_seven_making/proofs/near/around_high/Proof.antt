@@ -1,5 +1,4 @@
 -- `near::around_high` meets its contract. Assumes nothing.
-use mathlib.Core.Path.{_∙_}
 use native.Mathlib.Omega.{arith}
 use Rattle.nine_seven_making.proofs.NearRows.{around-slots}
 use Rattle.nine_seven_making.proofs.near.around_high.Statement.{statement}

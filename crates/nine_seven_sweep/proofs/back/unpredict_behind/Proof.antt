@@ -1,5 +1,5 @@
 -- `back::unpredict_behind` meets its contract, by whether there is such a row. Assumes nothing.
-use Prim.Native.Nat.{_+_, _-_, _%_}
+use Prim.Native.Nat.{_-_, _%_}
 use native.Mathlib.Omega.{arith}
 use Rattle.lifting.specs.Grid.{side, place}
 use Rattle.nine_seven_sweep.proofs.CallLaws.{high-made, high-early}

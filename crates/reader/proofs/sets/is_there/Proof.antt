@@ -1,5 +1,4 @@
 -- `reader::sets::is_there` meets its contract: no cells, or the definition's test. Assumes nothing.
-use native.Mathlib.Omega.{arith}
 use Rattle.lifting.specs.Grid.{side}
 use Rattle.reader.proofs.SetLaws.{there-none, there-some, none-of, some-of}
 use Rattle.reader.proofs.sets.is_there.Statement.{statement}

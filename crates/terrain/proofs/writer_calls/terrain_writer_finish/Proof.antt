@@ -1,6 +1,5 @@
 -- `terrain_writer_finish` meets its contract: what the call on the unpacked writer answers, in its two cases, and 1 where the array is none. Assumes nothing.
-use mathlib.Core.Path.{_≡_, refl, sym, ap, _∙_}
-use mathlib.Core.List.{List}
+use mathlib.Core.Path.{_≡_, sym, ap, _∙_}
 use lib.ListN.{length}
 use borrow.Author.Needs.{needs}
 use Rattle.numbers.specs.Signal.{at}

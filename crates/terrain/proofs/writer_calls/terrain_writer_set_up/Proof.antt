@@ -1,9 +1,7 @@
 -- `terrain_writer_set_up` meets its contract: what the set-up answers, in its two cases. Assumes nothing.
-use mathlib.Core.Path.{_≡_, refl, sym, ap, _∙_}
-use mathlib.Core.List.{List}
+use mathlib.Core.Path.{_≡_, sym, ap, _∙_}
 use lib.ListN.{length}
 use borrow.Author.Needs.{needs}
-use Rattle.numbers.specs.Signal.{at}
 use Rattle.calls.specs.Lists.{Reply}
 use Rattle.wavelet.specs.Shape.{columns}
 use Rattle.writer.specs.declared.Writer.{Writer}

@@ -8,15 +8,14 @@ use borrow.Author.Tests.{not-true}
 use borrow.Fn.Kinds.{In}
 use borrow.Fn.PlainCycle.{Measures, is, falls, and}
 use Rattle.numbers.specs.Signal.{at}
-use Rattle.lifting.specs.Grid.{Side, side}
+use Rattle.lifting.specs.Grid.{side}
 use Rattle.wavelet.specs.Levels.{next}
-use Rattle.wavelet.proofs.SideLaws.{count-lo, next-length}
+use Rattle.wavelet.proofs.SideLaws.{next-length}
 use Rattle.wavelet.proofs.StoreLaws.{store-back}
 use Rattle.nine_seven.specs.Filters.{filterOf}
 use Rattle.level.proofs.RestLaws.{at-rest, at-join}
 use Rattle.figures.proofs.FigureLaws.{row-few}
 use Rattle.filters.proofs.ForwardLaws.{level-done, next-done}
-use Rattle.figures.specs.Figures.{storeBy}
 use Rattle.progress.specs.Counts.{skip}
 use Rattle.progress.proofs.CountLaws.{completes-set, next-is, start-is}
 use Rattle.writer.proofs.CascadeLaws.{room-below, left-still, goes, arrive-still, sets-off, came-waits, came-last, came-goes}

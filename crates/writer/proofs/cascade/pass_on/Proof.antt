@@ -1,16 +1,15 @@
 -- `cascade::pass_on` meets its contract: the LL row delivered, and what it makes below. Assumes nothing.
-use mathlib.Core.Path.{_≡_, sym, ap, refl, _∙_}
-use Prim.Native.Nat.{_+_, _-_, _*_}
+use mathlib.Core.Path.{_≡_, sym, refl, _∙_}
+use Prim.Native.Nat.{_+_, _*_}
 use native.Mathlib.Omega.{arith}
 use lib.ListN.{length}
 use borrow.Author.Tests.{not-true}
 use Rattle.numbers.specs.Signal.{at}
-use Rattle.lifting.specs.Grid.{Side, side}
+use Rattle.lifting.specs.Grid.{side}
 use Rattle.wavelet.specs.Levels.{next}
-use Rattle.wavelet.proofs.SideLaws.{count-lo, next-length}
+use Rattle.wavelet.proofs.SideLaws.{next-length}
 use Rattle.wavelet.proofs.StoreLaws.{store-next, store-back}
 use Rattle.nine_seven.specs.Filters.{filterOf}
-use Rattle.figures.specs.Figures.{storeBy}
 use Rattle.figures.proofs.FigureLaws.{row-few}
 use Rattle.filters.proofs.ForwardLaws.{next-done}
 use Rattle.level.proofs.RestLaws.{at-rest, at-join}

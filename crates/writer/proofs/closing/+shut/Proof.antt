@@ -7,7 +7,7 @@ use borrow.Author.Needs.{needs}
 use borrow.Fn.Kinds.{In}
 use borrow.Fn.PlainCycle.{Measures, is, falls, and}
 use Rattle.numbers.specs.Signal.{at}
-use Rattle.lifting.specs.Grid.{Side, side}
+use Rattle.lifting.specs.Grid.{side}
 use Rattle.wavelet.proofs.SideLaws.{count-lo}
 use Rattle.wavelet.proofs.StoreLaws.{store-back}
 use Rattle.nine_seven.specs.Filters.{filterOf}

@@ -1,9 +1,8 @@
 -- `lone::halve_even` meets its contract: a number is odd, or all are halved. Assumes nothing.
 use mathlib.Core.Path.{refl, sym, _∙_}
-use borrow.Author.Needs.{needs}
 use borrow.Author.Tests.{not-true, not-false}
-use Rattle.level.proofs.lone.halve_even.Statement.{statement}
-use Rattle.level.proofs.lone.halve_even.Tie as tie
+use Rattle.lone_rows.proofs.lone.halve_even.Statement.{statement}
+use Rattle.lone_rows.proofs.lone.halve_even.Tie as tie
 
 all-even-requires : tie.Need-all-even-requires
 all-even-requires c κs = tt
