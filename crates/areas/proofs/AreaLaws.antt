@@ -1,14 +1,12 @@
 -- The laws of numbers at the front of an area, of a test gathered number by number, and of a call that has room or has not. Assumes nothing.
 use mathlib.Core.Path.{_≡_, refl, ap, _∙_}
 use mathlib.Core.Bool.{Bool, true, false, _&&_}
-use Prim.Native.Nat.{ℕ, suc, _+_, _-_, _≤_, _<_}
+use Prim.Native.Nat.{ℕ, suc, _+_, _≤_, _<_}
 use native.Mathlib.Omega.{arith}
 use lib.IntN.{ℤ}
 use lib.Signed.{leZ}
-use borrow.Author.Tests.{lt-ltb, le-ltb, le-leb, lt-leb, leb-true}
+use borrow.Author.Tests.{lt-ltb, le-ltb, le-leb}
 use lib.Dec.{leb}
-use native.Mathlib.Decide.{decLe}
-use Rattle.numbers.proofs.Sweep.{both as both-hold}
 use Rattle.numbers.specs.Signal.{pick, both}
 use Rattle.lifting.specs.Halves.{fronted}
 use Rattle.numbers.specs.Tests.{every}
@@ -28,30 +26,8 @@ turned t a b e = rw e (refl, refl)
 
 -- ---- n numbers at place `to` that end before n numbers at place `from` begin, and these within len
 module _ (len from to n : ℕ) where
-  pub apart-is : both (leb (to + n) from) (leb (from + n) len) ≡ true → (to + n ≤ from) × (from + n ≤ len)
-  apart-is e =
-      let h = both-hold (leb (to + n) from) (leb (from + n) len) e in
-      (leb-true (to + n) from (h .0), leb-true (from + n) len (h .1))
-
   pub apart-in : to + n ≤ from → from + n ≤ len → both (leb (to + n) from) (leb (from + n) len) ≡ true
   apart-in p q = rw (le-leb (to + n) from p, le-leb (from + n) len q) refl
-
-  pub not-apart : (to + n ≤ from → from + n ≤ len → ⊥) → false ≡ both (leb (to + n) from) (leb (from + n) len)
-  not-apart bad =
-      elim (decLe (to + n) from) [
-        | yes p ↦ elim (decLe (from + n) len) [
-          | yes q ↦ absurd (bad p q)
-          | no q ↦ rw (le-leb (to + n) from p, lt-leb (from + n) len (omega arith)) refl
-        ]
-        | no p ↦ rw (lt-leb (to + n) from (omega arith)) refl
-      ]
-
-  pub apart-last : to + n ≤ from → n ≤ len → leb from (len - n) ≡ both (leb (to + n) from) (leb (from + n) len)
-  apart-last p h =
-      elim (decLe (from + n) len) [
-        | yes q ↦ rw (le-leb (to + n) from p, le-leb (from + n) len q, le-leb from (len - n) (omega arith)) refl
-        | no q ↦ rw (le-leb (to + n) from p, lt-leb (from + n) len (omega arith), lt-leb from (len - n) (omega arith)) refl
-      ]
 
 -- ---- numbers x at the front of memory z
 module _ (N : ℕ) (x z : ℕ → ℤ) (j : ℕ) where

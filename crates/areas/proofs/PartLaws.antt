@@ -2,7 +2,6 @@
 use mathlib.Core.Path.{_≡_, refl, sym, ap, _∙_, subst}
 use mathlib.Core.List.{List}
 use Prim.Native.Nat.{ℕ, _+_, _-_, _*_, _/_, _%_, _≤_, _<_}
-use native.Mathlib.Decide.{ℕ-discrete}
 use native.Mathlib.Omega.{arith}
 use lib.IntN.{ℤ}
 use lib.ListN.{set}
@@ -12,8 +11,10 @@ use Rattle.numbers.proofs.Parts.{splice-below, splice-in, splice-past}
 use Rattle.lifting.specs.Line.{Half, lo, hi}
 use Rattle.lifting.specs.Grid.{Side, half, count, place, parted, joined}
 use Rattle.lifting.specs.GridHalves.{halvesOf, inHalves, partedInto}
-use Rattle.lifting.proofs.GridLaws.{count-lo, count-hi, half-even, half-odd, halves-are}
-use Rattle.areas.specs.Areas.{begins}
+use Rattle.lifting.proofs.GridLaws.{halves-are}
+use Rattle.half_places.specs.Places.{begins}
+use Rattle.half_places.proofs.HalfLaws.{evens, odds, by-parity, evens-fit, odds-fit, evens-last, odds-first}
+use Rattle.areas.proofs.Splices.{splice-swap}
 
 -- ---- m numbers f laid in memory z from place a on
 module _ (a m : ℕ) (f z : ℕ → ℤ) where
@@ -28,52 +29,6 @@ module _ (a m : ℕ) (f z : ℕ → ℤ) where
 
 -- ---- the halves of a line
 module _ (S : Side) where
-  -- the half of the even places, and of the odd ones
-  abbrev pub evens : Half
-  evens = half (S .start)
-
-  abbrev pub odds : Half
-  odds = half (S .start + 1)
-
-  by-parity : (P : Half → Half → Type 0) → (S .start % 2 ≡ 0 → P lo hi) → (S .start % 2 ≡ 1 → P hi lo) → P evens odds
-  by-parity P f g =
-      elim (ℕ-discrete (S .start % 2) 0) [
-        | yes e ↦ rw (half-even (S .start) e, half-odd (S .start + 1) (omega arith)) (f e)
-        | no d ↦ rw (half-odd (S .start) (omega arith), half-even (S .start + 1) (omega arith)) (g (omega arith))
-      ]
-
-  -- where they begin in the row
-  pub evens-first : S .start % 2 ≡ 0 → 0 ≡ begins S evens
-  unfolding begins
-  evens-first e = rw (half-even (S .start) e) refl
-
-  pub odds-last : S .start % 2 ≡ 0 → S .length - S .length / 2 ≡ begins S odds
-  unfolding begins
-  odds-last e = rw (half-odd (S .start + 1) (omega arith)) (sym (count-lo S e))
-
-  pub evens-last : S .start % 2 ≡ 1 → S .length / 2 ≡ begins S evens
-  unfolding begins
-  evens-last e = rw (half-odd (S .start) e) (sym (count-hi S e))
-
-  pub odds-first : S .start % 2 ≡ 1 → 0 ≡ begins S odds
-  unfolding begins
-  odds-first e = rw (half-even (S .start + 1) (omega arith)) refl
-
-  -- each half within the row
-  pub evens-fit : begins S evens + (S .length - S .length / 2) ≤ S .length
-  unfolding begins count
-  evens-fit = by-parity (λ e o. begins S e + (S .length - S .length / 2) ≤ S .length) (λ z. omega arith) (λ z. omega arith)
-
-  pub odds-fit : begins S odds + S .length / 2 ≤ S .length
-  unfolding begins count
-  odds-fit = by-parity (λ e o. begins S o + S .length / 2 ≤ S .length) (λ z. omega arith) (λ z. omega arith)
-
-  pub evens-within : (a : ℕ) → a ≡ begins S evens → a + (S .length - S .length / 2) ≤ S .length
-  evens-within a e = rw e evens-fit
-
-  pub odds-within : (b : ℕ) → b ≡ begins S odds → b + S .length / 2 ≤ S .length
-  odds-within b e = rw e odds-fit
-
   -- the numbers of a half, by their place in the row
   pub half-at : (y : ℕ → ℤ) (h : Half) (n : ℕ) → halvesOf S y h n ≡ y (begins S h + n)
   unfolding halvesOf begins
@@ -81,14 +36,14 @@ module _ (S : Side) where
   half-at y hi n = refl
 
   -- the places of a line, by its halves
-  pub even-place : (p : Half → ℕ → ℤ) (j : ℕ) → joined S p (2 * j) ≡ p evens j
+  pub even-place : (p : Half → ℕ → ℤ) (j : ℕ) → joined S p (2 * j) ≡ p (evens S) j
   unfolding joined half
   even-place p j =
       let e : (S .start + 2 * j) % 2 ≡ S .start % 2 = omega arith in
       let k : 2 * j / 2 ≡ j = omega arith in
       rw (e, k) refl
 
-  pub odd-place : (p : Half → ℕ → ℤ) (j : ℕ) → joined S p (2 * j + 1) ≡ p odds j
+  pub odd-place : (p : Half → ℕ → ℤ) (j : ℕ) → joined S p (2 * j + 1) ≡ p (odds S) j
   unfolding joined half
   odd-place p j =
       let e : (S .start + (2 * j + 1)) % 2 ≡ (S .start + 1) % 2 = omega arith in
@@ -102,11 +57,18 @@ pub record Halves (S : Side) (from e o : ℕ) : Type 0 where
   pub even-fits : e + (S .length - S .length / 2) ≤ from + S .length
   pub odd-fits : o + S .length / 2 ≤ from + S .length
 
-pub halves-of : (S : Side) (from e o : ℕ) → e ≡ from + begins S (evens S) → o ≡ from + begins S (odds S) → Halves S from e o
+halves-of : (S : Side) (from e o : ℕ) → e ≡ from + begins S (evens S) → o ≡ from + begins S (odds S) → Halves S from e o
 halves-of S from e o i j =
     let h = evens-fit S in
     let k = odds-fit S in
     record { even = i; odd = j; even-fits = omega arith; odd-fits = omega arith }
+
+-- what it asks at the front of an area, and at place `from`
+pub halves-front : (S : Side) (e o : ℕ) → e ≡ begins S (evens S) → o ≡ begins S (odds S) → Halves S 0 e o
+halves-front S e o i j = halves-of S 0 e o (omega arith) (omega arith)
+
+pub halves-at : (S : Side) (from e o : ℕ) → e ≡ begins S (evens S) → o ≡ begins S (odds S) → Halves S from (from + e) (from + o)
+halves-at S from e o i j = halves-of S from (from + e) (from + o) (omega arith) (omega arith)
 
 -- ---- a line x laid in halves in memory z: its even places first, then its odd places
 module _ (S : Side) (x z : ℕ → ℤ) where
@@ -141,3 +103,23 @@ module _ (S : Side) (x z : ℕ → ℤ) where
   pub parted-is : partedInto S x z ≡ bothLaid (evens S) (odds S)
   unfolding partedInto
   parted-is = by-parity S (λ e o. inHalves S (parted S x) z ≡ bothLaid e o) from-even from-odd
+
+  -- the two passes, in either order, with where the halves begin as the code has it
+  module _ (a b : ℕ) (ea : a ≡ begins S (evens S)) (eb : b ≡ begins S (odds S)) (y w : ℕ → ℤ) where
+    laid : w ≡ spliced b (S .length / 2) (λ j. x (2 * j + 1)) (spliced a (S .length - S .length / 2) (λ j. x (2 * j)) z) → w ≡ partedInto S x z
+    laid e =
+        e ∙ ap (λ (i : ℕ). spliced b (S .length / 2) (λ j. x (2 * j + 1)) (spliced i (S .length - S .length / 2) (λ j. x (2 * j)) z)) ea
+        ∙ ap (λ (i : ℕ). spliced i (S .length / 2) (λ j. x (2 * j + 1)) (evensLaid (evens S))) eb
+        ∙ sym parted-is
+
+    pub evens-then-odds : y ≡ spliced a (S .length - S .length / 2) (λ j. x (2 * j)) z → w ≡ spliced b (S .length / 2) (λ j. x (2 * j + 1)) y
+        → w ≡ partedInto S x z
+    evens-then-odds h k = laid (k ∙ ap (spliced b (S .length / 2) (λ j. x (2 * j + 1))) h)
+
+    pub odds-then-evens : S .start % 2 ≡ 1 → y ≡ spliced b (S .length / 2) (λ j. x (2 * j + 1)) z
+        → w ≡ spliced a (S .length - S .length / 2) (λ j. x (2 * j)) y → w ≡ partedInto S x z
+    odds-then-evens o h k =
+        let N = S .length in
+        let ends : b + N / 2 ≤ a = omega (arith, odds-first S o, evens-last S o) in
+        laid (k ∙ ap (spliced a (N - N / 2) (λ j. x (2 * j))) h
+        ∙ sym (splice-swap b (N / 2) a (N - N / 2) (λ j. x (2 * j + 1)) (λ j. x (2 * j)) z ends))

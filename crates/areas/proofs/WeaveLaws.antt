@@ -4,21 +4,21 @@ use mathlib.Core.List.{List}
 use Prim.Native.Nat.{ℕ, _+_, _-_, _*_, _/_, _%_, _≤_, _<_}
 use native.Mathlib.Decide.{decLt, ℕ-discrete}
 use native.Mathlib.Omega.{arith}
-use lib.IntN.{ℤ, pos}
-use lib.ListN.{set}
-use lib.Seq.{getD-set-other}
+use lib.IntN.{ℤ}
+use lib.ListN.{length, set}
 use borrow.Author.Tests.{eq-eqb, ne-eqb}
 use Rattle.numbers.specs.Signal.{at, windowed, spliced}
-use Rattle.numbers.proofs.Sweep.{Swept, store}
-use Rattle.numbers.proofs.Parts.{window-in, window-past, splice-below, splice-in, splice-past}
-use Rattle.lifting.specs.Line.{Half}
+use Rattle.numbers.proofs.Sweep.{Swept, store, finish}
+use borrow.Rule.Slice.PartMut.{midOf}
+use Rattle.numbers.proofs.Parts.{length-mid, at-mid, window-in, splice-below, splice-in, splice-past}
 use Rattle.lifting.specs.Grid.{Side, joined}
 use Rattle.lifting.specs.GridHalves.{halvesOf}
 use Rattle.lifting.specs.Halves.{fronted}
-use Rattle.areas.specs.Areas.{begins, alternated, heightsAt, wholes}
-use Rattle.areas.specs.Moves.{fourPut}
+use Rattle.half_places.specs.Places.{begins}
+use Rattle.areas.specs.Areas.{alternated, inTurn, heightsAt, wholes}
 use Rattle.areas.proofs.AreaLaws.{front-at, front-rest}
-use Rattle.areas.proofs.PartLaws.{evens, odds, half-at, even-place, odd-place, Halves}
+use Rattle.half_places.proofs.HalfLaws.{evens, odds}
+use Rattle.areas.proofs.PartLaws.{half-at, even-place, odd-place, Halves}
 use Rattle.areas.proofs.HeightLaws.{finish-heights}
 
 -- two places stored
@@ -50,7 +50,7 @@ module _ (n : ℕ) (a b z : ℕ → ℤ) where
     pair-last h = store _ sw (omega arith) (sym (front-at n _ z (2 * j) h ∙ first-is j))
 
 -- the even and the odd places of a row in halves, in turn, are the line
-pub turns-are : (S : Side) (x z : ℕ → ℤ) (e o p q n : ℕ) → Halves S 0 e o → p ≡ S .length - S .length / 2 → q ≡ S .length / 2 → n ≡ p + q →
+turns-are : (S : Side) (x z : ℕ → ℤ) (e o p q n : ℕ) → Halves S 0 e o → p ≡ S .length - S .length / 2 → q ≡ S .length / 2 → n ≡ p + q →
     fronted n (alternated (windowed e p x) (windowed o q x)) z ≡ fronted (S .length) (joined S (halvesOf S x)) z
 turns-are S x z e o p q n h ep eq en =
     let a = windowed e p x in
@@ -76,82 +76,125 @@ turns-are S x z e o p q n h ep eq en =
       | no l ↦ front-rest n _ z j (omega arith) ∙ sym (front-rest (S .length) _ z j (omega arith))
     ]
 
--- ---- within one area: the row at place `from`, past place `to`, laid from `to` on
-module _ (S : Side) (from to : ℕ) (x : ℕ → ℤ) where
-  abbrev halves : Half → ℕ → ℤ
-  halves = halvesOf S (windowed from (S .length) x)
+-- the same of two parts of a row that are lent
+module _ (S : Side) (l : List ℤ) (a b p q : ℕ) (h : Halves S 0 a b) (room : S .length ≤ length l) (ep : p ≡ S .length - S .length / 2)
+    (eq : q ≡ S .length / 2) where
+  sizes : (length (midOf a p l) ≡ p) × (length (midOf b q l) ≡ q)
+  sizes = (length-mid a p l (omega arith), length-mid b q l (omega arith))
 
+  pub parts-fit : (L : ℕ) → S .length ≤ L → (length (midOf b q l) ≤ length (midOf a p l)) × (length (midOf a p l) ≤ length (midOf b q l) + 1)
+      × (length (midOf a p l) + length (midOf b q l) ≤ L)
+  parts-fit L le = let s = sizes in (omega arith, omega arith, omega arith)
+
+  pub parts-woven : (z w : ℕ → ℤ) → w ≡ fronted (length (midOf a p l) + length (midOf b q l)) (alternated (at (midOf a p l)) (at (midOf b q l))) z
+      → w ≡ fronted (S .length) (joined S (halvesOf S (at l))) z
+  parts-woven z w e =
+      let s = sizes in
+      let n = length (midOf a p l) + length (midOf b q l) in
+      e ∙ ap (λ (f : ℕ → ℤ). fronted n (alternated f (at (midOf b q l))) z) (at-mid a p l)
+      ∙ ap (λ (f : ℕ → ℤ). fronted n (alternated (windowed a p (at l)) f) z) (at-mid b q l)
+      ∙ turns-are S (at l) z a b p q n h ep eq (omega arith)
+
+-- ---- within one area: the numbers at `even` and at `odd` in turn, n of them, laid from `to` on, before both
+module _ (to even odd n : ℕ) (x : ℕ → ℤ) where
   abbrev pub woven : ℕ → ℤ
-  woven = spliced to (S .length) (joined S halves) x
+  woven = spliced to n (inTurn even odd x) x
 
-  -- a row that is laid in part is still to be laid as it was
-  pub woven-same : (L q : ℕ) (l : List ℤ) → Swept L woven x q l → to + S .length ≤ from → q ≤ to + S .length → to ≤ q
-      → spliced to (S .length) (joined S (halvesOf S (windowed from (S .length) (at l)))) (at l) ≡ woven
-  woven-same L q l sw apart le ge =
-      let N = S .length in
-      let w : windowed from N (at l) ≡ windowed from N x = fun-ext λ j. elim (decLt j N) [
-        | yes b ↦ window-in from N (at l) j b ∙ sw .rest (from + j) (omega arith) ∙ sym (window-in from N x j b)
-        | no b ↦ window-past from N (at l) j (omega arith) ∙ sym (window-past from N x j (omega arith))
-      ] in
-      rw w (fun-ext λ j. elim (decLt j to) [
-        | yes b ↦ splice-below to N _ (at l) j b ∙ sw .done j (omega arith)
-        | no b ↦ elim (decLt j (to + N)) [
-          | yes c ↦ splice-in to N _ (at l) j (omega arith) c ∙ sym (splice-in to N _ x j (omega arith) c)
-          | no c ↦ splice-past to N _ (at l) j (omega arith) ∙ sw .rest j (omega arith) ∙ sym (splice-past to N _ x j (omega arith))
+  woven-even : (j q : ℕ) → 2 * j < n → q ≡ to + 2 * j → x (even + j) ≡ woven q
+  woven-even j q h e =
+      let k : q - to ≡ 2 * j = omega arith in
+      sym (splice-in to n _ x q (omega arith) (omega arith) ∙ ap (inTurn even odd x) k ∙ first-is n _ _ x j)
+
+  woven-odd : (j q : ℕ) → 2 * j + 1 < n → q ≡ to + 2 * j + 1 → x (odd + j) ≡ woven q
+  woven-odd j q h e =
+      let k : q - to ≡ 2 * j + 1 = omega arith in
+      sym (splice-in to n _ x q (omega arith) (omega arith) ∙ ap (inTurn even odd x) k ∙ second-is n _ _ x j)
+
+  module _ (L j : ℕ) (l : List ℤ) (ae : to + n ≤ even) (ao : to + n ≤ odd) (room : to + n ≤ L) (sw : Swept L woven x (to + 2 * j) l) where
+    pub weave-turn : 2 * j + 1 < n
+        → Swept L woven x (to + 2 * (j + 1)) (set (set l (to + 2 * j) (at l (even + j))) (to + 2 * j + 1) (at l (odd + j)))
+    weave-turn h =
+        subst (λ (m : ℕ). Swept L woven x m (set (set l (to + 2 * j) (at l (even + j))) (to + 2 * j + 1) (at l (odd + j)))) (omega arith)
+        (store-pair L woven x (to + 2 * j) l _ _ sw (omega arith)
+        (sw .rest (even + j) (omega arith) ∙ woven-even j (to + 2 * j) (omega arith) refl)
+        (sw .rest (odd + j) (omega arith) ∙ woven-odd j (to + 2 * j + 1) h refl))
+
+    pub weave-last : 2 * j < n → Swept L woven x (to + 2 * j + 1) (set l (to + 2 * j) (at l (even + j)))
+    weave-last h = store _ sw (omega arith) (sw .rest (even + j) (omega arith) ∙ woven-even j (to + 2 * j) h refl)
+
+    turn-on : (k q : ℕ) → 2 * j + k < n → q ≡ to + 2 * j + k → inTurn (even + j) (odd + j) (at l) k ≡ woven q
+    turn-on k q h e =
+        let m = k / 2 in
+        elim (ℕ-discrete (k % 2) 0) [
+          | yes z ↦
+              let c : k ≡ 2 * m = omega arith in
+              let d : even + j + m ≡ even + (j + m) = omega arith in
+              ap (inTurn (even + j) (odd + j) (at l)) c ∙ first-is n _ _ x m ∙ sw .rest (even + j + m) (omega arith) ∙ ap x d
+              ∙ woven-even (j + m) q (omega arith) (omega arith)
+          | no z ↦
+              let c : k ≡ 2 * m + 1 = omega arith in
+              let d : odd + j + m ≡ odd + (j + m) = omega arith in
+              ap (inTurn (even + j) (odd + j) (at l)) c ∙ second-is n _ _ x m ∙ sw .rest (odd + j + m) (omega arith) ∙ ap x d
+              ∙ woven-odd (j + m) q (omega arith) (omega arith)
         ]
-      ])
 
-  -- the places of the row, where its even and its odd places begin
-  module _ (even odd : ℕ) (h : Halves S from even odd) where
-    woven-even : (j : ℕ) → 2 * j < S .length → x (even + j) ≡ woven (to + 2 * j)
-    woven-even j b =
-        let k : to + 2 * j - to ≡ 2 * j = omega arith in
-        let m : from + (begins S (evens S) + j) ≡ even + j = omega arith in
-        sym (splice-in to (S .length) (joined S halves) x (to + 2 * j) (omega arith) (omega arith) ∙ ap (joined S halves) k ∙ even-place S halves j
-        ∙ half-at S (windowed from (S .length) x) (evens S) j ∙ window-in from (S .length) x (begins S (evens S) + j) (omega arith) ∙ ap x m)
+    -- the next m numbers laid at once
+    pub weave-on : (m : ℕ) (f : ℕ → ℤ) (r : List ℤ) → 2 * j + m ≤ n → ((k : ℕ) → k < m → f k ≡ inTurn (even + j) (odd + j) (at l) k) → length r ≡ L
+        → at r ≡ spliced (to + 2 * j) m f (at l) → Swept L woven x (to + 2 * j + m) r
+    weave-on m f r h is size e =
+        let q = to + 2 * j in
+        record {
+          size = size;
+          done = λ i lt.
+              ap (λ (g : ℕ → ℤ). g i) e
+              ∙ elim (decLt i q) [
+                | yes b ↦ splice-below q m f (at l) i b ∙ sw .done i b
+                | no b ↦ splice-in q m f (at l) i (omega arith) lt ∙ is (i - q) (omega arith) ∙ turn-on (i - q) i (omega arith) (omega arith)
+              ];
+          rest = λ i le. ap (λ (g : ℕ → ℤ). g i) e ∙ splice-past q m f (at l) i le ∙ sw .rest i (omega arith);
+        }
 
-    woven-odd : (j : ℕ) → 2 * j + 1 < S .length → x (odd + j) ≡ woven (to + 2 * j + 1)
-    woven-odd j b =
-        let k : to + 2 * j + 1 - to ≡ 2 * j + 1 = omega arith in
-        let m : from + (begins S (odds S) + j) ≡ odd + j = omega arith in
-        sym (splice-in to (S .length) (joined S halves) x (to + 2 * j + 1) (omega arith) (omega arith) ∙ ap (joined S halves) k ∙ odd-place S halves j
-        ∙ half-at S (windowed from (S .length) x) (odds S) j ∙ window-in from (S .length) x (begins S (odds S) + j) (omega arith) ∙ ap x m)
+    pub weave-eight : (v r : List ℤ) → 2 * j + 8 ≤ n → ((k : ℕ) → k < 8 → at v k ≡ inTurn (even + j) (odd + j) (at l) k) → length r ≡ L
+        → at r ≡ spliced (to + 2 * j) 8 (at v) (at l) → Swept L woven x (to + 2 * (j + 4)) r
+    weave-eight v r h is size e = subst (λ (m : ℕ). Swept L woven x m r) (omega arith) (weave-on 8 (at v) r h is size e)
 
-    module _ (L j : ℕ) (l : List ℤ) (apart : to + S .length ≤ from) (room : from + S .length ≤ L) (sw : Swept L woven x (to + 2 * j) l) where
-      pub weave-turn : 2 * j + 1 < S .length → Swept L woven x (to + 2 * (j + 1))
-          (set (set l (to + 2 * j) (at l (even + j))) (to + 2 * j + 1) (at (set l (to + 2 * j) (at l (even + j))) (odd + j)))
-      weave-turn b =
-          let a = at l (even + j) in
-          let v = at (set l (to + 2 * j) a) (odd + j) in
-          subst (λ (m : ℕ). Swept L woven x m (set (set l (to + 2 * j) a) (to + 2 * j + 1) v)) (omega arith)
-          (store-pair L woven x (to + 2 * j) l a v sw (omega arith)
-          (sw .rest (even + j) (omega arith) ∙ woven-even j (omega arith))
-          (getD-set-other l (to + 2 * j) (odd + j) a (pos 0) (omega arith) ∙ sw .rest (odd + j) (omega arith) ∙ woven-odd j b))
+    -- and all that are left
+    pub weave-end : (r : List ℤ) → 2 * j ≤ n → length r ≡ L
+        → at r ≡ spliced (to + 2 * j) (n - 2 * j) (inTurn (even + j) (odd + j) (at l)) (at l) → at r ≡ woven
+    weave-end r h size e =
+        finish (weave-on (n - 2 * j) (inTurn (even + j) (odd + j) (at l)) r (omega arith) (λ k lt. refl) size e)
+        (λ i le. splice-past to n _ x i (omega arith))
 
-      pub weave-four : 2 * j + 7 < S .length → Swept L woven x (to + 2 * (j + 4)) (fourPut l (to + 2 * j) (even + j) (odd + j))
-      weave-four b =
-          let q = to + 2 * j in
-          let E : (i c m : ℕ) → i ≤ 3 → c ≡ even + (j + i) → m ≡ to + 2 * (j + i) → at l c ≡ woven m = λ i c m le ec em.
-          ap (at l) ec ∙ sw .rest (even + (j + i)) (omega arith) ∙ woven-even (j + i) (omega arith) ∙ ap woven (sym em) in
-          let O : (i c m : ℕ) → i ≤ 3 → c ≡ odd + (j + i) → m ≡ to + 2 * (j + i) + 1 → at l c ≡ woven m = λ i c m le ec em.
-          ap (at l) ec ∙ sw .rest (odd + (j + i)) (omega arith) ∙ woven-odd (j + i) (omega arith) ∙ ap woven (sym em) in
-          let on : (p m : ℕ) (u : List ℤ) (a c : ℤ) → p ≡ m → Swept L woven x p u → m + 1 < L → a ≡ woven m → c ≡ woven (m + 1)
-          → Swept L woven x (m + 1 + 1) (set (set u m a) (m + 1) c) = λ p m u a c e z h ea ec. store-pair L woven x m u a c (rw e at z) h ea ec in
-          subst (λ (m : ℕ). Swept L woven x m (fourPut l q (even + j) (odd + j))) (omega arith)
-          (on (q + 4 + 1 + 1) (q + 6) _ _ _ (omega arith)
-          (on (q + 2 + 1 + 1) (q + 4) _ _ _ (omega arith)
-          (on (q + 1 + 1) (q + 2) _ _ _ (omega arith)
-          (on q q l _ _ refl sw (omega arith) (E 0 (even + j) q (omega arith) (omega arith) (omega arith))
-          (O 0 (odd + j) (q + 1) (omega arith) (omega arith) (omega arith)))
-          (omega arith) (E 1 (even + j + 1) (q + 2) (omega arith) (omega arith) (omega arith))
-          (O 1 (odd + j + 1) (q + 2 + 1) (omega arith) (omega arith) (omega arith)))
-          (omega arith) (E 2 (even + j + 2) (q + 4) (omega arith) (omega arith) (omega arith))
-          (O 2 (odd + j + 2) (q + 4 + 1) (omega arith) (omega arith) (omega arith)))
-          (omega arith) (E 3 (even + j + 3) (q + 6) (omega arith) (omega arith) (omega arith))
-          (O 3 (odd + j + 3) (q + 6 + 1) (omega arith) (omega arith) (omega arith)))
-
-      pub weave-last : 2 * j < S .length → Swept L woven x (to + 2 * j + 1) (set l (to + 2 * j) (at l (even + j)))
-      weave-last b = store _ sw (omega arith) (sw .rest (even + j) (omega arith) ∙ woven-even j b)
+-- the even and the odd places of the row at place `from` in turn are the line
+pub woven-line : (S : Side) (from to e o : ℕ) (x : ℕ → ℤ) → Halves S from e o
+    → woven to e o (S .length) x ≡ spliced to (S .length) (joined S (halvesOf S (windowed from (S .length) x))) x
+woven-line S from to e o x h =
+    let N = S .length in
+    let w = windowed from N x in
+    let y = joined S (halvesOf S w) in
+    let same : (i : ℕ) → i < N → inTurn e o x i ≡ y i = λ i lt.
+    let m = i / 2 in
+    elim (ℕ-discrete (i % 2) 0) [
+      | yes z ↦
+          let k : i ≡ 2 * m = omega arith in
+          let d : e + m ≡ from + (begins S (evens S) + m) = omega arith in
+          ap (inTurn e o x) k ∙ first-is N _ _ x m ∙ ap x d
+          ∙ sym (ap y k ∙ even-place S (halvesOf S w) m ∙ half-at S w (evens S) m ∙ window-in from N x (begins S (evens S) + m) (omega arith))
+      | no z ↦
+          let k : i ≡ 2 * m + 1 = omega arith in
+          let d : o + m ≡ from + (begins S (odds S) + m) = omega arith in
+          ap (inTurn e o x) k ∙ second-is N _ _ x m ∙ ap x d
+          ∙ sym (ap y k ∙ odd-place S (halvesOf S w) m ∙ half-at S w (odds S) m ∙ window-in from N x (begins S (odds S) + m) (omega arith))
+    ] in
+    fun-ext λ j.
+    elim (decLt j to) [
+      | yes b ↦ splice-below to N _ x j b ∙ sym (splice-below to N _ x j b)
+      | no b ↦
+          elim (decLt j (to + N)) [
+            | yes c ↦ splice-in to N _ x j (omega arith) c ∙ same (j - to) (omega arith) ∙ sym (splice-in to N _ x j (omega arith) c)
+            | no c ↦ splice-past to N _ x j (omega arith) ∙ sym (splice-past to N _ x j (omega arith))
+          ]
+    ]
 
 -- ---- from a row x to the front of an area z, each number by f
 module _ (S : Side) (f : ℤ → ℤ) (x z : ℕ → ℤ) where

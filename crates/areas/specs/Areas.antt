@@ -1,14 +1,12 @@
 -- Numbers and heights of an area, one by one.
 use mathlib.Core.Bool.{Bool}
 use mathlib.Core.List.{List, map}
-use Prim.Native.Nat.{ℕ, _/_, _%_}
+use Prim.Native.Nat.{ℕ, _+_, _/_, _%_}
 use lib.IntN.{ℤ, pos, _-ℤ_, _*ℤ_}
 use lib.Signed.{shrZ, leZ}
 use lib.ListN.{getD}
 use lib.Dec.{eqb}
 use Rattle.numbers.specs.Signal.{pick, both}
-use Rattle.lifting.specs.Line.{Half, lo, hi}
-use Rattle.lifting.specs.Grid.{Side, count}
 
 -- a number from low to high
 unfoldable pub between : ℤ → ℤ → ℤ → Bool
@@ -25,11 +23,10 @@ wholes l = map pos l
 unfoldable pub height16 : ℤ → ℤ
 height16 z = z -ℤ pos 65536 *ℤ shrZ z 65536
 
--- where a half begins in a row in halves
-unfoldable pub begins : Side → Half → ℕ
-begins S lo = 0
-begins S hi = count lo S
-
 -- the numbers of a and of b in turn, a's first
 unfoldable pub alternated : (ℕ → ℤ) → (ℕ → ℤ) → ℕ → ℤ
 alternated a b i = pick (eqb (i % 2) 0) (a (i / 2)) (b (i / 2))
+
+-- the numbers of x from place a on and those from place b on, in turn
+abbrev pub inTurn : ℕ → ℕ → (ℕ → ℤ) → ℕ → ℤ
+inTurn a b x = alternated (λ i. x (a + i)) (λ i. x (b + i))

@@ -1,5 +1,6 @@
 // Heights, u16, of a row that starts at any coordinate, read into a row in halves, written from one, and cleared. Of the start its parity counts.
 use crate::place;
+use half_places::rows;
 ghost use mathlib.Core.Path.{_≡_};
 ghost use Prim.Native.Nat.{_+_, _-_, _*_, _/_, _≤_};
 ghost use lib.IntN.{pos};
@@ -54,8 +55,8 @@ pub fn load_heights(heights: &[u16], start: usize, row: &mut [i32]) -> u8
     if row.len() < n {
         return 5;
     }
-    let even = place::evens(n, start);
-    let odd = place::odds(n, start);
+    let even = rows::evens(n, start);
+    let odd = rows::odds(n, start);
     if start % 2 == 0 {
         load_evens(heights, row, even);
         load_odds(heights, row, odd);
@@ -88,8 +89,8 @@ pub fn draw_heights(row: &[i32], start: usize, out: &mut [u16]) -> u8
     if out.len() < n {
         return 5;
     }
-    let even = place::evens(n, start);
-    let odd = place::odds(n, start);
+    let even = rows::evens(n, start);
+    let odd = rows::odds(n, start);
     let end = n / 2;
     let mut j = 0;
     while j < end {

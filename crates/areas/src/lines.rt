@@ -1,5 +1,6 @@
 // Lines that start at any coordinate, laid in halves and woven into their own order. Of the start its parity counts.
 use crate::place;
+use half_places::rows;
 ghost use mathlib.Core.Path.{_≡_};
 ghost use Prim.Native.Nat.{_+_, _-_, _*_, _/_, _≤_};
 ghost use lib.ListN.{length};
@@ -8,7 +9,7 @@ ghost use Rattle.numbers.specs.Signal.{at, pick, both, windowed, spliced};
 ghost use Rattle.lifting.specs.Grid.{side, joined};
 ghost use Rattle.lifting.specs.Halves.{fronted};
 ghost use Rattle.lifting.specs.GridHalves.{halvesOf, partedInto};
-ghost use Rattle.areas.specs.Areas.{alternated};
+ghost use Rattle.areas.specs.Areas.{alternated, inTurn};
 
 // ---- a line into halves
 
@@ -52,8 +53,8 @@ pub fn part_line(line: &[i32], start: usize, row: &mut [i32]) -> u8
     if row.len() < n {
         return 5;
     }
-    part_evens(line, row, place::evens(n, start));
-    part_odds(line, row, place::odds(n, start));
+    part_evens(line, row, rows::evens(n, start));
+    part_odds(line, row, rows::odds(n, start));
     0
 }
 
@@ -91,15 +92,51 @@ pub fn weave_line(row: &[i32], start: usize, line: &mut [i32]) -> u8
     if line.len() < n {
         return 5;
     }
-    let a = place::evens(n, start);
-    let b = place::odds(n, start);
+    let a = rows::evens(n, start);
+    let b = rows::odds(n, start);
     let e = a + (n - n / 2);
     let f = b + n / 2;
     put_pairs(&row[a..e], &row[b..f], line);
     0
 }
 
-// The n numbers in halves at place `from` to place `to`, before them, in their own order: four pairs a turn, then a pair.
+// ---- the same within one area
+
+// The numbers at place `even` and those at place `odd` in turn to place `to`, before both: n numbers, a pair a turn.
+fn weave_rest(area: &mut [i32], to: usize, even: usize, odd: usize, n: usize)
+    requires { ⌜ (to + n ≤ even) × (to + n ≤ odd) × (even + (n - n / 2) ≤ length (now area)) × (odd + n / 2 ≤ length (now area)) ⌝ }
+    ensures { λ _. ⌜ at (now (area .exit)) ≡ spliced to n (inTurn even odd (at (now (area .entry)))) (at (now (area .entry))) ⌝ }
+{
+    let end = n / 2;
+    let mut j = 0;
+    while j < end {
+        let a = area[even + j];
+        let b = area[odd + j];
+        area[to + 2 * j] = a;
+        area[to + 2 * j + 1] = b;
+        j += 1;
+    }
+    if 2 * j < n {
+        area[to + 2 * j] = area[even + j];
+    }
+}
+
+// The same, four pairs a turn. All eight are read before one is stored: so the compiler makes vectors of them, wherever they stand.
+fn weave_pairs(area: &mut [i32], to: usize, even: usize, odd: usize, n: usize)
+    requires { ⌜ (to + n ≤ even) × (to + n ≤ odd) × (even + (n - n / 2) ≤ length (now area)) × (odd + n / 2 ≤ length (now area)) ⌝ }
+    ensures { λ _. ⌜ at (now (area .exit)) ≡ spliced to n (inTurn even odd (at (now (area .entry)))) (at (now (area .entry))) ⌝ }
+{
+    let end = n / 2;
+    let mut j = 0;
+    while j + 4 <= end {
+        let v = place::eight_at(area, even + j, odd + j);
+        place::put_eight(area, to + 2 * j, v);
+        j += 4;
+    }
+    weave_rest(area, to + 2 * j, even + j, odd + j, n - 2 * j);
+}
+
+// The n numbers in halves at place `from` to place `to`, before them, in their own order.
 pub fn weave_down(area: &mut [i32], start: usize, from: usize, to: usize, n: usize) -> u8
     ensures answer { λ r. ⌜ r ≡ pick (both (leb (to + n) from) (leb (from + n) (length (now (area .entry))))) 0 5 ⌝ }
     ensures area { λ _. ⌜ at (now (area .exit)) ≡
@@ -107,24 +144,11 @@ pub fn weave_down(area: &mut [i32], start: usize, from: usize, to: usize, n: usi
         (spliced to n (joined (side start n) (halvesOf (side start n) (windowed from n (at (now (area .entry)))))) (at (now (area .entry))))
         (at (now (area .entry))) ⌝ }
 {
-    if !place::apart(area.len(), from, to, n) {
+    if !rows::apart(area.len(), from, to, n) {
         return 5;
     }
-    let even = from + place::evens(n, start);
-    let odd = from + place::odds(n, start);
-    let end = n / 2;
-    let mut j = 0;
-    while j + 4 <= end {
-        place::move_four(area, to + 2 * j, even + j, odd + j);
-        j += 4;
-    }
-    while j < end {
-        place::move_at(area, to + 2 * j, even + j);
-        place::move_at(area, to + 2 * j + 1, odd + j);
-        j += 1;
-    }
-    if 2 * j < n {
-        place::move_at(area, to + 2 * j, even + j);
-    }
+    let even = from + rows::evens(n, start);
+    let odd = from + rows::odds(n, start);
+    weave_pairs(area, to, even, odd, n);
     0
 }

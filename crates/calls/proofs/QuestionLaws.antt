@@ -6,7 +6,7 @@ use mathlib.Core.List.{List, [], _∷_}
 use Prim.Native.Nat.{ℕ, suc}
 use native.Mathlib.Omega.{arith}
 use Rattle.wavelet.specs.Questions.{ask}
-use Rattle.calls.specs.Lists.{All, all-none, all-more}
+use Rattle.calls.specs.Lists.{All, all-more}
 
 -- the question t, whose no gives suc q; r is what a yes goes on to
 pub asked-yes : (t : Bool) (q r : ℕ) → ask t (suc q) r ≡ 0 → (t ≡ true) × (r ≡ 0)

@@ -1,5 +1,5 @@
 // The samples of document 01 on either side of a limit: W, L, and the range of level-1 coefficients.
-use reader::Fed;
+use crate::reading;
 use reader::Reader;
 use second::area;
 use second::heights;
@@ -66,32 +66,12 @@ fn size(t: Tally, width: usize, levels: usize, expected: u8) -> Tally {
     t.more(5, area::sum(differ(c, expected), area::sum(a, b)))
 }
 
-// The answer to one coefficient fed, and the reader after it.
-struct Answer {
-    no: u8,
-    reader: Reader,
-}
-
-fn feed(r: Reader, store: &mut [i32], run: &[i32]) -> Answer {
-    match r.feed(store, run) {
-        Fed::Passed(next) => Answer {
-            no: 0,
-            reader: next,
-        },
-        Fed::Impossible(next) => Answer {
-            no: 14,
-            reader: next,
-        },
-        Fed::Refused(no) => Answer { no, reader: r },
-    }
-}
-
 // The first answer, of four feeds of a 2 × 2 map at one level, that is not 0.
 fn feeds(r: Reader, store: &mut [i32], plane: &[i32]) -> u8 {
     let mut s = r;
     let mut i = 0;
     while i < plane.len() {
-        let a = feed(s, store, &plane[i..i + 1]);
+        let a = reading::fed(s, store, &plane[i..i + 1]);
         if 0 < a.no {
             return a.no;
         }

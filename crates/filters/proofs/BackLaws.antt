@@ -1,33 +1,33 @@
 -- A level by the number of its filter, case by case: what is asked and left is what the filter's own level asks and leaves. Assumes nothing.
 use mathlib.Core.Path.{_≡_, refl}
 use mathlib.Core.Bool.{Bool, true}
-use Prim.Native.Nat.{ℕ, zero, suc, _+_, _*_, _≤_, _<_, min}
+use Prim.Native.Nat.{ℕ, zero, suc, _+_, _*_, _≤_, _<_}
 use native.Mathlib.Omega.{arith}
-use lib.IntN.{ℤ, pos}
+use lib.IntN.{ℤ}
 use lib.Dec.{leb, eqb}
 use Rattle.numbers.specs.Signal.{pick, windowed, spliced}
 use Rattle.lifting.specs.Line.{lo}
 use Rattle.lifting.specs.Grid.{Side, count, joined}
 use Rattle.lifting.specs.GridHalves.{halvesOf}
-use Rattle.lifting.specs.FiveThree.{fiveThreeFilter}
-use Rattle.nine_seven.specs.NineSevenFilter.{nineSevenFilter}
 use Rattle.nine_seven.specs.Filters.{filterOf}
-use Rattle.wavelet.specs.Limits.{maxLevels, range}
+use Rattle.wavelet.specs.Limits.{maxLevels}
 use Rattle.wavelet.specs.Bands.{Band, across, down}
 use Rattle.wavelet.specs.Order.{lastSet}
 use Rattle.level.specs.Tried.{failed, outcome}
 use Rattle.level.specs.Stretch.{local, rowOfSet, halfPlace, rowPlace, bandFed, rowIn}
-use Rattle.level.specs.Work.{admitted, setWorked}
-use Rattle.level.specs.Rebuilding.{widest, tallest, workAnswer, Kept, workable, workLeft}
+use Rattle.five_three_rebuilding.specs.Work.{admitted, setWorked}
+use Rattle.level.specs.Rebuilding.{widest, tallest, workAnswer, Kept}
+use Rattle.five_three_rebuilding.specs.Rebuilding.{workable, workLeft}
 use Rattle.nine_seven_rebuilding.specs.Work as work97
 use Rattle.nine_seven_rebuilding.specs.Rebuilding as rebuilding97
+use Rattle.figures.specs.Range as nine
 use Rattle.level.proofs.WorkedPast.{Keeps}
-use Rattle.level.proofs.WorkedPast as past
+use Rattle.five_three_rebuilding.proofs.WorkedPast as past
 use Rattle.nine_seven_rebuilding.proofs.WorkedPast as past97
 use Rattle.level.proofs.RowsIn.{row-end}
 use Rattle.level.proofs.RebuildingLaws.{workable-is}
 use Rattle.level.proofs.ReaderLaws.{ReaderLawsBy}
-use Rattle.level.proofs.FiveThreeBackLaws.{five-three-back-laws}
+use Rattle.five_three_rebuilding.proofs.FiveThreeBackLaws.{five-three-back-laws}
 use Rattle.nine_seven_rebuilding.proofs.NineSevenBackLaws.{nine-seven-back-laws}
 use Rattle.filters.specs.Back.{backOf, standsOf, rowPlaceOf, workableOf, workLeftOf}
 
@@ -76,33 +76,6 @@ unfolding backOf standsOf filterOf
 back-laws zero = five-three-back-laws
 back-laws (suc f) = nine-seven-back-laws
 
--- ---- the numbers of a filter
-module _ (f : ℕ) where
-  abbrev Figures : ℕ → ℕ → ℕ → Type 0
-  Figures l r a = (l ≡ filterOf f .levels) × (r ≡ filterOf f .rows) × (a ≡ filterOf f .ahead)
-
-  pub first-figures : f ≡ 0 → Figures 5 4 1
-  unfolding filterOf
-  first-figures e = rw e (refl, refl, refl)
-
-pub second-figures : (f : ℕ) → (f ≡ 0 → ⊥) → Figures f 4 8 2
-unfolding filterOf
-second-figures zero d = absurd (d refl)
-second-figures (suc f) d = (refl, refl, refl)
-
-abbrev Ranged : ℕ → ℕ → ℤ → Type 0
-Ranged f k z = z ≡ pos (range (filterOf f) (min k (filterOf f .levels)))
-
-pub first-ranged : (f k : ℕ) (z : ℤ) → f ≡ 0 → z ≡ pos (range fiveThreeFilter (min k maxLevels)) → Ranged f k z
-unfolding filterOf maxLevels
-first-ranged zero k z e p = p
-first-ranged (suc f) k z e p = absurd (omega arith)
-
-pub second-ranged : (f k : ℕ) (z : ℤ) → (f ≡ 0 → ⊥) → z ≡ pos (range nineSevenFilter (min k rebuilding97.maxLevels)) → Ranged f k z
-unfolding filterOf rebuilding97.maxLevels
-second-ranged zero k z d p = absurd (d refl)
-second-ranged (suc f) k z d p = p
-
 -- ---- where a row begins
 abbrev Placed : ℕ → ℕ → ℕ → ℕ → Type 0
 Placed f w r a = (a ≡ pick (leb w widest) (rowPlaceOf f w r) 0) × (a + w ≤ filterOf f .rows * w)
@@ -145,6 +118,6 @@ module _ (last : Bool) (k : ℕ) (W H : Side) (n m r : ℕ) (x y : ℕ → ℤ) 
       × ((outcome (eqb r 0) y ≡ pick (rebuilding97.workable last k W H n m) (work97.setWorked last k W H n x) failed)
       × (Kept (8 * W .length) x y
       × (y ≡ rebuilding97.workLeft W (rebuilding97.workable last k W H n m) (work97.setWorked last k W H n x) x))) → Worked f
-  unfolding backOf filterOf rebuilding97.maxLevels
+  unfolding backOf filterOf nine.maxLevels
   second-worked zero d p = absurd (d refl)
   second-worked (suc f) d p = p

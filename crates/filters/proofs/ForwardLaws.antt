@@ -14,10 +14,11 @@ use Rattle.wavelet.specs.Levels.{next}
 use Rattle.wavelet.specs.ViewCall.{named}
 use Rattle.wavelet.proofs.ViewLaws.{named-at}
 use Rattle.level.specs.Level.{Memory, rest, joinAt}
-use Rattle.level.specs.Making as five-making
+use Rattle.five_three_making.specs.Making as five-making
 use Rattle.level.specs.Heights as five-heights
-use Rattle.level.proofs.Places.{place-room as five-place-room}
-use Rattle.level.proofs.LevelLaws.{LevelLaws, five-three-laws}
+use Rattle.five_three_making.proofs.Places.{place-room as five-place-room}
+use Rattle.level.proofs.LevelLaws.{LevelLaws}
+use Rattle.five_three_making.proofs.LevelLaws.{five-three-laws}
 use Rattle.nine_seven_making.specs.Making as nine-making
 use Rattle.nine_seven_making.specs.Heights as nine-heights
 use Rattle.nine_seven_making.proofs.Places.{place-room as nine-place-room}

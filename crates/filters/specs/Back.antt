@@ -6,11 +6,12 @@ use Rattle.lifting.specs.Grid.{Side}
 use Rattle.nine_seven.specs.Filters.{filterOf}
 use Rattle.level.specs.Tried.{Tried}
 use Rattle.level.specs.Stretch.{rowPlace}
-use Rattle.level.specs.Work.{admitted}
-use Rattle.level.specs.Stands.{BackMeaning, fiveThreeStands}
+use Rattle.five_three_rebuilding.specs.Work.{admitted}
+use Rattle.level.specs.Stands.{BackMeaning}
+use Rattle.five_three_rebuilding.specs.Stands.{fiveThreeStands}
 use Rattle.level.specs.Rebuilding.{workableBy, workLeftBy}
 use Rattle.level.specs.ReaderLevel.{ReaderLevel}
-use Rattle.level.specs.FiveThreeBack.{fiveThreeBack}
+use Rattle.five_three_rebuilding.specs.FiveThreeBack.{fiveThreeBack}
 use Rattle.nine_seven_rebuilding.specs.Stands.{nineSevenStands}
 use Rattle.nine_seven_rebuilding.specs.NineSevenBack.{nineSevenBack}
 

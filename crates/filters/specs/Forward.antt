@@ -8,8 +8,8 @@ use Rattle.lifting.specs.Grid.{Side}
 use Rattle.nine_seven.specs.Filters.{filterOf}
 use Rattle.wavelet.specs.Levels.{next}
 use Rattle.level.specs.Level.{Memory, LevelKind, Meaning, Ending}
-use Rattle.level.specs.FiveThreeLevel as five
-use Rattle.level.specs.Making as five-making
+use Rattle.five_three_making.specs.FiveThreeLevel as five
+use Rattle.five_three_making.specs.Making as five-making
 use Rattle.level.specs.Heights as five-heights
 use Rattle.nine_seven_making.specs.NineSevenLevel as nine
 use Rattle.nine_seven_making.specs.Making as nine-making

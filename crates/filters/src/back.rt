@@ -1,5 +1,5 @@
 // A level on the way back. Every call is total, and is the call of the filter's own level.
-use level::rebuilding as t800;
+use five_three_rebuilding::rebuilding as t800;
 use nine_seven_rebuilding::rebuilding as ccsds;
 ghost use mathlib.Core.Path.{_≡_};
 ghost use Prim.Native.Nat.{_+_, _*_, _≤_};
@@ -23,7 +23,7 @@ pub fn row_place(filter: usize, w: usize, r: usize) -> usize
     ccsds::row_place(w, r)
 }
 
-// Set n worked out in its level's stretch, as `level::rebuilding::work_set` says.
+// Set n worked out in its level's stretch, as `five_three_rebuilding::rebuilding::work_set` says.
 pub fn work_set(
     stretch: &mut [i32],
     filter: usize,

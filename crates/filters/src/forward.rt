@@ -1,8 +1,8 @@
-// A level's calls on the way forward, by the filter's number: 0 is the 5/3, any other the integer 9/7. Each call is that filter's own (crates level and
-// nine_seven_making).
+// A level's calls on the way forward, by the filter's number: 0 is the 5/3, any other the integer 9/7. Each call is that filter's own (crates five_three_making
+// and nine_seven_making).
+use five_three_making::making as five;
+use five_three_making::rows as five_rows;
 use level::heights as five_heights;
-use level::making as five;
-use level::rows as five_rows;
 use nine_seven_making::heights as nine_heights;
 use nine_seven_making::making as nine;
 use nine_seven_making::rows as nine_rows;

@@ -19,7 +19,7 @@ use Rattle.numbers.proofs.Words.{read-back}
 use Rattle.numbers.proofs.Sweep.{both}
 use Rattle.numbers.proofs.Stores.{at-stored}
 use Rattle.lifting.specs.Grid.{Side}
-use Rattle.level.specs.FiveThreeLevel.{cellOf}
+use Rattle.level.specs.Cells.{cellOf}
 use Rattle.level.specs.Heights.{heightAt, heightsPut, heightsFit}
 use Rattle.level.proofs.Places.{cell-in, cell-on}
 

@@ -1,28 +1,24 @@
--- The way forward.
-pub mod Places
-pub mod SetRows
-pub mod Slots
+-- What is asked of a level forward, and a store from a place on.
 pub mod LevelLaws
-pub mod SetLaws
 pub mod RestLaws
+-- Rows of a stretch: where they stand, filled, parted, doubled.
+pub mod Places
+pub mod Spots
+pub mod RowSteps
 pub mod PairLaws
-pub mod DeliverLaws
+pub mod PartedLaws
 pub mod FillLaws
 -- The way back.
-pub mod LoneTests
 pub mod OpenedSets
 pub mod RowsIn
 pub mod SlotLaws
-pub mod FourRows
 pub mod BandsIn
 pub mod TriedRows
 pub mod AdmitLaws
 pub mod WorkLaws
 pub mod KeptLaws
-pub mod PairMade
 pub mod WorkedPast
-pub mod SetMade
 pub mod RebuildingLaws
 pub mod LevelHas
+-- What is asked of a level there.
 pub mod ReaderLaws
-pub mod FiveThreeBackLaws

@@ -10,7 +10,7 @@ use lib.Seq.{getD-set-other}
 use Rattle.numbers.specs.Signal.{at, spliced, stored}
 use Rattle.numbers.proofs.Parts.{splice-below, splice-in, splice-past}
 use Rattle.numbers.proofs.Stores.{at-stored, stored-at, stored-off}
-use Rattle.level.specs.Making.{separated}
+use Rattle.level.specs.Moves.{separated}
 
 -- ---- k numbers y written from place a on
 module _ (a k : ℕ) (y : ℕ → ℤ) where

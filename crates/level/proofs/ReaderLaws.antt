@@ -8,7 +8,6 @@ use Rattle.numbers.specs.Word.{wrap32}
 use Rattle.lifting.specs.Line.{lo}
 use Rattle.lifting.specs.Grid.{Side, count}
 use Rattle.lifting.specs.Filter.{Filter}
-use Rattle.lifting.specs.FiveThree.{fiveThreeFilter}
 use Rattle.wavelet.specs.Bands.{Grid, Band, LL, across, levelBack}
 use Rattle.wavelet.specs.Maps.{valueFits}
 use Rattle.wavelet.specs.Levels.{next}
@@ -16,7 +15,7 @@ use Rattle.wavelet.specs.Order.{firstSet, lastSet, setRow, setHas}
 use Rattle.wavelet.specs.Steps.{setOf}
 use Rattle.level.specs.ReaderLevel.{ReaderLevel}
 use Rattle.level.specs.Stands.{SetHasBy, SetFitsBy, BackMeaning}
-use Rattle.level.proofs.SetMade.{Outcome}
+use Rattle.level.proofs.TriedRows.{Outcome}
 
 pub record ReaderLawsBy (F : Filter) (K : ReaderLevel) (M : BackMeaning) : Type 0 where
   -- all this is in the level's stretch
@@ -55,6 +54,3 @@ pub record ReaderLawsBy (F : Filter) (K : ReaderLevel) (M : BackMeaning) : Type 
   pub made-fits : (k : ℕ) (W H : Side) (p : Band → Grid) (n : ℕ) (x : ℕ → ℤ) → M .Leaves k W H p n x → (r : ℕ) → r < H .length → setOf (K .ahead) H r ≡ n →
       (c : ℕ) → c < W .length → valueFits F k (levelBack F wrap32 W H p r c) ≡ true
   pub made-has : (k : ℕ) (W H : Side) (p : Band → Grid) (n : ℕ) (x : ℕ → ℤ) → M .Leaves k W H p n x → SetHasBy F (K .ahead) W H p n
-
-abbrev pub ReaderLaws : ReaderLevel → BackMeaning → Type 0
-ReaderLaws = ReaderLawsBy fiveThreeFilter

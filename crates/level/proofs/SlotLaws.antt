@@ -93,6 +93,14 @@ module _ {m : ℕ} (some : 0 < m) where
           ]
         ]
 
+    -- halved where a test says so
+    pub halve-tried : (ok : Bool) (ys : List ℤ) → ok ≡ true → length ys ≡ k →
+        at ys ≡ pick ok (fronted (length (midOf a k l)) (λ i. shrZ (at (midOf a k l) i) 2) (at (midOf a k l))) (at (midOf a k l)) →
+        at (putMid a k l ys) ≡ rowHalved m w q (at l)
+    halve-tried ok ys e long ey =
+        halve-part ys long
+        (ey ∙ ap (λ (t : Bool). pick t (fronted (length (midOf a k l)) (λ i. shrZ (at (midOf a k l) i) 2) (at (midOf a k l))) (at (midOf a k l))) e)
+
   -- ---- three rows of m fit
   module _ (f : ℤ → ℤ → ℤ → ℤ) (n w t l r : ℕ) (x : ℕ → ℤ) (room : m * w ≤ n) where
     pub row-by : rowsChanged f n w w (t % m) (l % m) (r % m) x ≡ rowBy m f w t l r x

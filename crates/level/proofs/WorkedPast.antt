@@ -1,21 +1,17 @@
 -- A set worked out leaves every place past its level's stretch as it was, whatever stands in it. Assumes nothing.
 use mathlib.Core.Bool.{Bool, true, false}
-use Prim.Native.Nat.{ℕ, zero, suc, _+_, _*_, _<_}
+use Prim.Native.Nat.{ℕ, _+_, _*_, _<_}
 use lib.IntN.{ℤ}
-use lib.Dec.{ltb, eqb}
+use lib.Dec.{ltb}
 use Rattle.numbers.specs.Signal.{pick}
-use Rattle.lifting.specs.Grid.{Side, loneHigh}
-use Rattle.lifting.specs.GridHalves.{unliftedInPlace}
+use Rattle.lifting.specs.Grid.{Side}
 use Rattle.lifting.specs.Filter.{Filter}
-use Rattle.lifting.specs.FiveThree.{fiveThreeFilter}
 use Rattle.level.specs.Tried.{Tried, failed, passed, bind}
 use Rattle.level.specs.Stretch as stretch
 use Rattle.level.specs.Stretch.{endOf, hasLow}
-use Rattle.level.specs.Work.{admitted, evenRow, oddRow, evenMade, oddMade, lastMade, rowsMade, setMade, setWorked}
 use Rattle.level.specs.Rebuilding.{Kept}
 use Rattle.level.proofs.RowsIn.{only-unlifted, only-halved, only-taken}
-use Rattle.level.proofs.FourRows.{four}
-use Rattle.level.proofs.KeptLaws.{kept-none, kept-both, only-kept, even-kept, odd-kept}
+use Rattle.level.proofs.KeptLaws.{kept-none, kept-both, only-kept}
 
 -- what was tried, if it passed, kept every place from n on
 pub data Keeps (n : ℕ) (x : ℕ → ℤ) : Tried → Type 0 where
@@ -86,39 +82,3 @@ module _ {m : ℕ} (some : 0 < m) (W H : Side) where
       go : (t : Bool) → Keeps room x (f (pick t (stretch.lowRowTaken m W H n x) x))
       go true = after room x (stretch.lowRowTaken m W H n x) _ (only-kept (only-taken some W H n x)) (g (stretch.lowRowTaken m W H n x))
       go false = g x
-
--- ---- a set worked out by the 5/3
-module _ (k : ℕ) (W H : Side) where
-  abbrev four-rows : ℕ
-  four-rows = 4 * W .length
-
-  even-past : (n : ℕ) (x : ℕ → ℤ) → Keeps four-rows x (evenMade admitted k (W .length) H n x)
-  unfolding evenMade
-  even-past n x =
-      either four-rows x _ _ (admits four-rows 4 fiveThreeFilter k (W .length) (2 * n) x (evenRow (W .length) H n x) (even-kept (W .length) H n x))
-      (stays four W H x) (hasLow H n)
-
-  odd-past : (n : ℕ) (x : ℕ → ℤ) → Keeps four-rows x (oddMade admitted k (W .length) H n x)
-  unfolding oddMade
-  odd-past zero x = stays four W H x
-  odd-past (suc m) x = admits four-rows 4 fiveThreeFilter k (W .length) (2 * m + 1) x (oddRow (W .length) H m x) (odd-kept (W .length) H m x)
-
-  last-past : (n : ℕ) (x : ℕ → ℤ) → Keeps four-rows x (lastMade admitted k (W .length) H n x)
-  unfolding lastMade
-  last-past n x =
-      either four-rows x _ _
-      (either four-rows x _ _ (lone-past four W H fiveThreeFilter k (2 * n + 1) x)
-      (admits four-rows 4 fiveThreeFilter k (W .length) (2 * n + 1) x (oddRow (W .length) H n x) (odd-kept (W .length) H n x)) (loneHigh H))
-      (stays four W H x) (eqb (2 * n + 2) (endOf H))
-
-  made-past : (n : ℕ) (x : ℕ → ℤ) → Keeps four-rows x (rowsMade admitted k (W .length) H n x)
-  unfolding rowsMade
-  made-past n x = bound four-rows x _ _ (even-past n x) (λ y. bound four-rows y _ _ (odd-past n y) (last-past n))
-
-  set-past : (n : ℕ) (x : ℕ → ℤ) → Keeps four-rows x (setMade admitted k W H n x)
-  unfolding setMade
-  set-past n x = bound four-rows x _ _ (rows-past four W H unliftedInPlace n x) (made-past n)
-
-  pub worked-past : (last : Bool) (n : ℕ) (x : ℕ → ℤ) → Keeps four-rows x (setWorked admitted last k W H n x)
-  unfolding setWorked
-  worked-past last n x = taken-past four W H (setMade admitted k W H n) (set-past n) last n x

@@ -8,7 +8,7 @@ use lib.ListN.{getD}
 use Rattle.numbers.specs.Signal.{both, stored}
 use Rattle.lifting.specs.Grid.{Side}
 use Rattle.level.specs.Level.{Memory}
-use Rattle.level.specs.FiveThreeLevel.{cellOf}
+use Rattle.level.specs.Cells.{cellOf}
 
 -- a run of heights as a signal
 abbrev pub heightAt : List ℕ → ℕ → ℤ

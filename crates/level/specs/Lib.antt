@@ -1,16 +1,13 @@
--- What a level is to the streams above it, and the 5/3 level.
+-- What a level is to the streams above it.
 pub mod Level
-pub mod FiveThreeLevel
--- What the calls ask and leave.
-pub mod Making
+-- Four rows of a stretch, and what is done to them whatever the filter.
+pub mod Cells
+pub mod Moves
 pub mod Heights
 -- The way back: a set worked out, its rows tested.
 pub mod Tried
 pub mod Sets
 pub mod Stretch
-pub mod Slots
-pub mod Work
 pub mod Stands
 pub mod Rebuilding
 pub mod ReaderLevel
-pub mod FiveThreeBack

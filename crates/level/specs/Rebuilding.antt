@@ -9,8 +9,7 @@ use Rattle.lifting.specs.Line.{lo}
 use Rattle.lifting.specs.Grid.{Side, count}
 use Rattle.lifting.specs.Halves.{fronted}
 use Rattle.lifting.specs.Filter.{Filter}
-use Rattle.lifting.specs.FiveThree.{fiveThreeFilter}
-use Rattle.wavelet.specs.Limits.{maxLevels, range}
+use Rattle.wavelet.specs.Limits.{range}
 use Rattle.wavelet.specs.Order.{lastSet}
 use Rattle.level.specs.Tried.{Tried, fits, memory}
 
@@ -52,16 +51,3 @@ pub record Kept (n : ℕ) (x y : ℕ → ℤ) : Type 0 where
 unfoldable pub lowestBy : Filter → ℕ → ℤ
 lowestBy F zero = pos 0
 lowestBy F (suc k) = pos 0 -ℤ pos (range F (suc k))
-
--- ---- at the 5/3
-abbrev pub workLength : Bool → Side → ℕ
-workLength = workLengthBy 4
-
-abbrev pub workable : Bool → ℕ → Side → Side → ℕ → ℕ → Bool
-workable = workableBy maxLevels 4
-
-abbrev pub workLeft : Side → Bool → Tried → (ℕ → ℤ) → ℕ → ℤ
-workLeft = workLeftBy 4
-
-abbrev pub lowestOf : ℕ → ℤ
-lowestOf = lowestBy fiveThreeFilter

@@ -2,26 +2,16 @@
 -- the way back (`levelBack`), over 32-bit words (`wrap32`).
 use mathlib.Core.Path.{_≡_}
 use mathlib.Core.Bool.{true}
-use Prim.Native.Nat.{ℕ, suc, _+_, _-_, _*_, _≤_, _<_}
+use Prim.Native.Nat.{ℕ, _-_, _≤_, _<_}
 use lib.IntN.{ℤ}
 use Rattle.numbers.specs.Word.{wrap32}
-use Rattle.lifting.specs.Line.{Half, lo, hi}
-use Rattle.lifting.specs.Grid.{Side, count, parted, hasLine}
+use Rattle.lifting.specs.Line.{lo, hi}
+use Rattle.lifting.specs.Grid.{Side, count, hasLine}
 use Rattle.lifting.specs.Filter.{Filter}
-use Rattle.lifting.specs.FiveThree.{fiveThreeFilter}
 use Rattle.wavelet.specs.Bands.{Grid, Band, bandOf, rowsUnlifted, levelBack}
 use Rattle.wavelet.specs.Maps.{valueFits}
 use Rattle.wavelet.specs.Order.{firstSet}
 use Rattle.wavelet.specs.Steps.{setOf}
-use Rattle.level.specs.Stretch as stretch
-use Rattle.level.specs.Stretch.{local, endOf}
-
--- a row by its halves in the slot of the row at q, and a row of a band of set n
-abbrev pub RowStands : Side → (ℕ → ℤ) → ℕ → (Half → ℕ → ℤ) → Type 0
-RowStands = stretch.RowStands 4
-
-abbrev pub BandStands : Side → Side → (Band → Grid) → ℕ → (ℕ → ℤ) → Band → Type 0
-BandStands = stretch.BandStands 4
 
 -- no number that set n halves is odd: its band rows are lines', and so are the columns of the rows that it makes, by the filter F at the look-ahead a
 pub record SetHasBy (F : Filter) (a : ℕ) (W H : Side) (p : Band → Grid) (n : ℕ) : Type 0 where
@@ -34,22 +24,6 @@ pub record SetFitsBy (F : Filter) (a k : ℕ) (W H : Side) (p : Band → Grid) (
   pub fit : (r c : ℕ) → r < H .length → setOf a H r ≡ n → c < W .length → valueFits F k (levelBack F wrap32 W H p r c) ≡ true
   pub has : SetHasBy F a W H p n
 
-abbrev pub SetHas : ℕ → Side → Side → (Band → Grid) → ℕ → Type 0
-SetHas = SetHasBy fiveThreeFilter
-
--- what set n leaves: the rows that it makes, which fit as low-low values of level k, and its high row of the columns for the next set
-pub record SetLeaves (k : ℕ) (W H : Side) (p : Band → Grid) (n : ℕ) (x : ℕ → ℤ) : Type 0 where
-  pub made : (r : ℕ) → r < H .length → setOf 1 H r ≡ n → RowStands W x (local (H .start) r) (parted W (levelBack fiveThreeFilter wrap32 W H p r))
-  pub fit : (r : ℕ) → r < H .length → setOf 1 H r ≡ n → (c : ℕ) → c < W .length →
-      valueFits fiveThreeFilter k (levelBack fiveThreeFilter wrap32 W H p r c) ≡ true
-  pub high : 2 * n + 2 < endOf H → RowStands W x (2 * n + 1) (parted W (rowsUnlifted fiveThreeFilter wrap32 W p hi n))
-  pub has : SetHas 1 W H p n
-
--- what set n needs of the set before it: its even row, if it has one, and its high row
-pub record SetBefore (W H : Side) (p : Band → Grid) (n : ℕ) (x : ℕ → ℤ) : Type 0 where
-  pub even : (m : ℕ) → n ≡ suc m → firstSet H lo ≤ m → RowStands W x (2 * m) (parted W (levelBack fiveThreeFilter wrap32 W H p (2 * m - firstSet H lo)))
-  pub high : (m : ℕ) → n ≡ suc m → RowStands W x (2 * m + 1) (parted W (rowsUnlifted fiveThreeFilter wrap32 W p hi m))
-
 -- ---- what stands in a level's memory, whatever the level does
 pub record BackMeaning : Type 1 where
   -- Leaves k W H p n x: what set n leaves
@@ -58,6 +32,3 @@ pub record BackMeaning : Type 1 where
   pub Before : Side → Side → (Band → Grid) → ℕ → (ℕ → ℤ) → Type 0
   -- Got W H p n x c: the row of band c of set n is there, if there is one
   pub Got : Side → Side → (Band → Grid) → ℕ → (ℕ → ℤ) → Band → Type 0
-
-abbrev pub fiveThreeStands : BackMeaning
-fiveThreeStands = record { Leaves = SetLeaves; Before = SetBefore; Got = BandStands }

@@ -5,12 +5,11 @@ ghost use Prim.Native.Nat.{_≤_, _+_, _-_, _*_, _%_};
 ghost use lib.ListN.{length};
 ghost use lib.Dec.{eqb};
 ghost use Rattle.numbers.specs.Signal.{at, pick, spliced};
-ghost use Rattle.lifting.specs.Line.{lo};
 ghost use Rattle.lifting.specs.Grid.{side, count};
 ghost use Rattle.lifting.specs.GridHalves.{partedInto};
 ghost use Rattle.lifting.specs.Rows.{rowChanged};
 ghost use Rattle.lifting.specs.Pairs.{first};
-ghost use Rattle.level.specs.Making.{separated, delivered};
+ghost use Rattle.level.specs.Moves.{separated};
 
 // `count` pairs of numbers from `from` on: the first of each to the places from `firsts` on, the second to those from `seconds` on, past what is read.
 // One loop stores both: the compiler then reads whole vectors.
@@ -62,15 +61,4 @@ pub fn copy_row(store: &mut [i32], w: usize, from: usize, to: usize)
         store[t + i] = store[f + i];
         i += 1;
     }
-}
-
-// The LL row of set n becomes row q of the next level.
-pub fn deliver(store: &mut [i32], w: usize, x: usize, n: usize, q: usize)
-    requires { ⌜ 4 * w + 4 * count lo (side x w) ≤ length (now store) ⌝ }
-    ensures { λ _. ⌜ at (now (store .exit)) ≡ delivered (side x w) n q (at (now (store .entry))) ⌝ }
-{
-    let v = sizes::low_count(x, w);
-    let from = 2 * (n % 2) * w;
-    let to = 4 * w + q % 4 * v;
-    part_row(store, from, to, sizes::next_start(x), v);
 }

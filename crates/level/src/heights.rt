@@ -7,7 +7,7 @@ ghost use lib.Dec.{leb};
 ghost use lib.ListN.{length};
 ghost use Rattle.numbers.specs.Signal.{at, pick};
 ghost use Rattle.lifting.specs.Grid.{side};
-ghost use Rattle.level.specs.FiveThreeLevel.{cellOf};
+ghost use Rattle.level.specs.Cells.{cellOf};
 ghost use Rattle.level.specs.Heights.{heightAt, heightsPut, heightsFit};
 
 // Where column c of row q stands.

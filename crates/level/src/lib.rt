@@ -1,11 +1,7 @@
-// One level in its own stretch of a line store: four rows of w numbers, each in halves. The streams above it know where its stretch
-// begins and how many rows it has received; what stands in the stretch, and the filter, only this crate knows.
+// What the levels of both filters call, in a level's own stretch of a line store: heights put into a row, rows moved. The streams above know where
+// a level's stretch begins and how many rows it has received; what stands in the stretch, only the level knows.
+pub mod bounds;
 mod copies;
 pub mod heights;
-pub mod lone;
-pub mod making;
 pub mod moves;
-pub mod rebuilding;
-pub mod rows;
-mod sets;
-mod work;
+pub mod sets;

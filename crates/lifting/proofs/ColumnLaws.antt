@@ -17,7 +17,8 @@ use Rattle.numbers.proofs.Sweep.{both}
 use Rattle.lifting.specs.Line.{predicted, updated}
 use Rattle.lifting.specs.Rows.{rowFits, rowsFit, rowChanged}
 use Rattle.lifting.specs.Pairs.{first, pairFits, pairLifted, pairCopied, changedAt, liftedAt}
-use Rattle.lifting.proofs.RowLaws.{RowIn, RowsIn, row-in, row-fits, rows-in, rows-fit, row-at, row-before, row-past, row-other, row-order}
+use Rattle.lifting.proofs.RowLaws.{row-within, row-place, RowIn, RowsIn, row-in, row-fits, rows-in}
+use Rattle.lifting.proofs.RowLaws.{rows-fit, row-at, row-before, row-past, row-other, row-order}
 
 -- places in different columns differ
 pub columns-apart : (s q t i c : ℕ) → c < i → i < s → t * s + c ≡ q * s + i → ⊥
@@ -190,6 +191,16 @@ pair-in n s w h l r b e =
 pub pair-fits : (n s w h l r b : ℕ) → (l ≡ h → ⊥) → w ≤ s → h * s + w ≤ n → l * s + w ≤ n → r * s + w ≤ n → b * s + w ≤ n → pairFits n s w h l r b ≡ true
 unfolding pairFits
 pair-fits n s w h l r b q wide a d e f = simp (ne-eqb l h q, rows-fit n s w h l r wide a d e, row-fits n s w b wide f)
+
+pub pair-places : {n s w h l r b : ℕ} → PairIn n s w h l r b → (M i : ℕ) → M ≡ n → i < w
+    → (h * s + i < M) × (l * s + i < M) × (r * s + i < M) × (b * s + i < M) × (l * s + i ≡ h * s + i → ⊥)
+pair-places {n} {s} {w} {h} {l} {r} {b} p M i e k = (
+  row-place (p .rows .one) M i e k,
+  row-place (p .rows .two) M i e k,
+  row-place (p .rows .three) M i e k,
+  row-place (p .last) M i e k,
+  rows-apart s h l i (row-within (p .last) i k) (p .other),
+)
 
 pub record Passed (F : ℕ → (ℕ → ℤ) → ℕ → ℤ) (s w h l r b : ℕ) (m₀ : List ℤ) (i : ℕ) (m : List ℤ) : Type 0 where
   pub within : i ≤ w

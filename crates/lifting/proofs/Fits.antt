@@ -83,3 +83,7 @@ even-bits z h =
 pub ruleset wraps = (toZ-ofZ, widen, shifted, raised, whole)
 
 pub ruleset sums = (toZ-ofZ, widen, shifted, sum, difference, half)
+
+-- a step: of numbers read back, x is changed by what k makes of a and b. An x′ is x read back
+pub step-parts : (g k : ℤ → ℤ → ℤ) (x x′ a a′ b b′ h h′ r r′ : ℤ) → x′ ≡ x → a′ ≡ a → b′ ≡ b → h′ ≡ h → r′ ≡ r → h ≡ k a′ b′ → r ≡ g x′ h′ → r′ ≡ g x (k a b)
+step-parts g k x x′ a a′ b b′ h h′ r r′ ex ea eb eh er made done = cc

@@ -1,9 +1,8 @@
 -- The laws of a line on the grid: counts and places, and the formulas with the mirror worked out, for a start of either parity. What is mirrored is the
 -- nearest that is there.
 -- Assumes nothing.
-use mathlib.Core.Path.{_≡_, refl, sym, ap, ap₂, _∙_, subst, fun-ext}
-use mathlib.Core.Bool.{true, false}
-use Prim.Native.Nat.{ℕ, zero, suc, _+_, _-_, _*_, _/_, _%_, _≤_, _<_, min}
+use mathlib.Core.Path.{_≡_, sym, ap, ap₂, _∙_, subst, fun-ext}
+use Prim.Native.Nat.{ℕ, zero, suc, _+_, _-_, _*_, _/_, _%_, _≤_, _<_}
 use native.Mathlib.Decide.{decLt, ℕ-discrete}
 use native.Mathlib.Omega.{arith}
 use lib.IntN.{ℤ, pos, natAbs, _-ℤ_, _*ℤ_}
@@ -12,7 +11,6 @@ use borrow.Author.Tests.{lt-ltb, le-ltb, eq-eqb, ne-eqb}
 use Rattle.numbers.proofs.Integers.{dif, dif-natAbs}
 use Rattle.lifting.specs.Line.{Half, lo, hi, mirror, predicted, updated, unpredicted, unupdated}
 use Rattle.lifting.specs.Grid.{Side, half, place, count, parted, joined, before, after, highAt, lowAt, evenAt, oddAt, lineForward, lineHalvesBack}
-use Rattle.lifting.specs.Grid.{lineBack}
 use Rattle.lifting.specs.Halves.{fronted}
 use Rattle.lifting.specs.GridHalves.{inHalves}
 use Rattle.lifting.specs.Passes.{near}

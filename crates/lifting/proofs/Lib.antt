@@ -14,13 +14,11 @@ pub mod FiveThreeFilter
 pub mod LineNear
 pub mod AtZero
 pub mod LineTheorems
+pub mod RangeLaws
 pub mod RowLaws
 pub mod RowSweep
 pub mod LineLaws
 pub mod PassLaws
-pub mod AreaLaws
-pub mod LiftLaws
 pub mod GridThereAndBack
 pub mod ThereAndBack
 pub mod ColumnLaws
-pub mod BackLaws

@@ -17,8 +17,8 @@ use Rattle.lifting.specs.Line.{Half, lo, hi}
 use Rattle.lifting.specs.Grid.{Side, place, count, joined, lineForward, lineHalvesBack, lineBack, loneHigh, isEven, hasLine}
 use Rattle.lifting.specs.Halves.{fronted}
 use Rattle.lifting.specs.GridHalves.{halvesOf, liftedInPlace, unliftedInPlace, hasLineIn, backwardInto, highsLaid}
-use Rattle.lifting.specs.Passes.{lowsOf, evensCopied}
-use Rattle.lifting.proofs.GridLaws.{counts, joined-place, low-one, high-one, even-one, odd-one, halves-low, halves-high, halves-past, halves-are}
+use Rattle.lifting.specs.Passes.{evensCopied}
+use Rattle.lifting.proofs.GridLaws.{counts, joined-place, low-one, high-one, even-one, odd-one, halves-high, halves-past, halves-are}
 use Rattle.lifting.proofs.GridLaws.{front-in, front-past}
 
 -- the first number of a list stored, and the rest as it was

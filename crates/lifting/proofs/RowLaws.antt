@@ -1,6 +1,7 @@
 -- The laws of a row call, for any step f.
 --     row-in, row-fits        what the test says of one row, and its converse
 --     rows-in, rows-fit       the same of the three rows
+--     row-first, row-sum, ..  the places of column i of a row in memory
 --     changed, unchanged      what a call leaves where the rows fit, and where they do not
 --     row-at                  row t changed
 --     row-other               any other row as it was
@@ -9,12 +10,14 @@
 use mathlib.Core.Path.{_≡_}
 use mathlib.Core.Logic.{_≢_}
 use mathlib.Core.Bool.{true, false}
-use Prim.Native.Nat.{ℕ, _+_, _*_, _≤_, _<_}
+use Prim.Native.Nat.{ℕ, _+_, _-_, _*_, _^_, _≤_, _<_}
 use native.Mathlib.Nat.{mul-le-mul-right, suc-mul, add-sub-cancel-left}
 use native.Mathlib.Decide.{decLt}
 use native.Mathlib.Omega.{arith}
 use lib.IntN.{ℤ}
 use lib.Dec.{leb}
+use mir.Syntax.{w64}
+use mir.Val.{Fits}
 use borrow.Author.Tests.{le-leb, lt-leb, lt-ltb, le-ltb, leb-true}
 use Rattle.numbers.proofs.Sweep.{both}
 use Rattle.lifting.specs.Rows.{rowFits, rowsFit, rowChanged, rowsChanged}
@@ -30,6 +33,27 @@ row-in n s w t h = let a = both (leb w s) _ h in record { wide = leb-true _ _ (a
 pub row-fits : (n s w t : ℕ) → w ≤ s → t * s + w ≤ n → rowFits n s w t ≡ true
 unfolding rowFits
 row-fits n s w t wide room = simp (le-leb w s wide, le-leb (t * s + w) n room)
+
+-- the measure of a loop that goes up to e
+pub falls : (e n : ℕ) → n < e → e - (n + 1) < e - n
+falls e n b = omega arith
+
+module _ {n s w t : ℕ} (p : RowIn n s w t) where
+  pub row-within : (i : ℕ) → i < w → i < s
+  row-within i h = omega arith
+
+  -- M numbers are as many
+  pub row-place : (M i : ℕ) → M ≡ n → i < w → t * s + i < M
+  row-place M i e h = omega arith
+
+  pub row-first : n * 4 < 2 ^ 63 → Fits w64 (t * s)
+  row-first small = omega arith
+
+  pub row-sum : n * 4 < 2 ^ 63 → (i : ℕ) → i < w → Fits w64 (t * s + i)
+  row-sum small i h = omega arith
+
+  pub row-next : n * 4 < 2 ^ 63 → (i : ℕ) → i < w → Fits w64 (i + 1)
+  row-next small i h = omega arith
 
 pub record RowsIn (n s w t l r : ℕ) : Type 0 where
   pub one : RowIn n s w t

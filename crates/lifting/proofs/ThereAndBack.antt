@@ -1,7 +1,7 @@
 -- There and back at a start of 0, over the definitions of document 01, for every line of 32-bit numbers of any length. What lies past the line is as it was.
 -- The lines on the grid at that start (AtZero, GridThereAndBack). Assumes nothing.
 use mathlib.Core.Path.{_≡_}
-use Prim.Native.Nat.{ℕ, _≤_, _<_}
+use Prim.Native.Nat.{ℕ, _<_}
 use lib.IntN.{ℤ}
 use mir.Syntax.{w32}
 use mir.Val.{SFits}

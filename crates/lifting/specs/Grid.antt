@@ -1,7 +1,7 @@
 -- A line on the grid: the reversible 5/3 lifting of a line that starts at any coordinate. ITU-T T.800, Annex F; document 02, Q-3.
 -- The four formulas, `keep`, the mirror and the halves are those of `Line`, which has the lines that start at coordinate 0: they are this at a start of 0
 -- (proofs/AtZero).
-use mathlib.Core.Bool.{Bool, true, false}
+use mathlib.Core.Bool.{Bool, true}
 use Prim.Native.Nat.{ℕ, _+_, _-_, _*_, _/_, _%_}
 use lib.IntN.{ℤ, pos, natAbs, _-ℤ_, _*ℤ_}
 use lib.Signed.{shrZ}

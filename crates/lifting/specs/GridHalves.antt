@@ -1,5 +1,5 @@
 -- A line on the grid in memory. In halves: its even coordinates (or low values) first, then its odd ones (or high values).
-use mathlib.Core.Bool.{Bool, true, false}
+use mathlib.Core.Bool.{Bool}
 use Prim.Native.Nat.{ℕ, _+_, _-_}
 use lib.IntN.{ℤ}
 use lib.Dec.{ltb}

@@ -1,5 +1,4 @@
 -- A line in memory. In halves: its even places (or low values) first, ⌈N / 2⌉ of them, then its odd places (or high values).
-use mathlib.Core.Bool.{Bool, true, false}
 use Prim.Native.Nat.{ℕ, _+_, _-_}
 use lib.IntN.{ℤ}
 use lib.Dec.{ltb}

@@ -2,7 +2,6 @@
 -- A line is x(0) to x(N−1): a signal x with its length N.
 -- Sums are taken over whole numbers. `keep` is what is stored of a sum: all of it (`whole`, T.800's own arithmetic) or what 32 bits keep of it (`wrap32`, what
 -- the calls do).
-use mathlib.Core.Bool.{Bool, true, false}
 use Prim.Native.Nat.{ℕ, _+_, _-_, _*_, _/_, _%_, min}
 use lib.IntN.{ℤ, pos, natAbs, _+ℤ_, _-ℤ_}
 use lib.Signed.{shrZ}

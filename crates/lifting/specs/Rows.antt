@@ -1,6 +1,6 @@
 -- Rows in one area: row t is the w numbers from place t * s on, s being the stride. A row call changes row t, number by number, by what stands in the same
 -- columns of rows l and r.
-use mathlib.Core.Bool.{Bool, true, false}
+use mathlib.Core.Bool.{Bool}
 use Prim.Native.Nat.{ℕ, _+_, _-_, _*_}
 use lib.IntN.{ℤ}
 use lib.Dec.{leb, ltb}

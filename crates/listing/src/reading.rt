@@ -3,7 +3,7 @@
 use crate::listing::Listing;
 use crate::states;
 use pgm::input::Input;
-use pgm::samples;
+use pgm_runs::runs;
 use text::bytes;
 use writer::Offered;
 ghost use mathlib.Core.Path.{_≡_};
@@ -56,14 +56,14 @@ fn read_run(
     let state = input.samples;
     let largest = state.largest;
     let most = bytes::least(input.left, run.len());
-    let n = samples::read(piece, used, largest, &mut run[..most]);
+    let n = runs::read(piece, used, largest, &mut run[..most]);
     if n == 0 {
         return read_byte(listing, piece, used, store, row);
     }
     match writer.offer(store, &run[..n]) {
         Offered::Taken(taken, next) => Read {
             listing: states::draw(input.took(taken), next, store, row),
-            used: used + samples::size(largest) * taken,
+            used: used + runs::size(largest) * taken,
         },
         Offered::Refused(_) => read_byte(listing, piece, used, store, row),
     }

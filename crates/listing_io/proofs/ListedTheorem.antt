@@ -28,10 +28,10 @@ use Rattle.listing.specs.declared.listing.Listing.{Listing}
 use Rattle.pgm.proofs.InputCases.{phase-on}
 use Rattle.listing.proofs.MoveLaws.{goes-on}
 use Rattle.listing.proofs.ListingTheorem.{call-wrote, moves-prefix, moves-whole}
-use Rattle.listing_io.specs.Rounds.{over, ends, Round, Rounds, Ran}
-use Rattle.listing_io.specs.Rounds as rounds
-use Rattle.listing_io.specs.declared.run.Run.{Run}
-use Rattle.listing_io.proofs.RoundLaws.{both-true, ends-idle}
+use Rattle.listing_rounds.specs.Rounds.{over, ends, Round, Rounds, Ran}
+use Rattle.listing_rounds.specs.Rounds as rounds
+use Rattle.listing_rounds.specs.declared.run.Run.{Run}
+use Rattle.listing_rounds.proofs.RoundLaws.{both-true, ends-idle}
 
 -- ---- rounds are moves
 -- from state s, u was read and t written, which left s′: what the listing was fed, and p′, which is left of what was read

@@ -1,8 +1,6 @@
 // The listing program over descriptors: rounds of read, turn and write, within a constant memory.
 // No contract can say what is read or written; what becomes of the bytes between is said of each round, and by a theorem of all of them
 // (proofs/ListedTheorem.antt).
-mod run;
-
 use descriptors::input;
 use descriptors::input::Left;
 use descriptors::output;
@@ -10,7 +8,8 @@ use descriptors::output::Sent;
 use libc::STDOUT_FILENO;
 use listing::listing::Fed;
 use listing::listing::Listing;
-use run::Run;
+use listing_rounds::run;
+use listing_rounds::run::Run;
 ghost use mathlib.Core.Path.{_≡_};
 ghost use Prim.Native.Nat.{_≤_};
 ghost use lib.Dec.{eqb};
@@ -19,7 +18,7 @@ ghost use Rattle.numbers.specs.Signal.{at};
 ghost use Rattle.descriptors.specs.Left.{leftIn, Within};
 ghost use Rattle.listing.specs.States.{stateOf, Leaves, endState};
 ghost use Rattle.listing.specs.Moves.{Went, Stops};
-ghost use Rattle.listing_io.specs.Rounds.{Round, Ran, Listed};
+ghost use Rattle.listing_rounds.specs.Rounds.{Round, Ran, Listed};
 
 // What is left of the chunk is fed.
 fn turn(

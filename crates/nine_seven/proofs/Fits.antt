@@ -8,6 +8,7 @@ use mir.Syntax.{w32, w64}
 use mir.Val.{SFits}
 use Rattle.numbers.specs.Word.{wrap32}
 use Rattle.numbers.proofs.Integers.{each, lin}
+use Rattle.nine_seven.specs.NineSeven.{highPart}
 
 -- ---- sixteenths of a sample, and what they leave
 pub sixteenth-fits : (a : ℤ) → SFits w32 a → SFits w32 (shrZ a 16)
@@ -69,6 +70,34 @@ less-twice = each _ λ p q. each _ λ r s. each _ λ t u. simp lin (omega arith)
 pub more-twice : (x f g : ℤ) → wrap32 (wrap32 (x +ℤ f) +ℤ g) ≡ wrap32 (x +ℤ (f +ℤ g))
 unfolding wrap32
 more-twice = each _ λ p q. each _ λ r s. each _ λ t u. simp lin (omega arith)
+
+-- ---- a step by its parts, as the code has them: each number z comes as z and as z′, which is z read back from bits
+module _ (a b a′ b′ s s′ : ℤ) (ea : a′ ≡ a) (eb : b′ ≡ b) (es : s′ ≡ s) (is : s ≡ shrZ a′ 16 +ℤ shrZ b′ 16) (fa : SFits w32 a) (fb : SFits w32 b) where
+  sum-is : s′ ≡ shrZ a 16 +ℤ shrZ b 16
+  sum-is = cc
+
+  pub sum-small : natAbs s′ ≤ 268435456
+  sum-small = rw sum-is (sixteenths-small a b fa fb)
+
+  pub sum-eightfold : SFits w32 (pos 8 *ℤ s′)
+  sum-eightfold = rw sum-is (eightfold-fits a b fa fb)
+
+pub rest-small : (u u′ : ℤ) → u′ ≡ u → natAbs u ≤ 30 → natAbs u′ ≤ 30
+rest-small u u′ e h = rw e h
+
+module _ (a b c e a′ b′ c′ e′ s s′ t t′ u u′ v v′ m′ p p′ : ℤ) (ea : a′ ≡ a) (eb : b′ ≡ b) (ec : c′ ≡ c) (ee : e′ ≡ e) (es : s′ ≡ s) (et : t′ ≡ t)
+    (eu : u′ ≡ u) (ev : v′ ≡ v) (ep : p′ ≡ p) (is : s ≡ shrZ a′ 16 +ℤ shrZ b′ 16) (it : t ≡ shrZ c′ 16 +ℤ shrZ e′ 16)
+    (iu : u ≡ (a′ +ℤ b′) -ℤ pos 16 *ℤ (shrZ a′ 16 +ℤ shrZ b′ 16)) (iv : v ≡ (c′ +ℤ e′) -ℤ pos 16 *ℤ (shrZ c′ 16 +ℤ shrZ e′ 16))
+    (ip : p ≡ s′ -ℤ t′ +ℤ shrZ (pos 9 *ℤ u′ -ℤ v′ +ℤ pos 8) 16) (im : m′ ≡ pos 8 *ℤ s′) where
+  parts-are : m′ +ℤ p′ ≡ highPart a b c e
+  parts-are = cc (both-parts (a +ℤ b) (c +ℤ e) (shrZ a 16 +ℤ shrZ b 16) (shrZ c 16 +ℤ shrZ e 16))
+
+  module _ (x x′ f f′ r r′ : ℤ) (ex : x′ ≡ x) (ef : f′ ≡ f) (er : r′ ≡ r) where
+    pub less-parts : f ≡ wrap32 (x′ -ℤ m′) → r ≡ wrap32 (f′ -ℤ p′) → r′ ≡ wrap32 (x -ℤ highPart a b c e)
+    less-parts if ir = cc (less-twice x m′ p′, parts-are)
+
+    pub more-parts : f ≡ wrap32 (x′ +ℤ m′) → r ≡ wrap32 (f′ +ℤ p′) → r′ ≡ wrap32 (x +ℤ highPart a b c e)
+    more-parts if ir = cc (more-twice x m′ p′, parts-are)
 
 -- ---- the quarter of a low step
 pub sum-more : (a b : ℤ) → SFits w32 a → SFits w32 b → SFits w64 (a +ℤ b +ℤ pos 1)

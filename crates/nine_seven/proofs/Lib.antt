@@ -9,5 +9,4 @@ pub mod NineSevenTheorems
 pub mod NineSevenFilter
 pub mod Filters
 pub mod LiftLaws
-pub mod PutLaws
 pub mod ThereAndBack

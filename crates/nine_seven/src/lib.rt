@@ -1,7 +1,3 @@
-// The line library of the integer 9/7 lifting of CCSDS 122.0, on one sample, on a line, and on the rows of an area.
+// The integer 9/7 lifting of CCSDS 122.0: its definitions and theory, and its steps on one sample. The calls on lines and rows are crate `nine_seven_lines`.
 // Every call is total: a sum is taken whole and stored modulo 2^32.
-pub mod line;
-mod place;
-mod put;
-pub mod rows;
 pub mod sample;

@@ -2,8 +2,8 @@
 // not, so that a loop of them stays in 32-bit lanes.
 use lifting::sample;
 ghost use mathlib.Core.Path.{_≡_};
-ghost use Prim.Native.Nat.{ℕ, _≤_};
-ghost use lib.IntN.{ℤ, pos, natAbs, _+ℤ_, _-ℤ_, _*ℤ_};
+ghost use Prim.Native.Nat.{_≤_};
+ghost use lib.IntN.{pos, natAbs, _+ℤ_, _-ℤ_, _*ℤ_};
 ghost use lib.Signed.{shrZ};
 ghost use Rattle.numbers.specs.Word.{wrap32};
 ghost use Rattle.nine_seven.specs.NineSeven.{predicted, unpredicted, updated, unupdated};

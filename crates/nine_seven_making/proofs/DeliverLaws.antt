@@ -1,19 +1,18 @@
 -- The LL row that goes to the next level. Assumes nothing.
-use mathlib.Core.Path.{_≡_, sym, ap, _∙_}
+use mathlib.Core.Path.{_≡_, sym, _∙_}
 use mathlib.Core.Bool.{true}
 use Prim.Native.Nat.{ℕ, _+_, _*_, _≤_}
-use native.Mathlib.Omega.{arith}
 use lib.IntN.{ℤ}
 use lib.Dec.{leb}
 use borrow.Author.Tests.{le-leb}
-use Rattle.numbers.specs.Signal.{pick, both, spliced}
+use Rattle.numbers.specs.Signal.{both, spliced}
 use Rattle.lifting.specs.Line.{lo}
 use Rattle.lifting.specs.Grid.{Side, side, count}
 use Rattle.lifting.specs.GridHalves.{partedInto}
 use Rattle.wavelet.specs.Levels.{next}
 use Rattle.level.specs.Level.{rest}
 use Rattle.level.proofs.RestLaws.{join-splice}
-use Rattle.level.proofs.DeliverLaws.{parted-any}
+use Rattle.level.proofs.PartedLaws.{parted-any}
 use Rattle.nine_seven_making.specs.NineSevenLevel.{slot, rowPut, waitsAt, bandPlace}
 use Rattle.nine_seven_making.specs.Making.{delivered}
 

@@ -7,7 +7,6 @@ use native.Mathlib.Decide.{decLt, ℕ-discrete}
 use native.Mathlib.Omega.{arith}
 use native.Mathlib.Nat.{add-mul, mul-assoc}
 use lib.IntN.{ℤ}
-use lib.Dec.{leb}
 use lib.ListN.{length}
 use borrow.Author.Tests.{le-leb, lt-leb}
 use borrow.Rule.Slice.PartMut.{midOf, putMid}
@@ -16,10 +15,10 @@ use Rattle.numbers.proofs.Parts.{length-mid}
 use Rattle.numbers.proofs.Stores.{stored-at, stored-off}
 use Rattle.lifting.specs.Grid.{Side}
 use Rattle.level.specs.Level.{rest, joinAt}
-use Rattle.level.specs.FiveThreeLevel as four
+use Rattle.level.specs.Cells as four
 use Rattle.level.specs.Heights as fours
 use Rattle.level.proofs.RestLaws.{rest-at, join-below, join-past, at-rest, at-join}
-use Rattle.level.proofs.Slots as four-slots
+use Rattle.level.proofs.Spots as four-slots
 use Rattle.nine_seven_making.specs.NineSevenLevel.{slot, cellOf}
 use Rattle.nine_seven_making.specs.Heights.{heightsPut, heightsFit}
 use Rattle.nine_seven_making.proofs.Slots.{cell-spot}

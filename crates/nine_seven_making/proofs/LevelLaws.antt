@@ -1,9 +1,9 @@
 -- What the streams above ask of a level, for the level of the 9/7: what it holds as rows come in (`Kept`) and at the finish (`Left`), and that each set made
 -- stands where it waits. Assumes nothing.
 use mathlib.Core.Path.{_≡_, refl, sym, ap, _∙_, fun-ext}
-use mathlib.Core.Bool.{Bool, true, false}
-use Prim.Native.Nat.{ℕ, suc, _+_, _-_, _*_, _/_, _%_, _≤_, _<_}
-use native.Mathlib.Decide.{decLt, ℕ-discrete}
+use mathlib.Core.Bool.{false}
+use Prim.Native.Nat.{ℕ, suc, _+_, _-_, _*_, _%_, _≤_, _<_}
+use native.Mathlib.Decide.{ℕ-discrete}
 use native.Mathlib.Omega.{arith}
 use lib.IntN.{ℤ}
 use lib.Dec.{leb}
@@ -12,7 +12,7 @@ use Rattle.numbers.specs.Signal.{stored}
 use Rattle.numbers.specs.Word.{wrap32}
 use Rattle.numbers.proofs.Stores.{stored-at, stored-off}
 use Rattle.lifting.specs.Line.{Half, lo, hi}
-use Rattle.lifting.specs.Grid.{Side, side, place, count}
+use Rattle.lifting.specs.Grid.{Side, place, count}
 use Rattle.lifting.proofs.TwoSteps as two
 use Rattle.nine_seven.specs.NineSeven.{lineForward}
 use Rattle.nine_seven.proofs.NineSeven.{nine-seven}
@@ -21,7 +21,7 @@ use Rattle.wavelet.specs.Bands.{Grid, Band, across, down, columnsLifted, subban
 use Rattle.wavelet.specs.Order.{firstSet, lastSet, setRow, unmade}
 use Rattle.level.specs.Level.{Memory, completes, SetStands}
 use Rattle.level.proofs.LevelLaws.{LevelLaws}
-use Rattle.level.proofs.Slots.{spot-apart}
+use Rattle.level.proofs.Spots.{spot-apart}
 use Rattle.nine_seven_making.specs.NineSevenLevel.{cellOf, rowPut, setMade, rowsTo, bandPlace}
 use Rattle.nine_seven_making.specs.NineSevenLevel.{RowStands, Kept, Left, nineSevenLevel}
 use Rattle.nine_seven_making.proofs.Places.{place-room}

@@ -1,7 +1,7 @@
 -- Which rows a row of a level goes by, the mirror worked out. Assumes nothing.
 use mathlib.Core.Path.{_≡_, sym, ap, ap₂, _∙_}
 use mathlib.Core.Bool.{true, false}
-use Prim.Native.Nat.{ℕ, _+_, _-_, _*_, _/_, _%_, _≤_, _<_}
+use Prim.Native.Nat.{ℕ, _+_, _-_, _*_, _%_, _≤_, _<_}
 use native.Mathlib.Decide.{decLt}
 use native.Mathlib.Omega.{arith}
 use lib.Dec.{ltb}
@@ -14,8 +14,8 @@ use Rattle.lifting.proofs.Neighbours.{left, right}
 use Rattle.nine_seven.specs.NineSeven.{before, after}
 use Rattle.nine_seven.specs.Passes.{farLeft, farRight}
 use Rattle.nine_seven.proofs.MirrorLaws.{before-is, after-is, farBefore, farAfter, far-before-is, far-after-is}
+use Rattle.nine_seven_lines.specs.Near.{Beside, Around}
 use Rattle.wavelet.specs.Order.{firstSet}
-use Rattle.wavelet.proofs.SideLaws.{count-lo, count-hi}
 use Rattle.nine_seven_making.specs.NineSevenLevel.{rowBefore, rowAfter, hasRow}
 
 -- ---- the rows of a set, by their places
@@ -115,36 +115,45 @@ low-in H n e = row-in H lo n e
 
 -- ---- the slots of these rows, as the code finds them: by a row's number in its half
 module _ (y m n : ℕ) (g : 1 < m) where
-  pub lows-there : (k : ℕ) → k ≡ count lo (side y m) → 0 < k
-  lows-there k e = omega (arith, count-lo (side y m))
-
-  pub highs-there : (k : ℕ) → k ≡ count hi (side y m) → 0 < k
-  highs-there k e = omega (arith, count-hi (side y m))
-
   module _ (b : n < count hi (side y m)) (low k r : ℕ) (el : low ≡ count lo (side y m)) (er : r ≡ 2 * (y % 2 + k) % 8) where
     by-low : (j q : ℕ) → k ≡ j → q ≡ 2 * (y % 2 + j) → r ≡ q % 8
     by-low j q e d = er ∙ ap (λ (i : ℕ). 2 * (y % 2 + i) % 8) e ∙ sym (ap (λ (i : ℕ). i % 8) d)
 
-    pub before-slot : k ≡ near low (n + (1 - y % 2) - 1) → r ≡ rowBefore (side y m) 1 (2 * n + 1) % 8
+    before-slot : k ≡ near low (n + (1 - y % 2) - 1) → r ≡ rowBefore (side y m) 1 (2 * n + 1) % 8
     before-slot e = by-low _ _ (e ∙ ap (λ (i : ℕ). near i (n + (1 - y % 2) - 1)) el) (before-high (side y m) g n b)
 
-    pub after-slot : k ≡ near low (n + (1 - y % 2)) → r ≡ rowAfter (side y m) 1 (2 * n + 1) % 8
+    after-slot : k ≡ near low (n + (1 - y % 2)) → r ≡ rowAfter (side y m) 1 (2 * n + 1) % 8
     after-slot e = by-low _ _ (e ∙ ap (λ (i : ℕ). near i (n + (1 - y % 2))) el) (after-high (side y m) g n b)
 
-    pub far-before-slot : k ≡ farLeft low (1 - y % 2) n → r ≡ rowBefore (side y m) 3 (2 * n + 1) % 8
+    far-before-slot : k ≡ farLeft low (1 - y % 2) n → r ≡ rowBefore (side y m) 3 (2 * n + 1) % 8
     far-before-slot e = by-low _ _ (e ∙ ap (λ (i : ℕ). farLeft i (1 - y % 2) n) el) (far-before-high (side y m) g n b)
 
-    pub far-after-slot : (high : ℕ) → high ≡ count hi (side y m) → k ≡ farRight low high (1 - y % 2) n → r ≡ rowAfter (side y m) 3 (2 * n + 1) % 8
+    far-after-slot : (high : ℕ) → high ≡ count hi (side y m) → k ≡ farRight low high (1 - y % 2) n → r ≡ rowAfter (side y m) 3 (2 * n + 1) % 8
     far-after-slot high eh e = by-low _ _ (e ∙ ap₂ (λ (i j : ℕ). farRight i j (1 - y % 2) n) el eh) (far-after-high (side y m) g n b)
 
   module _ (f : y % 2 ≤ n) (b : n - y % 2 < count lo (side y m)) (high k r : ℕ) (eh : high ≡ count hi (side y m)) (er : r ≡ (2 * k + 1) % 8) where
     by-high : (j q : ℕ) → k ≡ j → q ≡ 2 * j + 1 → r ≡ q % 8
     by-high j q e d = er ∙ ap (λ (i : ℕ). (2 * i + 1) % 8) e ∙ sym (ap (λ (i : ℕ). i % 8) d)
 
-    pub low-before-slot : k ≡ near high (n + 0 - 1) → r ≡ rowBefore (side y m) 1 (2 * n) % 8
+    low-before-slot : k ≡ near high (n + 0 - 1) → r ≡ rowBefore (side y m) 1 (2 * n) % 8
     low-before-slot e =
         let z : n + 0 - 1 ≡ n - y % 2 + y % 2 - 1 = omega arith in by-high _ _ (e ∙ ap₂ (λ (i j : ℕ). near i j) eh z) (before-low (side y m) g n f b)
 
-    pub low-after-slot : k ≡ near high n → r ≡ rowAfter (side y m) 1 (2 * n) % 8
+    low-after-slot : k ≡ near high (n + 0) → r ≡ rowAfter (side y m) 1 (2 * n) % 8
     low-after-slot e =
-        let z : n ≡ n - y % 2 + y % 2 = omega arith in by-high _ _ (e ∙ ap₂ (λ (i j : ℕ). near i j) eh z) (after-low (side y m) g n f b)
+        let z : n + 0 ≡ n - y % 2 + y % 2 = omega arith in by-high _ _ (e ∙ ap₂ (λ (i j : ℕ). near i j) eh z) (after-low (side y m) g n f b)
+
+  pub around-slots : n < count hi (side y m) → (low high l r b a l′ r′ b′ a′ : ℕ) → low ≡ count lo (side y m) → high ≡ count hi (side y m)
+      → Around low high (1 - y % 2) n l r b a → l′ ≡ 2 * (y % 2 + l) % 8 → r′ ≡ 2 * (y % 2 + r) % 8 → b′ ≡ 2 * (y % 2 + b) % 8 → a′ ≡ 2 * (y % 2 + a) % 8
+      → (l′ ≡ rowBefore (side y m) 1 (2 * n + 1) % 8) × (r′ ≡ rowAfter (side y m) 1 (2 * n + 1) % 8) × (b′ ≡ rowBefore (side y m) 3 (2 * n + 1) % 8)
+      × (a′ ≡ rowAfter (side y m) 3 (2 * n + 1) % 8)
+  around-slots h low high l r b a l′ r′ b′ a′ el eh by e₁ e₂ e₃ e₄ = (
+    before-slot h low l l′ el e₁ (by .left),
+    after-slot h low r r′ el e₂ (by .right),
+    far-before-slot h low b b′ el e₃ (by .before),
+    far-after-slot h low a a′ el e₄ high eh (by .after),
+  )
+
+  pub beside-slots : y % 2 ≤ n → n - y % 2 < count lo (side y m) → (high l r l′ r′ : ℕ) → high ≡ count hi (side y m) → Beside high 0 n l r
+      → l′ ≡ (2 * l + 1) % 8 → r′ ≡ (2 * r + 1) % 8 → (l′ ≡ rowBefore (side y m) 1 (2 * n) % 8) × (r′ ≡ rowAfter (side y m) 1 (2 * n) % 8)
+  beside-slots f b high l r l′ r′ eh by e₁ e₂ = (low-before-slot f b high l l′ eh e₁ (by .left), low-after-slot f b high r r′ eh e₂ (by .right))

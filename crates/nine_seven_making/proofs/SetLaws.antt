@@ -18,16 +18,15 @@ use Rattle.lifting.specs.Grid.{Side, side, count}
 use Rattle.lifting.specs.Rows.{rowChanged, rowsChanged}
 use Rattle.lifting.specs.Pairs.{first}
 use Rattle.lifting.proofs.RowLaws.{rows-fit, changed}
-use Rattle.lifting.proofs.Neighbours.{left, right}
 use Rattle.nine_seven.specs.NineSeven.{predicted, updated}
 use Rattle.nine_seven.specs.Memory.{liftedInPlace}
 use Rattle.nine_seven.specs.Rows.{rowBy, rowsBy}
 use Rattle.nine_seven.proofs.FiveRows.{five-fit}
 use Rattle.nine_seven.proofs.FiveRows as five
-use Rattle.nine_seven.proofs.MirrorLaws.{farBefore, farAfter, far-more, far-less}
+use Rattle.nine_seven.proofs.MirrorLaws.{far-more, far-less}
 use Rattle.wavelet.specs.Order.{firstSet}
 use Rattle.wavelet.proofs.SideLaws.{count-lo, count-hi}
-use Rattle.level.proofs.SetLaws.{row-doubled}
+use Rattle.level.proofs.RowSteps.{row-doubled}
 use Rattle.nine_seven_making.specs.NineSevenLevel.{slot, rowBefore, rowAfter, rowHigh, rowLow, rowCopied, rowLifted, hasRow}
 use Rattle.nine_seven_making.specs.NineSevenLevel.{highMade, lowWaits, highWaits, setMade, rowsTo, waitsAt}
 use Rattle.nine_seven_making.specs.Making.{levelFits, nextFits}

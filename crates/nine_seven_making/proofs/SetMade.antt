@@ -1,7 +1,7 @@
 -- A set of a 9/7 level is made: what it changes, and that its rows stand where they wait, if the level holds what it should. Assumes nothing.
-use mathlib.Core.Path.{_≡_, refl, sym, ap, _∙_}
-use mathlib.Core.Bool.{true, false}
-use Prim.Native.Nat.{ℕ, zero, suc, _+_, _-_, _*_, _/_, _%_, _≤_, _<_}
+use mathlib.Core.Path.{_≡_, sym, ap, _∙_}
+use mathlib.Core.Bool.{true}
+use Prim.Native.Nat.{ℕ, suc, _+_, _-_, _*_, _%_, _≤_, _<_}
 use native.Mathlib.Decide.{decLt, ℕ-discrete}
 use native.Mathlib.Omega.{arith}
 use lib.IntN.{ℤ, pos, _*ℤ_}
@@ -14,20 +14,20 @@ use Rattle.lifting.specs.Grid.{Side, place, count}
 use Rattle.lifting.specs.Passes.{near}
 use Rattle.lifting.proofs.Neighbours.{left, right, left-in, right-in}
 use Rattle.nine_seven.specs.NineSeven.{predicted, updated, lineForward}
-use Rattle.nine_seven.proofs.MirrorLaws.{farBefore, farAfter, far-before-in, far-after-in, far-first, far-more, far-last, far-less}
+use Rattle.nine_seven.proofs.MirrorLaws.{farBefore, farAfter, far-before-in, far-after-in, far-more, far-last, far-less}
 use Rattle.nine_seven.proofs.NineSevenLaws.{high-near, low-near, low-one, high-one}
 use Rattle.nine_seven.specs.NineSevenFilter.{nineSevenFilter}
 use Rattle.wavelet.specs.Bands.{Grid, LL, HL, LH, HH, across, down, columnsLifted, subband}
 use Rattle.wavelet.specs.Order.{firstSet, setRow}
 use Rattle.wavelet.proofs.SideLaws.{count-lo, count-hi, count-sum}
 use Rattle.level.specs.Level.{Memory, SetStands}
-use Rattle.level.specs.FiveThreeLevel.{doubled}
-use Rattle.level.proofs.SetRows.{ap₃}
+use Rattle.level.specs.Moves.{doubled}
+use Rattle.level.proofs.RowSteps.{ap₃}
 use Rattle.nine_seven_making.specs.NineSevenLevel.{slot, cellOf, rowBefore, rowAfter, rowHigh, rowLow, rowCopied, rowLifted, hasRow}
 use Rattle.nine_seven_making.specs.NineSevenLevel.{highMade, lowWaits, highWaits, setMade, waitsAt, bandPlace, RowStands, Left, nineSevenLevel}
-use Rattle.nine_seven_making.proofs.NearRows.{high-place, low-place, before-high, after-high, far-before-high, far-after-high, before-low, after-low}
-use Rattle.nine_seven_making.proofs.NearRows.{has-row, no-row}
-use Rattle.nine_seven_making.proofs.Slots.{apart, apart′, Only, only-none, only-then, only-if, only-either, only-slot, only-past, only-row}
+use Rattle.nine_seven_making.proofs.NearRows.{high-place, before-high, after-high, far-before-high, far-after-high, before-low, after-low}
+use Rattle.nine_seven_making.proofs.NearRows.{has-row}
+use Rattle.nine_seven_making.proofs.Slots.{apart, apart′, Only, only-then, only-if, only-either, only-slot, only-past, only-row}
 use Rattle.nine_seven_making.proofs.Slots.{changed-only, changed-cell, four-only, four-cell}
 use Rattle.nine_seven_making.proofs.Slots.{copied-only, copied-row, lifted-only, lifted-low, lifted-high}
 

@@ -24,7 +24,7 @@ use Rattle.nine_seven.proofs.FiveRows as five
 use Rattle.nine_seven.proofs.NineSevenReads.{forward-reads}
 use Rattle.wavelet.proofs.SideLaws.{count-lo, count-sum}
 use Rattle.level.specs.Level.{Memory}
-use Rattle.level.proofs.Slots.{spot, spot-even, spot-odd, spot-in, joined-spot}
+use Rattle.level.proofs.Spots.{spot, spot-even, spot-odd, spot-in, joined-spot}
 use Rattle.nine_seven_making.specs.NineSevenLevel.{slot, cellOf, rowPut, rowCopied, rowLifted, RowStands}
 use Rattle.nine_seven_making.proofs.Places.{slot-room}
 

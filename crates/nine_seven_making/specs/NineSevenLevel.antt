@@ -26,7 +26,7 @@ use Rattle.nine_seven.specs.Rows.{rowBy}
 use Rattle.wavelet.specs.Bands.{Grid, Band, LL, HL, LH, HH, columnsLifted}
 use Rattle.wavelet.specs.Order.{firstSet}
 use Rattle.level.specs.Level.{Memory, LevelKind}
-use Rattle.level.specs.FiveThreeLevel.{doubled}
+use Rattle.level.specs.Moves.{doubled}
 
 -- where the slot of row q of w numbers begins
 unfoldable pub slot : ℕ → ℕ → ℕ

@@ -1,12 +1,13 @@
 // Which rows a row of a level goes by, mirrored at the ends. The level's rows start at y and are m; only the parity of y counts. Slots are told by a row's
 // number in its half, so that no coordinate can overflow. The module is private: only this crate, which meets what is required, can call it.
+use nine_seven_lines::near;
+use nine_seven_lines::near::Four;
+use nine_seven_lines::near::Two;
 use wavelet::sizes;
 ghost use mathlib.Core.Path.{_≡_};
 ghost use Prim.Native.Nat.{_+_, _-_, _*_, _%_, _<_, _≤_};
 ghost use Rattle.lifting.specs.Line.{lo, hi};
 ghost use Rattle.lifting.specs.Grid.{side, count};
-ghost use Rattle.lifting.specs.Passes.{near};
-ghost use Rattle.nine_seven.specs.Passes.{farLeft, farRight};
 ghost use Rattle.nine_seven_making.specs.NineSevenLevel.{hasRow, rowBefore, rowAfter};
 
 // The slot of low row number k, and of high row number k.
@@ -20,57 +21,6 @@ fn high_slot(k: usize) -> usize
     ensures { λ r. ⌜ r ≡ (2 * k + 1) % 8 ⌝ }
 {
     2 * (k % 4) + 1
-}
-
-// The number of m that is nearest to k.
-fn nearest(m: usize, k: usize) -> usize
-    requires { ⌜ 0 < m ⌝ }
-    ensures { λ r. ⌜ r ≡ near m k ⌝ }
-{
-    if k < m {
-        return k;
-    }
-    m - 1
-}
-
-// Of `low` low rows the one before high row n; o is 1 where the first row is low, else 0,
-fn left(low: usize, o: usize, n: usize) -> usize
-    requires { ⌜ (0 < low) × (o ≤ 1) ⌝ }
-    ensures { λ r. ⌜ r ≡ near low (n + o - 1) ⌝ }
-{
-    if n == 0 {
-        return 0;
-    }
-    nearest(low, n - 1 + o)
-}
-
-// the one before that, mirrored at the first,
-fn far_left(low: usize, o: usize, n: usize) -> usize
-    requires { ⌜ (0 < low) × (o ≤ 1) ⌝ }
-    ensures { λ r. ⌜ r ≡ farLeft low o n ⌝ }
-{
-    if n == 0 {
-        return nearest(low, 1);
-    }
-    let k = n - 1 + o;
-    if k == 0 {
-        return 0;
-    }
-    k - 1
-}
-
-// and the second after it, mirrored at the last.
-fn far_right(low: usize, high: usize, o: usize, n: usize) -> usize
-    requires { ⌜ (0 < low) × (o ≤ 1) × (n < high) ⌝ }
-    ensures { λ r. ⌜ r ≡ farRight low high o n ⌝ }
-{
-    if n + 1 < high {
-        return nearest(low, n + 1 + o);
-    }
-    if low < 2 {
-        return 0;
-    }
-    low - 2
 }
 
 // Whether set n has a high row, and whether it has a low one.
@@ -90,53 +40,33 @@ pub fn has_low(y: usize, m: usize, n: usize) -> bool
 }
 
 // The slots of the rows one before, one after, three before and three after row 2n + 1,
-pub fn before_high(y: usize, m: usize, n: usize) -> usize
+pub fn around_high(y: usize, m: usize, n: usize) -> Four
     requires { ⌜ (1 < m) × (n < count hi (side y m)) ⌝ }
-    ensures { λ r. ⌜ r ≡ rowBefore (side y m) 1 (2 * n + 1) % 8 ⌝ }
+    ensures { λ r. ⌜ (r .left ≡ rowBefore (side y m) 1 (2 * n + 1) % 8) × (r .right ≡ rowAfter (side y m) 1 (2 * n + 1) % 8)
+        × (r .before ≡ rowBefore (side y m) 3 (2 * n + 1) % 8) × (r .after ≡ rowAfter (side y m) 3 (2 * n + 1) % 8) ⌝ }
 {
-    low_slot(y, left(sizes::low_count(y, m), 1 - y % 2, n))
-}
-
-pub fn after_high(y: usize, m: usize, n: usize) -> usize
-    requires { ⌜ (1 < m) × (n < count hi (side y m)) ⌝ }
-    ensures { λ r. ⌜ r ≡ rowAfter (side y m) 1 (2 * n + 1) % 8 ⌝ }
-{
-    low_slot(y, nearest(sizes::low_count(y, m), n + (1 - y % 2)))
-}
-
-pub fn far_before_high(y: usize, m: usize, n: usize) -> usize
-    requires { ⌜ (1 < m) × (n < count hi (side y m)) ⌝ }
-    ensures { λ r. ⌜ r ≡ rowBefore (side y m) 3 (2 * n + 1) % 8 ⌝ }
-{
-    low_slot(y, far_left(sizes::low_count(y, m), 1 - y % 2, n))
-}
-
-pub fn far_after_high(y: usize, m: usize, n: usize) -> usize
-    requires { ⌜ (1 < m) × (n < count hi (side y m)) ⌝ }
-    ensures { λ r. ⌜ r ≡ rowAfter (side y m) 3 (2 * n + 1) % 8 ⌝ }
-{
-    low_slot(
-        y,
-        far_right(
-            sizes::low_count(y, m),
-            sizes::high_count(y, m),
-            1 - y % 2,
-            n,
-        ),
-    )
+    let low = sizes::low_count(y, m);
+    let by = near::around(low, sizes::high_count(y, m), 1 - y % 2, n);
+    let left = low_slot(y, by.left);
+    let right = low_slot(y, by.right);
+    let before = low_slot(y, by.before);
+    Four {
+        left,
+        right,
+        before,
+        after: low_slot(y, by.after),
+    }
 }
 
 // and of those one before and one after row 2n.
-pub fn before_low(y: usize, m: usize, n: usize) -> usize
+pub fn beside_low(y: usize, m: usize, n: usize) -> Two
     requires { ⌜ (1 < m) × (y % 2 ≤ n) × (n - y % 2 < count lo (side y m)) ⌝ }
-    ensures { λ r. ⌜ r ≡ rowBefore (side y m) 1 (2 * n) % 8 ⌝ }
+    ensures { λ r. ⌜ (r .left ≡ rowBefore (side y m) 1 (2 * n) % 8) × (r .right ≡ rowAfter (side y m) 1 (2 * n) % 8) ⌝ }
 {
-    high_slot(left(sizes::high_count(y, m), 0, n))
-}
-
-pub fn after_low(y: usize, m: usize, n: usize) -> usize
-    requires { ⌜ (1 < m) × (y % 2 ≤ n) × (n - y % 2 < count lo (side y m)) ⌝ }
-    ensures { λ r. ⌜ r ≡ rowAfter (side y m) 1 (2 * n) % 8 ⌝ }
-{
-    high_slot(nearest(sizes::high_count(y, m), n))
+    let by = near::beside(sizes::high_count(y, m), 0, n);
+    let left = high_slot(by.left);
+    Two {
+        left,
+        right: high_slot(by.right),
+    }
 }

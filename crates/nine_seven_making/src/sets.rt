@@ -1,10 +1,10 @@
 // The sets of a level. Slots are told by a set's number modulo 4, so that no number of a row can overflow: row 2n is in slot 2 × (n mod 4).
 // The module is private: only this crate, which meets what is required, can call it.
 use crate::near;
+use five_three_lines::rows as means;
 use level::moves;
-use lifting::rows as means;
-use nine_seven::line;
-use nine_seven::rows;
+use nine_seven_lines::line;
+use nine_seven_lines::rows;
 ghost use mathlib.Core.Path.{_≡_};
 ghost use mathlib.Core.Bool.{true};
 ghost use Prim.Native.Nat.{_≤_, _*_, _+_, _<_};
@@ -29,11 +29,8 @@ fn predict_row(store: &mut [i32], w: usize, y: usize, m: usize, n: usize)
     ensures { λ _. ⌜ at (now (store .exit)) ≡ rowHigh w (side y m) (2 * n + 1) (at (now (store .entry))) ⌝ }
 {
     let high = 2 * (n % 4) + 1;
-    let l = near::before_high(y, m, n);
-    let r = near::after_high(y, m, n);
-    let b = near::far_before_high(y, m, n);
-    let a = near::far_after_high(y, m, n);
-    rows::predict_row(store, w, w, high, l, r, b, a);
+    let by = near::around_high(y, m, n);
+    rows::predict_row(store, w, w, high, by.left, by.right, by.before, by.after);
 }
 
 // An only row at an odd coordinate: each number and the mean of itself and itself, the number doubled.
@@ -66,9 +63,8 @@ fn update_copy(store: &mut [i32], w: usize, y: usize, m: usize, n: usize)
 {
     if 1 < m {
         let t = (2 * (n % 4) + 6) % 8;
-        let l = near::before_low(y, m, n);
-        let r = near::after_low(y, m, n);
-        rows::update_row(store, w, w, t, l, r);
+        let by = near::beside_low(y, m, n);
+        rows::update_row(store, w, w, t, by.left, by.right);
     }
 }
 

@@ -1,7 +1,7 @@
 -- The 9/7 level's stretch: its eight slots (the laws of any number of them: RowsIn and SlotLaws of `level`), rows changed by four others, and the rows that its
 -- definitions change. Assumes nothing.
 use mathlib.Core.Path.{_≡_, refl, sym, _∙_}
-use Prim.Native.Nat.{ℕ, _+_, _-_, _*_, _%_, _≤_, _<_}
+use Prim.Native.Nat.{ℕ, _+_, _*_, _%_, _≤_, _<_}
 use native.Mathlib.Nat.{mod-lt}
 use native.Mathlib.Omega.{arith}
 use lib.IntN.{ℤ}

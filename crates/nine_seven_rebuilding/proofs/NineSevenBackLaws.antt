@@ -20,7 +20,7 @@ use Rattle.level.specs.Stands.{SetFitsBy}
 use Rattle.level.proofs.RowsIn.{apart, Only, is-old, only-fed, only-taken, row-halves, joined-reads}
 use Rattle.level.proofs.BandsIn.{SameMem, is-same, got-same, got-old, got-new, low-bands, high-bands, no-low, got-taken, no-true}
 use Rattle.level.proofs.RebuildingLaws.{set-row}
-use Rattle.level.proofs.SetMade.{Outcome}
+use Rattle.level.proofs.TriedRows.{Outcome}
 use Rattle.level.proofs.ReaderLaws.{ReaderLawsBy}
 use Rattle.nine_seven.specs.NineSevenFilter.{nineSevenFilter}
 use Rattle.nine_seven_rebuilding.specs.Slots.{slot, bandFed, lowRowTaken}

@@ -1,37 +1,13 @@
--- The ranges of the 9/7's levels. Assumes nothing.
+-- What a row of a level within the limits may have, whether or not the level is held to the last. Assumes nothing.
 use mathlib.Core.Path.{_≡_, ap}
-use Prim.Native.Nat.{ℕ, suc, _*_, _^_, _≤_, _<_, min}
-use native.Mathlib.Nat.{pow-suc, pow-le-pow-right, mul-le-mul-left}
+use Prim.Native.Nat.{ℕ, _≤_, min}
 use native.Mathlib.Omega.{arith}
 use lib.IntN.{pos}
-use Rattle.wavelet.specs.Limits.{maxSample, range}
+use Rattle.wavelet.specs.Limits.{range}
 use Rattle.nine_seven.specs.NineSevenFilter.{nineSevenFilter}
-use Rattle.nine_seven_rebuilding.specs.Rebuilding.{lowestOf, maxLevels}
-
-pub range-suc : (k : ℕ) → range nineSevenFilter (suc k) ≡ 6 * range nineSevenFilter k
-unfolding range
-range-suc k = rw pow-suc (omega arith)
-
-range-last : range nineSevenFilter maxLevels < 2 ^ 31
-unfolding range maxSample maxLevels
-range-last = omega arith
-
-range-le : (j k : ℕ) → j ≤ k → range nineSevenFilter j ≤ range nineSevenFilter k
-unfolding range
-range-le j k h = mul-le-mul-left maxSample (pow-le-pow-right {n = 6} (omega arith) h)
-
-pub range-small : (k : ℕ) → k ≤ maxLevels → range nineSevenFilter k < 2 ^ 31
-range-small k h = omega (arith, range-le k maxLevels h, range-last)
-
-pub levels-small : maxLevels < 2 ^ 32
-unfolding maxLevels
-levels-small = omega arith
+use Rattle.figures.specs.Range.{maxLevels}
+use Rattle.nine_seven_rebuilding.specs.Rebuilding.{lowestOf}
 
 pub same-range : (k : ℕ) → k ≤ maxLevels →
     (pos (range nineSevenFilter (min k maxLevels)) ≡ pos (range nineSevenFilter k)) × (lowestOf (min k maxLevels) ≡ lowestOf k)
 same-range k h = let e : min k maxLevels ≡ k = omega arith in (ap (λ (i : ℕ). pos (range nineSevenFilter i)) e, ap lowestOf e)
-
--- the lesser of a level and the last is 0 for level 0 alone
-pub some-level : (k : ℕ) → min k maxLevels ≡ 0 → k ≡ 0
-unfolding maxLevels
-some-level k e = omega arith

@@ -10,8 +10,7 @@ use Rattle.lifting.proofs.Neighbours.{left, right}
 use Rattle.nine_seven.specs.NineSeven.{before, after}
 use Rattle.nine_seven.proofs.MirrorLaws.{farBefore, farAfter, before-is, after-is, far-before-is, far-after-is, far-first, far-more, far-last, far-less}
 use Rattle.wavelet.specs.Order.{firstSet, lastSet}
-use Rattle.level.specs.Slots.{local}
-use Rattle.level.specs.Work.{endOf}
+use Rattle.level.specs.Stretch.{local, endOf}
 use Rattle.wavelet.specs.Steps.{setTo, setOf}
 use Rattle.nine_seven_rebuilding.specs.Work.{rowBefore, rowAfter}
 

@@ -3,7 +3,7 @@ use Prim.Native.Nat.{ℕ, _*_}
 use lib.IntN.{ℤ}
 use Rattle.lifting.specs.Grid.{Side, joined}
 use Rattle.lifting.specs.GridHalves.{halvesOf}
-use Rattle.level.specs.Slots.{local}
+use Rattle.level.specs.Stretch.{local}
 use Rattle.level.specs.ReaderLevel.{ReaderLevel}
 use Rattle.nine_seven_rebuilding.specs.Slots.{bandFed, rowIn}
 use Rattle.nine_seven_rebuilding.specs.Work.{setWorked}

@@ -6,10 +6,7 @@ use Rattle.lifting.specs.Grid.{Side}
 use Rattle.level.specs.Tried.{Tried}
 use Rattle.level.specs.Rebuilding.{workLengthBy, workableBy, workLeftBy, lowestBy}
 use Rattle.nine_seven.specs.NineSevenFilter.{nineSevenFilter}
-
--- the most levels
-unfoldable pub maxLevels : ℕ
-maxLevels = nineSevenFilter .levels
+use Rattle.figures.specs.Range.{maxLevels}
 
 abbrev pub workLength : Bool → Side → ℕ
 workLength = workLengthBy 8

@@ -1,10 +1,9 @@
 // A level of the integer 9/7 on the way back: where a row of it stands in the level's stretch of the line store, and a set worked out there. Every call is
 // total.
-use crate::range;
 use crate::rows;
 use crate::work;
 use areas::copies;
-use level::rebuilding as limits;
+use level::bounds as limits;
 use wavelet::sizes;
 ghost use mathlib.Core.Path.{_≡_};
 ghost use Prim.Native.Nat.{_+_, _*_, _≤_};
@@ -66,7 +65,7 @@ fn can_work(
 ) -> bool
     ensures { λ r. ⌜ r ≡ workable last k (side x w) (side y h) n length ⌝ }
 {
-    if range::MAX_LEVELS < k {
+    if figures::range::MAX_LEVELS < k {
         return false;
     }
     if limits::WIDEST < w {

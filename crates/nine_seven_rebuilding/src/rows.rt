@@ -5,9 +5,9 @@ use crate::neighbours;
 use crate::range;
 use areas::lines;
 use areas::ranges;
-use level::lone;
-use nine_seven::line;
-use nine_seven::rows;
+use lone_rows::lone;
+use nine_seven_lines::line;
+use nine_seven_lines::rows;
 use wavelet::sizes;
 ghost use mathlib.Core.Path.{_≡_};
 ghost use Prim.Native.Nat.{_+_, _*_, _%_, _<_, _≤_, _^_};
@@ -18,7 +18,7 @@ ghost use Rattle.lifting.specs.Grid.{side, count};
 ghost use Rattle.wavelet.specs.Order.{firstSet};
 ghost use Rattle.level.specs.Tried.{outcome};
 ghost use Rattle.level.specs.Rebuilding.{Kept};
-ghost use Rattle.nine_seven_rebuilding.specs.Rebuilding.{maxLevels};
+ghost use Rattle.figures.specs.Range.{maxLevels};
 ghost use Rattle.nine_seven_rebuilding.specs.Slots.{rowPlace, lowRowTaken};
 ghost use Rattle.nine_seven_rebuilding.specs.Work.{lineTried, evenRow, oddRow, rowFits, loneMade};
 
@@ -72,7 +72,11 @@ pub fn admit_row(stretch: &[i32], k: usize, w: usize, q: usize) -> bool
 {
     let a = row_place(w, q);
     let e = a + w;
-    ranges::all_between(&stretch[a..e], range::lowest_of(k), range::range_of(k))
+    ranges::all_between(
+        &stretch[a..e],
+        range::lowest_of(k),
+        figures::range::range_of(k),
+    )
 }
 
 // An only row made, at an odd coordinate: each of its numbers halved, if all are even.

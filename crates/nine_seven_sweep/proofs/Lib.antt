@@ -4,3 +4,4 @@ pub mod LowerLaws
 pub mod CallLaws
 pub mod ShortColumns
 pub mod LoneLaws
+pub mod LoopLaws

@@ -1,28 +1,19 @@
 -- A row at the front of an area, lent as a part: each of its numbers changed, or tested. Assumes nothing.
-use mathlib.Core.Path.{_≡_, refl, sym, ap, _∙_, fun-ext}
-use mathlib.Core.Bool.{Bool, true, false, _&&_}
+use mathlib.Core.Path.{_≡_, sym, ap, _∙_, fun-ext}
+use mathlib.Core.Bool.{Bool}
 use mathlib.Core.List.{List}
-use Prim.Native.Nat.{ℕ, suc, _+_, _-_, _≤_, _<_}
+use Prim.Native.Nat.{ℕ, _+_, _-_, _≤_, _<_}
 use native.Mathlib.Decide.{decLt}
 use native.Mathlib.Omega.{arith}
 use lib.IntN.{ℤ}
 use lib.ListN.{length}
 use borrow.Rule.Slice.PartMut.{midOf, putMid}
-use Rattle.numbers.specs.Signal.{at, both}
+use Rattle.numbers.specs.Signal.{at}
 use Rattle.numbers.specs.Tests.{every}
 use Rattle.numbers.proofs.Parts.{window-in, splice-in, splice-past, length-mid, at-mid, at-put}
 use Rattle.numbers.proofs.TestLaws.{every-same}
 use Rattle.lifting.specs.Halves.{fronted}
 use Rattle.areas.proofs.AreaLaws.{front-at, front-rest}
-
--- a test of every number, gathered number by number: t is the test of number i
-and-both : (a b : Bool) → a && b ≡ both a b
-and-both true b = refl
-and-both false b = refl
-
-pub gather-turn : (ok t : Bool) (i : ℕ) (p : ℕ → Bool) → ok ≡ every i p → t ≡ p i → ok && t ≡ every (i + 1) p
-unfolding every
-gather-turn ok t i p is it = let e : i + 1 ≡ suc i = omega arith in rw e (and-both ok t ∙ cc (is, it))
 
 module _ (n k : ℕ) (l : List ℤ) (e : k ≡ n) (room : n ≤ length l) where
   mid : length (midOf 0 k l) ≡ n

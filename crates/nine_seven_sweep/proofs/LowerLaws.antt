@@ -1,5 +1,5 @@
 -- The columns back: a turn lifts low row n back, and the high row whose last low row it is. Assumes nothing.
-use mathlib.Core.Path.{_≡_, refl, sym, ap, _∙_, subst}
+use mathlib.Core.Path.{_≡_, refl, sym, _∙_}
 use mathlib.Core.Logic.{_≢_}
 use Prim.Native.Nat.{ℕ, _+_, _-_, _*_, _%_, _≤_, _<_}
 use native.Mathlib.Decide.{decLt, ℕ-discrete}
@@ -9,7 +9,7 @@ use borrow.Author.Tests.{lt-ltb, le-ltb, le-leb, lt-leb}
 use Rattle.numbers.specs.Word.{wrap32}
 use Rattle.lifting.specs.Line.{Half, lo, hi}
 use Rattle.lifting.specs.Grid.{Side, count, place, parted, joined}
-use Rattle.lifting.proofs.GridLaws.{ahead, counts, joined-place, place-in, in-place, by-place}
+use Rattle.lifting.proofs.GridLaws.{ahead, joined-place, place-in, in-place, by-place}
 use Rattle.lifting.proofs.Neighbours.{left, right, left-in, right-in}
 use Rattle.nine_seven.specs.NineSeven.{unpredicted, unupdated, lineHalvesBack, lineBack}
 use Rattle.nine_seven.proofs.MirrorLaws.{farBefore, farAfter, far-first, far-more, far-last, far-less, far-before-in, far-after-in}

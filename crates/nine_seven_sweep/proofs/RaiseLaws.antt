@@ -1,5 +1,5 @@
 -- The columns forward: a turn predicts high row n, and updates the low row that it has been the last to go by. Assumes nothing.
-use mathlib.Core.Path.{_≡_, refl, sym, ap, _∙_, subst}
+use mathlib.Core.Path.{_≡_, refl, sym, ap, _∙_}
 use mathlib.Core.Logic.{_≢_}
 use Prim.Native.Nat.{ℕ, _+_, _-_, _*_, _%_, _≤_, _<_}
 use native.Mathlib.Decide.{decLt, ℕ-discrete}
@@ -10,11 +10,11 @@ use Rattle.numbers.specs.Word.{wrap32}
 use Rattle.lifting.specs.Line.{Half, lo, hi}
 use Rattle.lifting.specs.Grid.{Side, count, joined}
 use Rattle.lifting.specs.GridHalves.{halvesOf}
-use Rattle.lifting.proofs.GridLaws.{ahead, counts, joined-place, halves-low, halves-high}
+use Rattle.lifting.proofs.GridLaws.{ahead, joined-place, halves-low, halves-high}
 use Rattle.lifting.proofs.Neighbours.{left, right, left-in, right-in}
 use Rattle.nine_seven.specs.NineSeven.{predicted, updated, lineForward}
 use Rattle.nine_seven.specs.Memory.{liftedInPlace}
-use Rattle.nine_seven.proofs.MirrorLaws.{farBefore, farAfter, far-first, far-more, far-last, far-less, far-before-in, far-after-in}
+use Rattle.nine_seven.proofs.MirrorLaws.{farBefore, farAfter, far-more, far-last, far-less, far-before-in, far-after-in}
 use Rattle.nine_seven.proofs.NineSevenLaws.{high-near, low-near}
 use Rattle.nine_seven_sweep.specs.Columns.{column, columnsLifted}
 use Rattle.nine_seven_sweep.specs.Passes.{Rows, inHalf, highChanged, lowChanged, highTurn, lowTurn}

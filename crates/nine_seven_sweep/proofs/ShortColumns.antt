@@ -2,12 +2,11 @@
 use mathlib.Core.Path.{_≡_, refl, sym, ap, _∙_, fun-ext}
 use mathlib.Core.Bool.{Bool, true, false}
 use Prim.Native.Nat.{ℕ, _+_, _-_, _*_, _/_, _%_, _≤_, _<_}
-use native.Mathlib.Nat.{zero-mul, div-add-mod', mod-lt}
+use native.Mathlib.Nat.{zero-mul, div-add-mod'}
 use native.Mathlib.Decide.{decLt, ℕ-discrete}
 use native.Mathlib.Omega.{arith}
 use lib.IntN.{ℤ, pos, _*ℤ_}
 use lib.Signed.{shrZ}
-use lib.Dec.{ltb}
 use borrow.Author.Tests.{lt-ltb, le-ltb}
 use Rattle.numbers.specs.Signal.{pick, both}
 use Rattle.numbers.specs.Tests.{every}
@@ -23,7 +22,6 @@ use Rattle.nine_seven.specs.NineSeven.{lineForward, lineHalvesBack, lineBack}
 use Rattle.nine_seven.specs.Memory.{liftedInPlace}
 use Rattle.nine_seven.proofs.LiftLaws.{lifted-short}
 use Rattle.nine_seven.proofs.NineSevenLaws.{high-one, even-one, odd-one}
-use Rattle.nine_seven_sweep.specs.Lone.{doubledInPlace, halvedInPlace}
 use Rattle.nine_seven_sweep.specs.Columns.{columnsFit, column, columnsBy, columnsLifted, columnsBack, columnsHave}
 use Rattle.nine_seven_sweep.specs.Passes.{Rows}
 
@@ -82,8 +80,8 @@ module _ (s w : ℕ) (H : Side) (x : ℕ → ℤ) (some : 0 < w) (ws : w ≤ s) 
       ∙ high-one H (omega arith) wrap32 (joined H p) (0 - count lo H)
       ∙ ap (λ (v : ℤ). wrap32 (pos 2 *ℤ v)) (joined-place H p hi (0 - count lo H) ∙ ap y k)
 
-  pub lone-lifted : loneHigh H ≡ true → doubledInPlace w x ≡ columnsLifted s w H x
-  unfolding columnsLifted doubledInPlace
+  pub lone-lifted : loneHigh H ≡ true → fronted w (λ i. wrap32 (pos 2 *ℤ x i)) x ≡ columnsLifted s w H x
+  unfolding columnsLifted
   lone-lifted e =
       let t = lone-high H e in
       sym (by-one (liftedInPlace H) s w x (H .length) (λ v. wrap32 (pos 2 *ℤ v)) (t .0) some ws (λ y. lone-column y e))
@@ -109,8 +107,8 @@ module _ (s w : ℕ) (H : Side) (x : ℕ → ℤ) (some : 0 < w) (ws : w ≤ s) 
   first y k one e =
       ap (joined H (lineHalvesBack wrap32 H (parted H y))) (sym e) ∙ joined-place H (lineHalvesBack wrap32 H (parted H y)) k 0
 
-  pub lone-back : loneHigh H ≡ true → halvedInPlace w x ≡ columnsBack s w H x
-  unfolding columnsBack halvedInPlace place count parted
+  pub lone-back : loneHigh H ≡ true → fronted w (λ i. shrZ (x i) 2) x ≡ columnsBack s w H x
+  unfolding columnsBack place count parted
   lone-back e =
       let t = lone-high H e in
       let z : place H hi 0 ≡ 0 = omega arith in

@@ -1,9 +1,9 @@
 // The columns of a level back. Its rows stand in their own order.
 // The module is private: only `columns`, which meets what is required, can call it.
-use crate::near;
-use nine_seven::rows;
+use nine_seven_lines::near;
+use nine_seven_lines::rows;
 ghost use mathlib.Core.Path.{_≡_};
-ghost use Prim.Native.Nat.{ℕ, _+_, _-_, _%_, _<_, _≤_};
+ghost use Prim.Native.Nat.{_+_, _-_, _%_, _<_, _≤_};
 ghost use lib.ListN.{length};
 ghost use Rattle.numbers.specs.Signal.{at};
 ghost use Rattle.numbers.specs.Word.{wrap32};
@@ -19,17 +19,15 @@ fn unupdate(area: &mut [i32], stride: usize, width: usize, y: usize, height: usi
     ensures { λ _. ⌜ at (now (area .exit)) ≡
         lowChanged (unupdated wrap32) (place (side y height)) (length (now (area .entry))) stride width (side y height) n (at (now (area .entry))) ⌝ }
 {
-    let high = height - near::lows(height, y);
     let b = y % 2;
-    let l = near::left(high, b, n);
-    let r = near::nearest(high, n + b);
+    let by = near::beside(height - near::lows(height, y), b, n);
     rows::unupdate_row(
         area,
         stride,
         width,
         2 * n + b,
-        2 * l + (1 - b),
-        2 * r + (1 - b),
+        2 * by.left + (1 - b),
+        2 * by.right + (1 - b),
     );
 }
 
@@ -41,12 +39,17 @@ fn unpredict(area: &mut [i32], stride: usize, width: usize, y: usize, height: us
 {
     let low = near::lows(height, y);
     let b = y % 2;
-    let o = 1 - b;
-    let l = 2 * near::left(low, o, n) + b;
-    let r = 2 * near::nearest(low, n + o) + b;
-    let c = 2 * near::far_left(low, o, n) + b;
-    let e = 2 * near::far_right(low, height - low, o, n) + b;
-    rows::unpredict_row(area, stride, width, 2 * n + o, l, r, c, e);
+    let by = near::around(low, height - low, 1 - b, n);
+    rows::unpredict_row(
+        area,
+        stride,
+        width,
+        2 * n + (1 - b),
+        2 * by.left + b,
+        2 * by.right + b,
+        2 * by.before + b,
+        2 * by.after + b,
+    );
 }
 
 // The same in turn n: where there is a low row n,

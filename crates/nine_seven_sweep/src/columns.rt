@@ -2,12 +2,11 @@
 // number: only whether it is odd counts. Both calls answer 5, with nothing changed, where a row does not lie in the area or is wider than the stride.
 use crate::back;
 use crate::forth;
-use crate::lone;
-use crate::near;
-use lifting::rows;
+use five_three_lines::rows;
+use lone_rows::lone;
 ghost use mathlib.Core.Path.{_≡_};
 ghost use mathlib.Core.Bool.{true};
-ghost use Prim.Native.Nat.{ℕ, _-_, _≤_};
+ghost use Prim.Native.Nat.{_-_, _≤_};
 ghost use lib.ListN.{length};
 ghost use Rattle.numbers.specs.Signal.{at, pick, both};
 ghost use Rattle.lifting.specs.Grid.{side};
@@ -32,10 +31,10 @@ fn lift_all(area: &mut [i32], stride: usize, width: usize, y: usize, height: usi
         forth::lift_rows(area, stride, width, y, height);
         return;
     }
-    if !near::lone_high(height, y) {
+    if !lone::is_lone(height, y) {
         return;
     }
-    lone::double_row(&mut area[0..width]);
+    lone::double_all(&mut area[0..width]);
 }
 
 // All columns, the rows being in halves, the low ones first.
@@ -60,7 +59,7 @@ fn columns_have(area: &[i32], width: usize, y: usize, height: usize) -> bool
     requires { ⌜ width ≤ length (now area) ⌝ }
     ensures { λ r. ⌜ r ≡ columnsHave width (side y height) (at (now (area .entry))) ⌝ }
 {
-    if !near::lone_high(height, y) {
+    if !lone::is_lone(height, y) {
         return true;
     }
     lone::all_even(&area[0..width])
@@ -74,10 +73,10 @@ fn unlift_all(area: &mut [i32], stride: usize, width: usize, y: usize, height: u
         back::unlift_rows(area, stride, width, y, height);
         return;
     }
-    if !near::lone_high(height, y) {
+    if !lone::is_lone(height, y) {
         return;
     }
-    lone::halve_row(&mut area[0..width]);
+    lone::halve_all(&mut area[0..width]);
 }
 
 // All columns back, the rows being in their own order. After 5, 14, with nothing changed, for an odd number of an only row at an odd coordinate.

@@ -1,9 +1,9 @@
 // The columns of a level forward. Its rows stand as the numbers of a column do, in halves: the low rows first.
 // The module is private: only `columns`, which meets what is required, can call it.
-use crate::near;
-use nine_seven::rows;
+use nine_seven_lines::near;
+use nine_seven_lines::rows;
 ghost use mathlib.Core.Path.{_≡_};
-ghost use Prim.Native.Nat.{ℕ, _+_, _-_, _%_, _<_, _≤_};
+ghost use Prim.Native.Nat.{_+_, _-_, _%_, _<_, _≤_};
 ghost use lib.ListN.{length};
 ghost use Rattle.numbers.specs.Signal.{at};
 ghost use Rattle.numbers.specs.Word.{wrap32};
@@ -20,12 +20,17 @@ fn predict(area: &mut [i32], stride: usize, width: usize, y: usize, height: usiz
         highChanged (predicted wrap32) (inHalf (side y height)) (length (now (area .entry))) stride width (side y height) n (at (now (area .entry))) ⌝ }
 {
     let low = near::lows(height, y);
-    let o = 1 - y % 2;
-    let l = near::left(low, o, n);
-    let r = near::nearest(low, n + o);
-    let b = near::far_left(low, o, n);
-    let a = near::far_right(low, height - low, o, n);
-    rows::predict_row(area, stride, width, low + n, l, r, b, a);
+    let by = near::around(low, height - low, 1 - y % 2, n);
+    rows::predict_row(
+        area,
+        stride,
+        width,
+        low + n,
+        by.left,
+        by.right,
+        by.before,
+        by.after,
+    );
 }
 
 // and low row n updated by the high rows beside it.
@@ -35,11 +40,8 @@ fn update(area: &mut [i32], stride: usize, width: usize, y: usize, height: usize
         lowChanged (updated wrap32) (inHalf (side y height)) (length (now (area .entry))) stride width (side y height) n (at (now (area .entry))) ⌝ }
 {
     let low = near::lows(height, y);
-    let high = height - low;
-    let b = y % 2;
-    let l = near::left(high, b, n);
-    let r = near::nearest(high, n + b);
-    rows::update_row(area, stride, width, n, low + l, low + r);
+    let by = near::beside(height - low, y % 2, n);
+    rows::update_row(area, stride, width, n, low + by.left, low + by.right);
 }
 
 // The same in turn n: where there is a high row n,

@@ -2,5 +2,3 @@
 mod back;
 pub mod columns;
 mod forth;
-pub mod lone;
-mod near;

@@ -13,7 +13,7 @@ use native.Mathlib.Omega.{arith}
 use native.Mathlib.Nat.{div-mul-le-self, lt-div-mul-add, div-eq-of-lt-le, div-add-mod', mod-lt, zero-lt-suc}
 use mathlib.Core.Logic.{_↔_}
 use lib.Dec.{T, leb, ltb, ltb→lt, nltb→le, leb→le, le→leb, lt→ltb}
-use lib.IntN.{ℤ, pos, negsuc, negℤ, natAbs, pos-ne-negsuc, subℕ, _+ℤ_, _-ℤ_, _*ℤ_}
+use lib.IntN.{ℤ, pos, negsuc, negℤ, natAbs, pos-ne-negsuc, subℕ, _+ℤ_, _*ℤ_}
 use lib.Signed.{mag, shrZ, leZ, ltZ, nonNeg, _≤ℤ_, _<ℤ_}
 use mathlib.Core.Bool.{Bool, true, false, not, cond}
 use mir.Syntax.{Width}

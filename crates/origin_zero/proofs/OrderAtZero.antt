@@ -15,7 +15,7 @@ use Rattle.lifting.proofs.AtZero.{count-zero}
 use Rattle.wavelet.specs.Bands.{Band, across, down}
 use Rattle.wavelet.specs.Order.{handedOut, inTurn, firstSet, lastSet, setRow, setHas, rowsOf, setRows, madeBy, unmade, closing, made}
 use Rattle.wavelet.proofs.StepLaws.{set-one}
-use Rattle.wavelet.specs.Steps.{Step, draw, feedAll, setOf, setsBefore, rowSteps, setSteps, steps}
+use Rattle.wavelet.specs.Steps.{Step, draw, feedAll, setsBefore, rowSteps, setSteps, steps}
 use Rattle.origin_zero.specs.Order as order
 use Rattle.origin_zero.specs.Steps.{opensSet}
 use Rattle.origin_zero.specs.Steps as step

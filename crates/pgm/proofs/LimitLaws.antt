@@ -8,7 +8,7 @@ use lib.Dec.{leb}
 use borrow.Author.Tests.{le-leb, leb-true}
 use Rattle.numbers.specs.Signal.{pick}
 use Rattle.numbers.proofs.Sweep.{both as split-both}
-use Rattle.pgm.specs.Limits.{maxField, maxPictureWidth, maxPictureHeight, upTo, sizeFits}
+use Rattle.pgm.specs.Limits.{maxPictureWidth, maxPictureHeight, upTo, sizeFits}
 
 pub up-to : (m n : ℕ) → upTo m n ≡ true → (1 ≤ n) × (n ≤ m)
 unfolding upTo
@@ -17,11 +17,6 @@ up-to m n e = let p = split-both (leb 1 n) (leb n m) e in (leb-true 1 n (p .0), 
 pub is-up-to : (m n : ℕ) → 1 ≤ n → n ≤ m → upTo m n ≡ true
 unfolding upTo
 is-up-to m n a b = rw (le-leb 1 n a, le-leb n m b)
-
--- ten times a number of a header, and a digit, can be counted
-pub field-small : maxField < 2 ^ 32
-unfolding maxField
-field-small = omega arith
 
 -- a size that fits
 pub record Fits (W H : ℕ) : Type 0 where

@@ -2,20 +2,11 @@
 ghost use mathlib.Core.Path.{_≡_};
 ghost use Prim.Native.Nat.{_*_};
 ghost use Rattle.numbers.specs.Signal.{pick};
-ghost use Rattle.pgm.specs.Limits.{maxField, maxPictureWidth, maxPictureHeight, upTo, sizeFits};
-
-// The largest number of a header.
-pub const MAX_FIELD: usize = 65535;
+ghost use Rattle.pgm.specs.Limits.{maxPictureWidth, maxPictureHeight, upTo, sizeFits};
 
 pub const MAX_WIDTH: usize = 1025;
 
 pub const MAX_HEIGHT: usize = 65535;
-
-pub fn max_field() -> usize
-    ensures { λ r. ⌜ r ≡ maxField ⌝ }
-{
-    MAX_FIELD
-}
 
 pub fn max_width() -> usize
     ensures { λ r. ⌜ r ≡ maxPictureWidth ⌝ }

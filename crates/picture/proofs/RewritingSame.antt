@@ -21,7 +21,7 @@ use Rattle.pgm.proofs.RunReads.{samples-count}
 use Rattle.picture.specs.Form.{formLargest, formHead, rowBytes}
 use Rattle.text.specs.Refusal.{refusedLine}
 use Rattle.picture.specs.Rewriting.{sizeEnd, pictureOf, heightsIn, wholeRows, rowsOf, bodyOf, rewritingOf, Accepted}
-use Rattle.picture.proofs.FormLaws.{row-length}
+use Rattle.height_bytes.proofs.RowLaws.{row-length}
 use Rattle.picture.proofs.FormReads.{largest-wide, largest-holds, head-read, samples-back}
 
 -- ---- what is found was held to the limits

@@ -1,7 +1,7 @@
 // What is being written: the header, a row of heights, or the line of a refusal, and as much of it as there is room for. The module is private: only
 // this crate, which meets what is required, can call it.
-use crate::form;
 use crate::heads;
+use height_bytes::rows;
 use text::bytes;
 use text::refusal;
 ghost use mathlib.Core.Path.{_≡_};
@@ -48,7 +48,7 @@ pub fn put_part(
     }
     if kind == 2 {
         let end = bytes::least(width, row.len());
-        return form::row(&row[..end], done, out);
+        return rows::row(&row[..end], done, out);
     }
     if kind == 3 {
         return put_refused(number, done, out);

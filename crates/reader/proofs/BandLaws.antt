@@ -12,7 +12,7 @@ use Rattle.lifting.specs.Line.{lo, hi}
 use Rattle.lifting.specs.Grid.{Side, count}
 use Rattle.wavelet.specs.Bands.{Band, LL, HL, LH, HH, code, across, down}
 use Rattle.wavelet.specs.Order.{firstSet, setRow, setHas}
-use Rattle.reader.specs.Asked.{keptAt, asked, bandsFrom, those, look, firstCode, nextBand}
+use Rattle.reader_steps.specs.Asked.{keptAt, asked, bandsFrom, those, look, firstCode, nextBand}
 
 -- ---- the first band asked for
 first-pick : (t : Bool) (b : Band) (bs : List Band) → firstCode (pick t (b ∷ bs) bs) ≡ pick t (code b) (firstCode bs)

@@ -2,7 +2,8 @@
 use mathlib.Core.Path.{_≡_, refl, sym, ap, subst, _∙_, fun-ext}
 use mathlib.Core.List.{List, [], _∷_}
 use mathlib.Core.Bool.{Bool, true, false, not}
-use Prim.Native.Nat.{ℕ, suc, _+_, _-_, _%_, _≤_, _<_}
+use Prim.Native.Nat.{zero-le}
+use Prim.Native.Nat.{ℕ, suc, _+_, _-_, _*_, _%_, _≤_, _<_, _^_}
 use native.Mathlib.Decide.{decLt}
 use native.Mathlib.Omega.{arith}
 use native.Mathlib.Numerals.{add-one}
@@ -10,41 +11,54 @@ use lib.IntN.{ℤ, pos}
 use lib.Dec.{leb, ltb, eqb}
 use lib.ListN.{length}
 use borrow.Author.Tests.{le-leb, lt-leb, lt-ltb, le-ltb, eq-eqb, ne-eqb}
+use mir.Syntax.{w64}
+use mir.Val.{Fits}
 use borrow.Rule.Slice.PartMut.{midOf}
 use Rattle.numbers.specs.Signal.{at, pick, windowed}
 use Rattle.numbers.proofs.Parts.{length-mid, at-mid}
 use Rattle.lifting.specs.Grid.{Side, side, joined}
 use Rattle.lifting.specs.Halves.{fronted}
 use Rattle.lifting.specs.GridHalves.{halvesOf}
+use Rattle.wavelet.specs.Limits.{maxLevels}
 use Rattle.wavelet.specs.Questions.{ask}
+use Rattle.wavelet.proofs.StoreLaws.{first-room}
+use Rattle.nine_seven.specs.Filters.{filterOf}
 use Rattle.calls.specs.Lists.{all-none, all-more}
 use Rattle.calls.proofs.QuestionLaws.{asks, asks-no, asks-yes, asks-none}
-use Rattle.filters.specs.Figures.{storeBy}
+use Rattle.figures.specs.Figures.{storeBy}
 use Rattle.filters.specs.Back.{rowPlaceOf}
 use Rattle.filters.proofs.BackLaws.{back-made}
+use Rattle.figures.proofs.FigureLaws.{row-few}
 use Rattle.reader.specs.declared.Reader.{Reader}
 use Rattle.reader.specs.declared.walk.Spot.{Spot}
 use Rattle.areas.specs.Areas.{height16}
 use Rattle.reader.specs.Answers.{gives, refused, impossible, Want, row, drawNow, done, ended, aRow, nothing}
 use Rattle.level.specs.Tried.{Tried, failed, passed, fits, memory}
-use Rattle.level.specs.Slots.{local}
+use Rattle.level.specs.Stretch.{local}
 use Rattle.reader.specs.Store.{zeroed}
-use Rattle.reader.specs.Machine.{spot, placeOf, dive, enter, spotFed}
+use Rattle.reader_steps.specs.Places.{spot, placeOf, dive, enter, spotFed}
 use Rattle.reader.specs.State.{columns, rows, next, nextRow, nextLength, unfinished, rowDue, drawDue, wants, settles, feeds, movedTo}
 use Rattle.reader.specs.State.{fedReader, drawnReader, endedReader}
 use Rattle.reader.specs.Questions.{countsFit, storeFits, runFits, wantQuestion, feedQuestion, drawQuestion}
 use Rattle.reader.specs.Calls.{fresh, setUpReply, setUpStore, wantReply, feedReply, storeAfter, feedStore, drawReply, drawStore, heightRow, drawArea}
-use Rattle.reader.specs.Inside.{Is, storeQuestion, rowQuestion}
-use Rattle.level.specs.Rebuilding.{Kept}
-use Rattle.areas.proofs.AreaLaws.{front-at, front-rest}
+use Rattle.reader.specs.Inside.{Is, Small, Counts, storeQuestion, rowQuestion}
+use Rattle.level.specs.Rebuilding.{Kept, widest}
+use Rattle.areas.proofs.AreaLaws.{front-at, front-rest, did}
+use Rattle.reader.proofs.EnterLaws.{dive-level}
+use Rattle.reader.proofs.QuestionLaws.{counts-small}
 use Rattle.reader.proofs.StepLaws.{spot-of, next-draw}
 
 -- ---- a store zeroed after places past n were kept
-pub zero-kept : (f : ℕ) (W : Side) (L n : ℕ) (x y z : ℕ → ℤ) → n ≡ storeBy f W L → Kept (storeBy f W L) x y → z ≡ fronted n (λ _. pos 0) y → z ≡ zeroed f W L x
+pub zero-front : (f : ℕ) (W : Side) (L n m : ℕ) (y z : ℕ → ℤ) → n ≡ storeBy f W L → storeBy f W L ≤ m → z ≡ pick (leb n m) (fronted n (λ _. pos 0) y) y →
+    z ≡ zeroed f W L y
 unfolding zeroed
-zero-kept f W L n x y z e a is =
+zero-front f W L n m y z e room is = did _ _ _ _ (le-leb n m (omega arith)) is ∙ ap (λ (i : ℕ). fronted i (λ _. pos 0) y) e
+
+pub zero-kept : (f : ℕ) (W : Side) (L : ℕ) (x y z : ℕ → ℤ) → Kept (storeBy f W L) x y → z ≡ zeroed f W L y → z ≡ zeroed f W L x
+unfolding zeroed
+zero-kept f W L x y z a is =
     let N = storeBy f W L in
-    is ∙ ap (λ (i : ℕ). fronted i (λ _. pos 0) y) e ∙ fun-ext λ j. elim (decLt j N) [
+    is ∙ fun-ext λ j. elim (decLt j N) [
       | yes p ↦ front-at N _ y j p ∙ sym (front-at N _ x j p)
       | no q ↦ front-rest N _ y j (omega arith) ∙ a .same j (omega arith) ∙ sym (front-rest N _ x j (omega arith))
     ]
@@ -228,7 +242,7 @@ module _ (s : Reader) (Q : ℕ) (x z : ℕ → ℤ) where
   draw-end t y e et is = (rw (← e) (ap impossible et), (rw (← e) is, rw (← e)))
 
 -- the heights of the row that is lent
-pub drawn-row : (s : Reader) (a k : ℕ) (l : List ℤ) (z u : ℕ → ℤ) → a ≡ rowPlaceOf (s .filter) (s .width) (s .y % 2 + s .drawn) → k ≡ s .width →
+drawn-row : (s : Reader) (a k : ℕ) (l : List ℤ) (z u : ℕ → ℤ) → a ≡ rowPlaceOf (s .filter) (s .width) (s .y % 2 + s .drawn) → k ≡ s .width →
     a + k ≤ length l →
     u ≡ fronted (length (midOf a k l)) (λ c. height16 (joined (side (s .x) (length (midOf a k l)))
     (halvesOf (side (s .x) (length (midOf a k l))) (at (midOf a k l))) c)) z →
@@ -247,6 +261,43 @@ drawn-row s a k l z u ea ek room made =
 pub enter-is : (f : ℕ) (W H : Side) (L d : ℕ) (p : Spot) → Is (dive f (L - 0) 0 W H d d) p → Is (enter f W H L d) p
 unfolding enter
 enter-is f W H L d p is = let z : L - 0 ≡ L = omega arith in subst (λ (m : ℕ). Is (dive f m 0 W H d d) p) z is
+
+-- ---- a height row handed out: its counts, where the next begins, its place a in a store of n numbers, and the heights
+module _ (s : Reader) (counts : Counts s) (due : s .drawn < s .height) where
+  pub row-counts : Fits w64 (s .y % 2 + s .drawn) × (s .drawn < 2 ^ 32)
+  row-counts = let small = counts-small s counts .2 in (omega arith, omega arith)
+
+  pub row-after : (d : ℕ) → d ≤ s .height → (0 ≤ s .levels) × (s .levels ≤ maxLevels) × (s .width ≤ 2 ^ 16) × (s .height < 2 ^ 32) × (d ≤ 2 ^ 34)
+  row-after d more = let small = counts-small s counts in (zero-le, counts .few, small .0, small .2, omega (arith, small .2))
+
+  pub row-moves : (d : ℕ) (p : Spot) → d ≤ s .height → Is (dive (s .filter) (s .levels - 0) 0 (columns s) (rows s) d d) p →
+      Small (columns s) (rows s) d × (p .level ≤ maxLevels)
+  row-moves d p more is =
+      let small = counts-small s counts in
+      let deep = dive-level (s .filter) (s .levels - 0) 0 (columns s) (rows s) d d in
+      ((small .0, small .1, small .2, small .3, more), omega (arith, deep, is .level, counts .few))
+
+  module _ (n a : ℕ) (room : storeBy (s .filter) (columns s) (s .levels) ≤ n) (fit : a + s .width ≤ filterOf (s .filter) .rows * s .width) where
+    pub row-places : Fits w64 (a + s .width) × Fits w64 (a * 4) × (a ≤ a + s .width) × (a + s .width ≤ n)
+    row-places =
+        let wide = counts-small s counts .0 in
+        let few = row-few (s .filter) (s .width) in
+        let first = first-room (filterOf (s .filter) .rows) (columns s) (s .levels) (counts .deep .0) in
+        (omega arith, omega arith, omega arith, omega arith)
+
+  pub row-handed : (a m : ℕ) (l : List ℤ) (z u : ℕ → ℤ) → storeBy (s .filter) (columns s) (s .levels) ≤ length l → s .width ≤ m →
+      a ≡ pick (leb (s .width) widest) (rowPlaceOf (s .filter) (s .width) (s .y % 2 + s .drawn)) 0 → a + s .width ≤ filterOf (s .filter) .rows * s .width →
+      u ≡ pick (leb (length (midOf a (a + s .width - a) l)) m) (fronted (length (midOf a (a + s .width - a) l))
+      (λ c. height16 (joined (side (s .x) (length (midOf a (a + s .width - a) l)))
+      (halvesOf (side (s .x) (length (midOf a (a + s .width - a) l))) (at (midOf a (a + s .width - a) l))) c)) z) z →
+      u ≡ fronted (s .width) (heightRow s (at l)) z
+  row-handed a m l z u room wide place fit made =
+      let k = a + s .width - a in
+      let same : k ≡ s .width = omega arith in
+      let part : a + k ≤ length l = omega (arith, row-places (length l) a room fit) in
+      let stands = did _ _ _ _ (le-leb (s .width) widest (counts-small s counts .0)) place in
+      let fits-out = le-leb (length (midOf a k l)) m (omega (arith, length-mid a k l part)) in
+      drawn-row s a k l z u stands same part (did _ _ _ _ fits-out made)
 
 -- where a fresh reader begins
 pub fresh-at : (f : ℕ) (W H : Side) (L : ℕ) (s t : Reader) (p : Spot) → Is (enter f W H L 0) p → columns s ≡ W → rows s ≡ H → s .levels ≡ L →

@@ -21,17 +21,16 @@ use Rattle.wavelet.specs.Steps.{Step, feed, draw}
 use Rattle.calls.specs.Lists.{gives, refused, Area}
 use Rattle.calls.proofs.QuestionLaws.{asked-yes}
 use Rattle.reader.specs.declared.Reader.{Reader}
-use Rattle.reader.specs.Sets.{ahead}
-use Rattle.reader.specs.Asked.{asked}
+use Rattle.reader_steps.specs.Sets.{ahead}
+use Rattle.reader_steps.specs.Asked.{asked}
 use Rattle.level.specs.Tried.{fits}
-use Rattle.reader.specs.Machine.{Spot, spot, Place, spotOf, nextUp, beyond, enter}
-use Rattle.reader.specs.Holds.{Ready}
+use Rattle.reader_steps.specs.Places.{Spot, spot, Place, spotOf, nextUp, beyond, enter, Ready}
 use Rattle.reader.specs.State.{next, nextRow, nextLength, unfinished, rowDue, drawDue, wants, settles, feeds}
 use Rattle.reader.specs.Questions.{countsFit, storeFits, runFits, setUpQuestion, wantQuestion, feedQuestion, drawQuestion}
 use Rattle.reader.specs.Calls.{wantReply}
 use Rattle.reader.specs.Demand3.{said, heights, nothing, wantSays, feedTurned, drawSays}
-use Rattle.reader.proofs.Looks.{named-code}
-use Rattle.reader.proofs.StepsLeft.{stepsLeft, tailAt, Ahead, height, row, ahead-is, left-row, left-height, left-done}
+use Rattle.reader_steps.proofs.Looks.{named-code}
+use Rattle.reader_steps.proofs.StepsLeft.{stepsLeft, tailAt, Ahead, height, row, ahead-is, left-row, left-height, left-done}
 
 -- ---- a set-up that passed
 pub record Limits (f : ℕ) (W H : Side) (l n : ℕ) : Type 0 where

@@ -37,12 +37,11 @@ use Rattle.nine_seven.specs.Filters.{filterOf, isFilter}
 use Rattle.nine_seven.proofs.Filters.{filter-laws}
 use Rattle.reader.specs.declared.Reader.{Reader}
 use Rattle.reader.specs.Rebuilt.{Rows, rebuilt, bandsAt, partAt, SetFits, SetsFit}
-use Rattle.reader.specs.Store.{hasCells}
-use Rattle.reader.specs.Holds.{Ready, FeedDue}
+use Rattle.reader_steps.specs.Places.{hasCells, Ready, spot, Place, placeOf, lastOfSet, past, beyond, enter}
+use Rattle.reader.specs.Holds.{FeedDue}
 use Rattle.reader.specs.Answers.{done}
-use Rattle.reader.specs.Sets.{ahead, hasRow, needed}
+use Rattle.reader_steps.specs.Sets.{ahead, hasRow, needed}
 use Rattle.level.specs.Tried.{Tried, failed, passed, fits}
-use Rattle.reader.specs.Machine.{spot, Place, placeOf, lastOfSet, past, beyond, enter}
 use Rattle.reader.specs.State.{drawDue, feeds, settles}
 use Rattle.reader.specs.Questions.{countsFit, setUpQuestion, feedQuestion, drawQuestion}
 use Rattle.reader.specs.Calls.{fresh, feedReply, drawReply, drawArea}
@@ -51,9 +50,9 @@ use Rattle.reader.specs.Demand3.{World, event, events, final, freshWorld
 use Rattle.reader.specs.Demand3.{HasRow, FirstRows, HasFedRow, FeedFits, setNumber, wantSays, feedTurned, drawSays}
 use Rattle.reader.specs.Demand3.{OneOf, this, that, written, Draws, Demand3, OfCalls}
 use Rattle.reader.specs.Demand3 as demand
-use Rattle.reader.proofs.ReadyLaws.{ready-enter, ready-back}
-use Rattle.reader.proofs.StepsLeft.{stepsLeft, left-first}
-use Rattle.level.proofs.SetMade.{Outcome}
+use Rattle.reader_steps.proofs.ReadyLaws.{ready-enter, ready-back}
+use Rattle.reader_steps.proofs.StepsLeft.{stepsLeft, left-first}
+use Rattle.level.proofs.TriedRows.{Outcome}
 use Rattle.reader.proofs.Outcomes.{outcome-failed, outcome-passed, settles-outcome, feeds-worked, kept-last}
 use Rattle.reader.proofs.Holds.{by-outcome, Fits, LeavesAt, Held, HeldAt, Worked, first-holds, set-fits, set-has}
 use Rattle.reader.proofs.CallViews.{Limits, limits, here, at, nextOf, nameOf, Due, View, at-end, at-height, at-row, view, counts, want-says}
@@ -61,9 +60,9 @@ use Rattle.reader.proofs.CallViews.{FeedView, feed-away, feed-onward, f
 use Rattle.reader.proofs.Reached.{namesOf, Good, enter-le, Agrees, Kept, Reached, reached, world, call-reached}
 use Rattle.reader.proofs.SetSteps.{set-of-row, set-goes-on, set-ends}
 use Rattle.reader.proofs.Rebuilt.{lookup, lookup-words, found, back, back-has, rowsOf, part-same, bands-have}
-use Rattle.reader.proofs.CellLaws.{cells-are}
+use Rattle.reader_steps.proofs.CellLaws.{cells-are}
 use Rattle.level.proofs.LevelHas.{sets-have, have-sets}
-use Rattle.reader.proofs.OpenedSets.{looks, last-needed}
+use Rattle.reader_steps.proofs.OpenedSets.{looks, last-needed}
 
 -- ---- the steps left and the rows fed, one list of events after another
 pub left-append : (t : List Step) (es fs : List Event) → left t (es ++ fs) ≡ left (left t es) fs

@@ -14,10 +14,9 @@ use Rattle.wavelet.specs.Order.{firstSet}
 use Rattle.wavelet.specs.Steps.{setsBefore}
 use Rattle.wavelet.proofs.StepLaws.{set-there}
 use Rattle.level.specs.Sets.{opens}
-use Rattle.reader.specs.Sets.{ahead}
-use Rattle.reader.specs.Store.{hasCells}
-use Rattle.reader.specs.Machine.{Spot, spot, dive}
-use Rattle.reader.proofs.OpenedSets.{low-is, last-is, first-low, opens-yes}
+use Rattle.reader_steps.specs.Sets.{ahead}
+use Rattle.reader_steps.specs.Places.{hasCells, Spot, spot, dive}
+use Rattle.reader_steps.proofs.OpenedSets.{low-is, last-is, first-low, opens-yes}
 
 -- at level k: the sides, the number and the row that are looked at, and where the search, which is for q, goes on
 pub record Down (f L w₀ h₀ k wx w hy h n r : ℕ) (q : Spot) : Type 0 where

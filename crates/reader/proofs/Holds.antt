@@ -23,22 +23,23 @@ use Rattle.wavelet.specs.Order.{firstSet, lastSet, setRow, setHas}
 use Rattle.nine_seven.specs.Filters.{filterOf}
 use Rattle.filters.specs.Back.{backOf, standsOf}
 use Rattle.filters.proofs.BackLaws.{back-ahead, back-laws}
-use Rattle.reader.specs.Sets.{ahead, hasRow, rowOf, taking, needed, firstRow, makes, waiting, waitsAt}
-use Rattle.reader.specs.Asked.{keptAt, asked, bandsFrom, those, look, firstCode, nextBand, named}
+use Rattle.reader_steps.specs.Sets.{ahead, hasRow, rowOf, taking, needed, firstRow, makes, waiting, waitsAt}
+use Rattle.reader_steps.specs.Asked.{keptAt, asked, bandsFrom, those, look, firstCode, nextBand, named}
 use Rattle.reader.specs.Rebuilt.{Rows, bandsBy, rebuilt, bandsAt, partAt, SetFits, SetsFit}
-use Rattle.reader.specs.Holds.{Tested, M, Ready, FeedDue}
+use Rattle.reader_steps.specs.Places.{Ready, hasCells, Spot, spot, bandAt, lastOfSet, nextUp, past, beyond, dive, begins, enter}
+use Rattle.reader.specs.Holds.{Tested, M, FeedDue}
 use Rattle.level.specs.Tried.{Tried, passed, bind, onto}
 use Rattle.level.specs.Stands.{SetHasBy, SetFitsBy}
-use Rattle.reader.specs.Store.{stretchAt, from, behind, hasCells, fedAt, workedAt, hasSet}
-use Rattle.reader.specs.Machine.{Spot, spot, bandAt, lastOfSet, nextUp, settled, finished, past, beyond, fedOn, dive, begins, enter}
-use Rattle.reader.proofs.Looks.{named-code, code-lt, first-le}
-use Rattle.reader.proofs.OpenedSets.{last-is, first-low, low-is, side-long, odd-first, makes-yes, makes-not, row-makes, row-next, opens-yes}
-use Rattle.reader.proofs.OpenedSets.{opened-row, row-taking, taking-row, taking-has, needed-next, needed-on, needed-from}
-use Rattle.reader.proofs.OpenedSets.{waits-here, waits-finer, waiting-row}
-use Rattle.reader.proofs.CellLaws.{cells-yes, cells-are, cells-before, no-low}
-use Rattle.reader.proofs.ReadyLaws.{ready-up}
-use Rattle.reader.proofs.StepsLeft.{last-none, begins-is}
-use Rattle.level.proofs.SetMade.{Outcome, stops, goes, bind-outcome}
+use Rattle.reader.specs.Store.{stretchAt, from, behind, fedAt, workedAt, hasSet}
+use Rattle.reader.specs.Machine.{settled, finished, fedOn}
+use Rattle.reader_steps.proofs.Looks.{named-code, code-lt, first-le}
+use Rattle.reader_steps.proofs.OpenedSets.{last-is, first-low, low-is, side-long, odd-first, makes-yes, makes-not, row-makes, row-next, opens-yes}
+use Rattle.reader_steps.proofs.OpenedSets.{opened-row, row-taking, taking-row, taking-has, needed-next, needed-on, needed-from}
+use Rattle.reader_steps.proofs.OpenedSets.{waits-here, waits-finer, waiting-row}
+use Rattle.reader_steps.proofs.CellLaws.{cells-yes, cells-are, cells-before, no-low}
+use Rattle.reader_steps.proofs.ReadyLaws.{ready-up}
+use Rattle.reader_steps.proofs.StepsLeft.{last-none, begins-is}
+use Rattle.level.proofs.TriedRows.{Outcome, stops, goes, bind-outcome}
 use Rattle.wavelet.proofs.StepLaws.{set-there, before-zero, before-suc}
 use Rattle.wavelet.specs.Steps.{setOf, setsBefore}
 use Rattle.level.specs.Sets.{opens}

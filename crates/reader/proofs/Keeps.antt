@@ -20,18 +20,18 @@ use Rattle.reader.specs.declared.Reader.{Reader}
 use Rattle.reader.specs.Answers.{Reply, gives, refused, impossible, Handed, aRow, nothing}
 use Rattle.reader.specs.Rebuilt.{Rows, partAt}
 use Rattle.level.specs.Tried.{Tried, failed, passed, fits, memory}
-use Rattle.reader.specs.Sets.{ahead, needed, waitsAt}
-use Rattle.reader.specs.Machine.{Spot, spot, Place, place, placeOf, spotFed, beyond, dive, enter}
+use Rattle.reader_steps.specs.Sets.{ahead, needed, waitsAt}
+use Rattle.reader_steps.specs.Places.{Spot, spot, Place, place, placeOf, spotFed, beyond, dive, enter, Ready}
 use Rattle.reader.specs.State.{columns, next, nextRow, nextLength, settles, feeds, drawDue, fedReader, drawnReader, endedReader}
 use Rattle.reader.specs.Questions.{countsFit, storeFits, setUpQuestion, feedQuestion, drawQuestion}
 use Rattle.lifting.specs.Halves.{fronted}
 use Rattle.reader.specs.Calls.{fresh, setUpReply, setUpStore, feedReply, feedStore, storeAfter, drawReply, drawStore, drawArea, heightRow}
-use Rattle.reader.specs.Holds.{Ready, Holds, FeedDue, WantedFits, DrawnFits, IsWanted, SetUpHolds, FeedKeeps, DrawKeeps}
-use Rattle.reader.proofs.Looks.{named-code}
-use Rattle.reader.proofs.StepsLeft.{stepsLeft}
-use Rattle.level.proofs.SetMade.{Outcome}
+use Rattle.reader.specs.Holds.{Holds, FeedDue, WantedFits, DrawnFits, IsWanted, SetUpHolds, FeedKeeps, DrawKeeps}
+use Rattle.reader_steps.proofs.Looks.{named-code}
+use Rattle.reader_steps.proofs.StepsLeft.{stepsLeft}
+use Rattle.level.proofs.TriedRows.{Outcome}
 use Rattle.reader.proofs.Holds.{NextFits, Held, HeldAt, first-holds, enter-holds}
-use Rattle.reader.proofs.ReadyLaws.{ready-back, ready-beyond, ready-enter}
+use Rattle.reader_steps.proofs.ReadyLaws.{ready-back, ready-beyond, ready-enter}
 use Rattle.reader.proofs.CallViews.{Limits, here, at, nextOf, nameOf, Due, view, FeedView, feed-away, feed-onward, feed-view}
 use Rattle.reader.proofs.CallViews.{DrawView, draw-away, draw-idle, draw-onward}
 use Rattle.reader.proofs.CallViews.{draw-view}

@@ -1,38 +1,41 @@
 -- What working out a set, and a row fed, leave as it was: every place past what the levels need. Assumes nothing.
 use mathlib.Core.Path.{_≡_, sym, ap, _∙_}
 use mathlib.Core.List.{List}
-use Prim.Native.Nat.{ℕ, _+_, _-_, _*_, _<_}
+use Prim.Native.Nat.{ℕ, _+_, _-_, _*_, _≤_, _<_}
 use native.Mathlib.Omega.{arith}
 use native.Mathlib.Numerals.{add-one}
 use lib.IntN.{ℤ}
 use lib.ListN.{length}
 use borrow.Rule.Slice.PartMut.{midOf, putMid}
 use Rattle.numbers.specs.Signal.{at}
-use Rattle.numbers.proofs.Parts.{splice-past}
+use Rattle.numbers.proofs.Parts.{length-mid, splice-past}
 use Rattle.lifting.specs.Grid.{Side, count}
 use Rattle.wavelet.specs.Bands.{across, down}
 use Rattle.wavelet.specs.Levels.{sideAt}
-use Rattle.level.specs.Slots.{rowOfSet, halfPlace}
+use Rattle.level.specs.Stretch.{rowOfSet, halfPlace}
 use Rattle.level.specs.Rebuilding.{Kept}
 use Rattle.level.proofs.RowsIn.{half-end}
 use Rattle.nine_seven.specs.Filters.{filterOf}
-use Rattle.filters.specs.Figures.{storeBy}
+use Rattle.figures.specs.Figures.{storeBy}
 use Rattle.filters.specs.Back.{rowPlaceOf}
 use Rattle.filters.proofs.BackLaws.{back-feed, place-room}
 use Rattle.reader.specs.declared.walk.Level.{Level}
-use Rattle.reader.specs.Asked.{named}
+use Rattle.reader_steps.specs.Asked.{named}
 use Rattle.reader.specs.Store.{stretchAt, from, fedAt}
 use Rattle.reader.specs.Inside.{IsLevel}
 use Rattle.reader.proofs.StoreLaws.{stretch-suc, stretch-is}
 use Rattle.reader.proofs.PartLaws.{behind-past, from-at, at-rest, at-put-rest, work-room}
 
 -- ---- the stretch within the store
-pub part-kept : (f : ℕ) (W H : Side) (d k L : ℕ) (l : Level) (is : IsLevel f W H d k l) (n : ℕ) (s ys : List ℤ) → k < L → l .start + n ≡ length s →
-    length ys ≡ n →
-    Kept (filterOf f .rows * l .width) (at (midOf (l .start) n s)) (at ys) → Kept (storeBy f W L) (at s) (at (putMid (l .start) n s ys))
-part-kept f W H d k L l is n s ys h whole long a =
+pub part-kept : (f : ℕ) (W H : Side) (d k L : ℕ) (l : Level) (is : IsLevel f W H d k l) (s ys : List ℤ) → k < L → storeBy f W L ≤ length s →
+    length ys ≡ length (midOf (l .start) (length s - l .start) s) → Kept (filterOf f .rows * l .width) (at (midOf (l .start) (length s - l .start) s)) (at ys) →
+    Kept (storeBy f W L) (at s) (at (putMid (l .start) (length s - l .start) s ys))
+part-kept f W H d k L l is s ys h enough same a =
     let room = work-room f W H d k l is L h in
     let b = l .start in
+    let n = length s - b in
+    let whole : b + n ≡ length s = omega arith in
+    let long = same ∙ length-mid b n s (omega arith) in
     record {
       same = λ j le.
           let back : b + (j - b) ≡ j = omega arith in

@@ -1,7 +1,4 @@
 pub mod RangeLaws
-pub mod OpenedSets
-pub mod Looks
-pub mod CellLaws
 pub mod SetLaws
 pub mod BandLaws
 pub mod StoreLaws
@@ -11,8 +8,6 @@ pub mod WalkLaws
 pub mod EnterLaws
 pub mod StepLaws
 pub mod QuestionLaws
-pub mod ReadyLaws
-pub mod StepsLeft
 pub mod Holds
 pub mod CallLaws
 pub mod CallViews

@@ -17,15 +17,16 @@ use Rattle.wavelet.specs.View.{bandColumns}
 use Rattle.areas.specs.Areas.{height16}
 use Rattle.areas.proofs.HeightLaws.{height-kept}
 use Rattle.nine_seven.specs.Filters.{filterOf}
-use Rattle.reader.specs.Asked.{keptAt}
+use Rattle.reader_steps.specs.Asked.{keptAt}
 use Rattle.reader.specs.Rebuilt.{Rows, bandsBy, rebuilt, bandsAt, partAt}
 use Rattle.level.specs.Tried.{failed, passed, bind}
-use Rattle.reader.specs.Machine.{Spot, Place, settled, fedOn, beyond}
-use Rattle.reader.specs.Holds.{Ready, FeedDue}
+use Rattle.reader_steps.specs.Places.{Spot, Place, beyond, Ready}
+use Rattle.reader.specs.Machine.{settled, fedOn}
+use Rattle.reader.specs.Holds.{FeedDue}
 use Rattle.reader.specs.State.{next, settles, feeds}
 use Rattle.reader.specs.Calls.{heightRow}
-use Rattle.level.proofs.SetMade.{Outcome, stops, goes, bind-outcome}
-use Rattle.reader.proofs.CellLaws.{asked-has}
+use Rattle.level.proofs.TriedRows.{Outcome, stops, goes, bind-outcome}
+use Rattle.reader_steps.proofs.CellLaws.{asked-has}
 use Rattle.reader.proofs.Holds.{by-outcome, Held, HeldAt, HeldNext, NextFits, FedHeld, settle-holds, fed-holds, height-made, height-fit}
 use Rattle.reader.proofs.CallViews.{here, at, nextOf, nameOf, Due}
 

@@ -1,7 +1,7 @@
 -- A level's stretch of the store, lent and come back: as signals, from place a on. Assumes nothing.
 use mathlib.Core.Path.{_≡_, refl, sym, ap, ap₂, _∙_, fun-ext}
 use mathlib.Core.List.{List}
-use mathlib.Core.Bool.{Bool, true, false, _||_}
+use mathlib.Core.Bool.{Bool, true, false}
 use Prim.Native.Nat.{ℕ, suc, _+_, _-_, _*_, _≤_, _<_, _^_}
 use native.Mathlib.Decide.{decLt, ℕ-discrete}
 use native.Mathlib.Omega.{arith}
@@ -10,9 +10,13 @@ use native.Mathlib.Nat.{mul-zero}
 use lib.IntN.{ℤ, pos}
 use lib.Dec.{eqb, leb}
 use lib.ListN.{length, List·getD-eq-default}
-use borrow.Author.Tests.{lt-ltb, le-ltb, eq-eqb, ne-eqb, lt-leb, le-leb}
+use borrow.Author.Tests.{lt-ltb, le-ltb, eq-eqb, ne-eqb, leb-true, le-leb}
+use mir.Syntax.{w64}
+use mir.Val.{Fits}
 use borrow.Rule.Slice.PartMut.{midOf, putMid}
-use Rattle.numbers.specs.Signal.{at, pick, spliced, both}
+use Rattle.numbers.specs.Signal.{at, pick, spliced}
+use Rattle.numbers.proofs.Sweep.{both as halves}
+use Rattle.numbers.proofs.Parts.{length-mid}
 use Rattle.numbers.proofs.Parts.{window-in, window-past, splice-below, splice-in, splice-past, at-mid, at-put}
 use Rattle.lifting.specs.Line.{lo}
 use Rattle.lifting.specs.Grid.{Side, side, count}
@@ -21,21 +25,23 @@ use Rattle.wavelet.specs.Bands.{across, down}
 use Rattle.wavelet.specs.Levels.{sideAt}
 use Rattle.wavelet.specs.Order.{lastSet}
 use Rattle.wavelet.proofs.SideLaws.{length-suc, size-le}
-use Rattle.areas.proofs.AreaLaws.{front-at}
-use Rattle.level.specs.Tried.{Tried, passed, outcome, onto}
-use Rattle.level.specs.Slots.{rowOfSet, halfPlace}
+use Rattle.wavelet.specs.Limits.{maxLevels}
+use Rattle.areas.proofs.AreaLaws.{front-at, did}
+use Rattle.level.specs.Tried.{Tried, passed, failed, outcome, onto}
+use Rattle.level.specs.Stretch.{rowOfSet, halfPlace}
 use Rattle.level.proofs.RowsIn.{half-end}
 use Rattle.nine_seven.specs.Filters.{filterOf}
-use Rattle.filters.specs.Back.{backOf, rowPlaceOf}
-use Rattle.filters.proofs.BackLaws.{back-feed, place-room}
-use Rattle.filters.specs.Figures.{storeBy}
+use Rattle.filters.specs.Back.{backOf, workableOf, rowPlaceOf}
+use Rattle.filters.proofs.BackLaws.{back-feed, place-room, workable-of}
+use Rattle.figures.proofs.FigureLaws.{levels-most}
+use Rattle.figures.specs.Figures.{storeBy}
 use Rattle.reader.specs.declared.walk.Level.{Level}
-use Rattle.reader.specs.Asked.{named}
-use Rattle.reader.specs.Store.{stretchAt, from, behind, fedAt, workedAt, hasSet, hasCells}
+use Rattle.reader_steps.specs.Asked.{named}
+use Rattle.reader_steps.specs.Places.{hasCells}
+use Rattle.reader.specs.Store.{stretchAt, from, behind, fedAt, workedAt, hasSet}
 use Rattle.reader.specs.Inside.{IsLevel}
-use Rattle.reader.proofs.SetLaws.{none-of}
 use Rattle.reader.proofs.StoreLaws.{stretch-suc, stretch-in, stretch-is, stretch-small}
-use Rattle.reader.proofs.CellLaws.{Empty, empty-not, cells-yes}
+use Rattle.reader_steps.proofs.CellLaws.{cells-are}
 
 module _ (a : ℕ) (x y : ℕ → ℤ) (j : ℕ) where
   pub behind-below : j < a → behind a x y j ≡ x j
@@ -110,7 +116,7 @@ pub level-high : (f : ℕ) (W H : Side) (d k : ℕ) (l : Level) → IsLevel f W 
 level-high f W H d k l is = ap₂ side (is .y) (is .height)
 
 -- ---- a band row put
-pub put-is : (f : ℕ) (W H : Side) (d k c : ℕ) (l : Level) (a p m : ℕ) (v : List ℤ) (s ys : List ℤ) → IsLevel f W H d k l →
+put-is : (f : ℕ) (W H : Side) (d k c : ℕ) (l : Level) (a p m : ℕ) (v : List ℤ) (s ys : List ℤ) → IsLevel f W H d k l →
     p ≡ rowPlaceOf f (l .width) (rowOfSet (down (named c)) (l .set)) + halfPlace (across (named c)) (side (l .x) (l .width)) → a ≡ l .start + p → m ≡ length v →
     length v ≡ count (across (named c)) (sideAt k W) → a + m ≤ length s → length ys ≡ m → at ys ≡ fronted (length v) (at v) (at (midOf a m s)) →
     at (putMid a m s ys) ≡ fedAt f W H k (l .set) c (at v) (at s)
@@ -136,38 +142,31 @@ unfolding onto
 onto-outcome f true y = refl
 onto-outcome f false y = refl
 
--- an empty level
-pub work-empty : (f : ℕ) (W H : Side) (L d k : ℕ) (l : Level) (x : ℕ → ℤ) → IsLevel f W H d k l → Empty (sideAt k W) (sideAt k H) →
-    passed x ≡ workedAt f W H L k (l .set) x
-unfolding workedAt hasSet
-work-empty f W H L d k l x is e = rw (empty-not (sideAt k W) (sideAt k H) e) refl
+-- a set that the level does not have, and one that it has
+pub work-none : (f : ℕ) (W H : Side) (L d k : ℕ) (l : Level) (x : ℕ → ℤ) → IsLevel f W H d k l →
+    hasSet (side (l .x) (l .width)) (side (l .y) (l .height)) (l .set) ≡ false → passed x ≡ workedAt f W H L k (l .set) x
+unfolding workedAt
+work-none f W H L d k l x is e =
+    let none : hasSet (sideAt k W) (sideAt k H) (l .set) ≡ false =
+    ap₂ (λ (A B : Side). hasSet A B (l .set)) (sym (level-wide f W H d k l is)) (sym (level-high f W H d k l is)) ∙ e in
+    sym (ap (λ (t : Bool). pick t (onto (behind (stretchAt f W k) x)
+    (backOf f .work (eqb (suc k) L) k (sideAt k W) (sideAt k H) (l .set) (from (stretchAt f W k) x))) (passed x)) none)
 
--- a set after the last
-pub work-late : (f : ℕ) (W H : Side) (L d k : ℕ) (l : Level) (x : ℕ → ℤ) (n : ℕ) → IsLevel f W H d k l → n ≡ lastSet (side (l .y) (l .height)) → n < l .set →
-    passed x ≡ workedAt f W H L k (l .set) x
-unfolding workedAt hasSet
-work-late f W H L d k l x n is e h = sym (ap (λ (t : Bool). pick t (onto (behind (stretchAt f W k) x)
-    (backOf f .work (eqb (suc k) L) k (sideAt k W) (sideAt k H) (l .set) (from (stretchAt f W k) x))) (passed x)) (go (hasCells (sideAt k W) (sideAt k H))))
-  where
-    last : lastSet (sideAt k H) < l .set
-    last = rw (← level-high f W H d k l is) (omega (arith, e, h))
+set-parts : (W H : Side) (n : ℕ) → hasSet W H n ≡ true → (0 < H .length) × (n ≤ lastSet H)
+unfolding hasSet
+set-parts W H n e =
+    let a = halves (hasCells W H) _ e in
+    (cells-are W H (a .0) .1, leb-true n (lastSet H) (a .1))
 
-    go : (t : Bool) → both t (leb (l .set) (lastSet (sideAt k H))) ≡ false
-    go true = lt-leb (l .set) (lastSet (sideAt k H)) last
-    go false = refl
-
-pub work-is : (f : ℕ) (W H : Side) (L d k : ℕ) (l : Level) (a n : ℕ) (s ys : List ℤ) (ok : Bool) → IsLevel f W H d k l → 0 < l .width → 0 < l .height →
-    l .set ≤ lastSet (side (l .y) (l .height)) → a ≡ l .start →
-    a + n ≡ length s → length ys ≡ n →
+work-is : (f : ℕ) (W H : Side) (L d k : ℕ) (l : Level) (a n : ℕ) (s ys : List ℤ) (ok : Bool) → IsLevel f W H d k l →
+    hasSet (side (l .x) (l .width)) (side (l .y) (l .height)) (l .set) ≡ true → a ≡ l .start → a + n ≡ length s → length ys ≡ n →
     outcome ok (at ys) ≡ backOf f .work (eqb (k + 1) L) k (side (l .x) (l .width)) (side (l .y) (l .height)) (l .set) (at (midOf a n s)) →
     outcome ok (at (putMid a n s ys)) ≡ workedAt f W H L k (l .set) (at s)
-unfolding workedAt hasSet
-work-is f W H L d k l a n s ys ok is wide high last ea whole long made =
+unfolding workedAt
+work-is f W H L d k l a n s ys ok is there ea whole long made =
     let place : a ≡ stretchAt f W k = ea ∙ is .start in
-    let cells = cells-yes (sideAt k W) (sideAt k H) (omega (arith, is .width)) (omega (arith, is .height)) in
-    let there : l .set ≤ lastSet (sideAt k H) = rw (← level-high f W H d k l is) last in
-    let has : both (hasCells (sideAt k W) (sideAt k H)) (leb (l .set) (lastSet (sideAt k H))) ≡ true =
-    rw (cells, le-leb (l .set) (lastSet (sideAt k H)) there) refl in
+    let has : hasSet (sideAt k W) (sideAt k H) (l .set) ≡ true =
+    ap₂ (λ (A B : Side). hasSet A B (l .set)) (sym (level-wide f W H d k l is)) (sym (level-high f W H d k l is)) ∙ there in
     let worked : Tried = onto (behind (stretchAt f W k) (at s)) (backOf f .work (eqb (suc k) L) k (sideAt k W) (sideAt k H) (l .set)
     (from (stretchAt f W k) (at s))) in
     ap (outcome ok) (at-put-rest a n s whole ys long)
@@ -199,7 +198,7 @@ module _ (f : ℕ) (W H : Side) (d k : ℕ) (l : Level) (is : IsLevel f W H d k 
       l .start + (filterOf f .rows * l .width + filterOf f .rows * pick (eqb (k + 1) L) 0 (count lo (side (l .x) (l .width)))) ≤ storeBy f W L
   work-room L h = rw (is .start, is .width, is .x, ← stretch-is f W L) (stretch-room f W k L h)
 
-  pub put-room : (c p n : ℕ) → p ≡ rowPlaceOf f (l .width) (rowOfSet (down (named c)) (l .set)) + halfPlace (across (named c)) (side (l .x) (l .width)) →
+  put-room : (c p n : ℕ) → p ≡ rowPlaceOf f (l .width) (rowOfSet (down (named c)) (l .set)) + halfPlace (across (named c)) (side (l .x) (l .width)) →
       n ≡ count (across (named c)) (sideAt k W) → l .start + p + n ≤ storeBy f W (k + 1)
   put-room c p n ep en =
       let S = side (l .x) (l .width) in
@@ -208,7 +207,57 @@ module _ (f : ℕ) (W H : Side) (d k : ℕ) (l : Level) (is : IsLevel f W H d k 
       let columns : n ≡ count (across (named c)) S = en ∙ ap (count (across (named c))) (sym (level-wide f W H d k l is)) in
       rw (← stretch-is f W (k + 1), add-one k, stretch-suc f W k, ← is .width) (omega (arith, is .start, place-room f (l .width) r))
 
--- ---- a level as the code has it: without cells, and at one of its sets
-pub level-none : (f : ℕ) (W H : Side) (d k : ℕ) (l : Level) → IsLevel f W H d k l → eqb (l .width) 0 || eqb (l .height) 0 ≡ true →
-    Empty (sideAt k W) (sideAt k H)
-level-none f W H d k l is e = none-of (sideAt k W) (sideAt k H) (rw (is .width, is .height) at e)
+  -- ---- a band row put at its place p of its level's stretch, in a store of m numbers
+  pub put-places : (c p n m : ℕ) → W .length ≤ 2 ^ 16 → k < maxLevels →
+      p ≡ rowPlaceOf f (l .width) (rowOfSet (down (named c)) (l .set)) + halfPlace (across (named c)) (side (l .x) (l .width)) →
+      n ≡ count (across (named c)) (sideAt k W) → storeBy f W (k + 1) ≤ m →
+      Fits w64 (l .start + p) × Fits w64 (l .start + p + n) × Fits w64 ((l .start + p) * 4) × (l .start + p ≤ l .start + p + n) × (l .start + p + n ≤ m)
+  unfolding maxLevels
+  put-places c p n m wide deep ep en enough =
+      let room = put-room c p n ep en in
+      let all = stretch-is f W (k + 1) in
+      let small = stretch-small f W (k + 1) wide in
+      (omega arith, omega arith, omega arith, omega arith, omega arith)
+
+  pub put-done : (c p : ℕ) (v s ys : List ℤ) → W .length ≤ 2 ^ 16 → k < maxLevels →
+      p ≡ rowPlaceOf f (l .width) (rowOfSet (down (named c)) (l .set)) + halfPlace (across (named c)) (side (l .x) (l .width)) →
+      length v ≡ count (across (named c)) (sideAt k W) → storeBy f W (k + 1) ≤ length s →
+      length ys ≡ length (midOf (l .start + p) (l .start + p + length v - (l .start + p)) s) →
+      at ys ≡ pick (leb (length v) (length (midOf (l .start + p) (l .start + p + length v - (l .start + p)) s)))
+      (fronted (length v) (at v) (at (midOf (l .start + p) (l .start + p + length v - (l .start + p)) s)))
+      (at (midOf (l .start + p) (l .start + p + length v - (l .start + p)) s)) →
+      at (putMid (l .start + p) (l .start + p + length v - (l .start + p)) s ys) ≡ fedAt f W H k (l .set) c (at v) (at s)
+  put-done c p v s ys wide deep ep en enough same made =
+      let a = l .start + p in
+      let m = a + length v - a in
+      let size : m ≡ length v = omega arith in
+      let room : a + m ≤ length s = omega (arith, put-places c p (length v) (length s) wide deep ep en enough .4) in
+      let long = length-mid a m s room in
+      let enough = le-leb (length v) (length (midOf a m s)) (omega arith) in
+      put-is f W H d k c l a p m v s ys is ep refl size en room (same ∙ long) (did _ _ _ _ enough made)
+
+-- ---- a set worked out in the rest of the store from its level's stretch on: the places, and what is left
+module _ (f : ℕ) (W H : Side) (L d k : ℕ) (l : Level) (s : List ℤ) (is : IsLevel f W H d k l) (small : (W .length ≤ 2 ^ 16) × (H .length < 2 ^ 32))
+    (deep : L ≤ filterOf f .levels) (in-map : k < L) (room : storeBy f W L ≤ length s) where
+  pub work-places : Fits w64 (l .start * 4) × (l .start ≤ length s) × Fits w64 (k + 1)
+  unfolding maxLevels
+  work-places =
+      let most = levels-most f in
+      (omega (arith, level-in f W H d k l is (small .0) (small .1) .0), omega (arith, work-room f W H d k l is L in-map), omega arith)
+
+  pub work-done : (ys : List ℤ) (ok : Bool) → hasSet (side (l .x) (l .width)) (side (l .y) (l .height)) (l .set) ≡ true →
+      length ys ≡ length (midOf (l .start) (length s - l .start) s) →
+      outcome ok (at ys) ≡
+      pick (workableOf f (eqb (k + 1) L) k (side (l .x) (l .width)) (side (l .y) (l .height)) (l .set) (length (midOf (l .start) (length s - l .start) s)))
+      (backOf f .work (eqb (k + 1) L) k (side (l .x) (l .width)) (side (l .y) (l .height)) (l .set) (at (midOf (l .start) (length s - l .start) s))) failed →
+      outcome ok (at (putMid (l .start) (length s - l .start) s ys)) ≡ workedAt f W H L k (l .set) (at s)
+  work-done ys ok there same made =
+      let has = set-parts (side (l .x) (l .width)) (side (l .y) (l .height)) (l .set) there in
+      let own = work-room f W H d k l is L in-map in
+      let n = length s - l .start in
+      let whole : l .start + n ≡ length s = omega arith in
+      let long = length-mid (l .start) n s (omega arith) in
+      let here = level-in f W H d k l is (small .0) (small .1) in
+      let can = workable-of f (eqb (k + 1) L) k (side (l .x) (l .width)) (side (l .y) (l .height)) (l .set) (length (midOf (l .start) n s))
+      (omega arith) (here .1) (omega (arith, here .2)) (has .0) (has .1) (omega arith) in
+      work-is f W H L d k l (l .start) n s ys ok is there refl whole (same ∙ long) (did _ _ _ _ can made)

@@ -37,8 +37,8 @@ use Rattle.reader.specs.Demand3.{final, freshWorld, goesOn, rest, leftBy
 use Rattle.reader.specs.Demand3.{IsRow, HasFed, wantSays, feedTurned, drawSays, OneOf, this, that, Draws, Demand3}
 use Rattle.reader.specs.Demand3 as demand
 use Rattle.reader.specs.Played.{asWanted, answering, played, Sized, HasAll, Back, Stopped, Refusal, seven, fed-fourteen, drawn-fourteen, after, Played}
-use Rattle.reader.proofs.Looks.{named-code}
-use Rattle.reader.specs.Sets.{ahead}
+use Rattle.reader_steps.proofs.Looks.{named-code}
+use Rattle.reader_steps.specs.Sets.{ahead}
 use Rattle.reader.proofs.Reached.{namesOf}
 use Rattle.reader.proofs.Rebuilt.{same-name, same-self}
 use Rattle.reader.proofs.Demand3.{left-append, fed-append, done-only, demand-3}

@@ -15,14 +15,14 @@ use Rattle.wavelet.proofs.LimitLaws.{width-small, height-small, origin-small}
 use Rattle.wavelet.proofs.QuestionLaws.{within-true, within-yes}
 use Rattle.wavelet.proofs.StoreLaws.{store-most}
 use Rattle.nine_seven.specs.Filters.{filterOf, isFilter}
-use Rattle.filters.specs.Figures.{storeBy, anyBy, streamable}
-use Rattle.filters.proofs.FigureLaws.{levels-most}
+use Rattle.figures.specs.Figures.{storeBy, anyBy, streamable}
+use Rattle.figures.proofs.FigureLaws.{levels-most}
 use Rattle.calls.proofs.QuestionLaws.{asked-yes}
 use Rattle.reader.proofs.StoreLaws.{length-is}
 use Rattle.reader.specs.declared.Reader.{Reader}
 use Rattle.reader.specs.State.{columns, rows, next, nextLength, unfinished, rowDue, drawDue}
 use Rattle.reader.specs.Questions.{countsFit, storeFits, runFits, setUpQuestion}
-use Rattle.reader.specs.Sets.{ahead}
+use Rattle.reader_steps.specs.Sets.{ahead}
 use Rattle.reader.specs.Inside.{Counts, Small, storeQuestion, rowQuestion}
 
 -- the length that the code asks for, 0 outside the limits

@@ -33,13 +33,12 @@ use Rattle.nine_seven.specs.Filters.{filterOf}
 use Rattle.reader.specs.declared.Reader.{Reader}
 use Rattle.level.specs.Sets.{opens}
 use Rattle.level.specs.Stands.{SetHasBy}
-use Rattle.reader.specs.Sets.{ahead, hasRow, rowOf, needed, makes, waiting}
-use Rattle.reader.specs.Asked.{keptAt}
+use Rattle.reader_steps.specs.Sets.{ahead, hasRow, rowOf, needed, makes, waiting}
+use Rattle.reader_steps.specs.Asked.{keptAt}
 use Rattle.reader.specs.Rebuilt.{Rows, bandsAt, partAt}
-use Rattle.reader.specs.Store.{hasCells}
+use Rattle.reader_steps.specs.Places.{hasCells, Spot, spot, Place, placeOf, lastOfSet, spotFed, past, beyond, dive, begins, enter, Ready}
 use Rattle.level.specs.Tried.{Tried, failed, passed, fits, memory}
-use Rattle.reader.specs.Machine.{Spot, spot, Place, placeOf, lastOfSet, spotFed, past, beyond, dive, begins, enter}
-use Rattle.reader.specs.Holds.{Ready, FeedDue}
+use Rattle.reader.specs.Holds.{FeedDue}
 use Rattle.reader.specs.State as state
 use Rattle.reader.specs.State.{settles, feeds, drawDue, fedReader, drawnReader, endedReader}
 use Rattle.reader.specs.Questions.{runFits, feedQuestion, drawQuestion}
@@ -47,11 +46,11 @@ use Rattle.reader.specs.Calls.{feedReply, feedStore, storeAfter, drawRep
 use Rattle.reader.specs.Demand3.{Call, want, feed, draw, Event, fed, drew, World, event, goesOn, leftBy, ends, FedRow, fedAs, fedBy, drawnBy, said}
 use Rattle.reader.specs.Demand3.{given, leaves, drawnTo, HasFedRow}
 use Rattle.reader.specs.Demand3 as demand
-use Rattle.reader.proofs.Looks.{code-lt}
-use Rattle.reader.proofs.CellLaws.{asked-has, has-row}
-use Rattle.reader.proofs.ReadyLaws.{ready-beyond, ready-enter, ready-back, enter-end}
-use Rattle.reader.proofs.StepsLeft.{stepsLeft, left-done}
-use Rattle.level.proofs.SetMade.{Outcome}
+use Rattle.reader_steps.proofs.Looks.{code-lt}
+use Rattle.reader_steps.proofs.CellLaws.{asked-has, has-row}
+use Rattle.reader_steps.proofs.ReadyLaws.{ready-beyond, ready-enter, ready-back, enter-end}
+use Rattle.reader_steps.proofs.StepsLeft.{stepsLeft, left-done}
+use Rattle.level.proofs.TriedRows.{Outcome}
 use Rattle.reader.proofs.Holds.{Live, Fits, NextFits, Held, HeldAt, enter-holds, height-fit, sets-fitting, due-fitting, sets-tested}
 use Rattle.reader.proofs.Outcomes.{outcome-failed, outcome-passed, settles-outcome, feeds-outcome, row-out}
 use Rattle.reader.proofs.CallViews.{Limits, here, at, nextOf, nameOf, Due, View, view, FeedView, feed-away, feed-onward, feed-view}

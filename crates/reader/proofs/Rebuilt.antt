@@ -29,12 +29,12 @@ use Rattle.calls.specs.Lists.{All, all-none, all-more}
 use Rattle.calls.proofs.AllLaws.{In, first, later}
 use Rattle.nine_seven.specs.Filters.{filterOf}
 use Rattle.nine_seven.proofs.Filters.{filter-laws}
-use Rattle.reader.specs.Asked.{named}
+use Rattle.reader_steps.specs.Asked.{named}
 use Rattle.reader.specs.Rebuilt.{Rows, bandsBy, rebuilt, bandsAt, partAt}
-use Rattle.reader.specs.Store.{hasCells}
+use Rattle.reader_steps.specs.Places.{hasCells}
 use Rattle.reader.specs.Demand3.{FedRow}
-use Rattle.reader.proofs.Looks.{named-code}
-use Rattle.reader.proofs.CellLaws.{Empty, wide, high, cells-not}
+use Rattle.reader_steps.proofs.Looks.{named-code}
+use Rattle.reader_steps.proofs.CellLaws.{Empty, wide, high, cells-not}
 use Rattle.reader.proofs.Reached.{namesOf, Good}
 
 -- ---- the rows of a map

@@ -3,7 +3,9 @@ use mathlib.Core.Path.{_≡_, refl, sym, ap, ap₂, subst, _∙_}
 use mathlib.Core.Bool.{Bool, true, false, _||_}
 use Prim.Native.Nat.{ℕ, zero, suc, _+_, _-_, _*_, _/_, _%_, min, _≤_, _<_, _^_}
 use native.Mathlib.Omega.{arith}
-use lib.Dec.{T, ltb, eqb}
+use lib.Dec.{T, leb, ltb, eqb}
+use mir.Syntax.{w64}
+use mir.Val.{Fits}
 use borrow.Author.Tests.{eqb-true, eqb-false}
 use Rattle.numbers.specs.Signal.{both}
 use Rattle.lifting.specs.Line.{lo, hi}
@@ -14,12 +16,13 @@ use Rattle.wavelet.specs.Steps.{setTo, setOf, setsBefore}
 use Rattle.wavelet.proofs.StepLaws.{to-first, to-later, set-of, before-suc}
 use Rattle.nine_seven.specs.Filters.{filterOf}
 use Rattle.level.specs.Sets.{opens}
-use Rattle.level.specs.Slots.{rowOfSet, halfPlace}
-use Rattle.reader.specs.Sets.{ahead, rowTo, firstRow}
-use Rattle.reader.specs.Asked.{named}
-use Rattle.reader.specs.Store.{hasCells}
-use Rattle.reader.proofs.OpenedSets.{looks}
-use Rattle.reader.proofs.CellLaws.{Empty, wide, high, empty-not, cells-yes}
+use Rattle.level.specs.Stretch.{rowOfSet, halfPlace}
+use Rattle.reader_steps.specs.Sets.{ahead, rowTo, firstRow}
+use Rattle.reader_steps.specs.Asked.{named}
+use Rattle.reader_steps.specs.Places.{hasCells}
+use Rattle.reader.specs.Store.{hasSet}
+use Rattle.reader_steps.proofs.OpenedSets.{looks}
+use Rattle.reader_steps.proofs.CellLaws.{Empty, wide, high, empty-not, cells-yes}
 
 -- ---- the set of a row, as the code finds it
 ahead-small : (f : ℕ) → ahead f ≤ 2 ^ 16
@@ -36,15 +39,35 @@ set-first f S r e =
     let u : setTo (ahead f) (S .start % 2 + r) ≡ 0 = ap (setTo (ahead f)) e ∙ to-first (ahead f) in
     omega (arith, set-of (ahead f) S r, u)
 
-pub set-later : (f : ℕ) (S : Side) (r a b : ℕ) → 0 < S .start % 2 + r → a ≡ (S .start % 2 + r - 1) / 2 + ahead f → b ≡ lastSet S → min a b ≡ setOf (ahead f) S r
-set-later f S r a b p ea eb =
-    let u : setTo (ahead f) (S .start % 2 + r) ≡ (S .start % 2 + r - 1) / 2 + ahead f =
-    ap (setTo (ahead f)) (omega arith) ∙ to-later (ahead f) (S .start % 2 + r - 1) in
-    omega (arith, set-of (ahead f) S r, u)
+-- its numbers fit, a being the look-ahead
+pub set-places : (f y r a : ℕ) → r ≤ 2 ^ 34 → a ≡ ahead f → Fits w64 (y % 2 + r) × Fits w64 ((y % 2 + r - 1) / 2 + a)
+set-places f y r a h e = (omega arith, omega (arith, ahead-small f))
+
+module _ (f : ℕ) (S : Side) (r a b : ℕ) (late : S .start % 2 + r ≡ 0 → ⊥) (ea : a ≡ ahead f) (eb : b ≡ lastSet S) where
+  later : min ((S .start % 2 + r - 1) / 2 + a) b ≡ setOf (ahead f) S r
+  later =
+      let u : setTo (ahead f) (S .start % 2 + r) ≡ (S .start % 2 + r - 1) / 2 + ahead f =
+      ap (setTo (ahead f)) (omega (arith, late)) ∙ to-later (ahead f) (S .start % 2 + r - 1) in
+      omega (arith, set-of (ahead f) S r, u)
+
+  pub set-ahead : (S .start % 2 + r - 1) / 2 + a < b → (S .start % 2 + r - 1) / 2 + a ≡ setOf (ahead f) S r
+  set-ahead h = omega (arith, later)
+
+  pub set-end : b ≤ (S .start % 2 + r - 1) / 2 + a → b ≡ setOf (ahead f) S r
+  set-end h = omega (arith, later)
 
 pub before-later : (f : ℕ) (S : Side) (r n : ℕ) → 0 < r → n ≡ setOf (ahead f) S (r - 1) → n + 1 ≡ setsBefore (ahead f) S r
 before-later f S zero n p e = absurd (omega arith)
 before-later f S (suc r) n p e = let z : suc r - 1 ≡ r = omega arith in ap (λ i. i + 1) (e ∙ ap (setOf (ahead f) S) z) ∙ sym (before-suc (ahead f) S r)
+
+-- ---- whether a level has a set
+pub there-none : (W H : Side) (n : ℕ) → Empty W H → false ≡ hasSet W H n
+unfolding hasSet
+there-none W H n e = sym (ap (λ (t : Bool). both t (leb n (lastSet H))) (empty-not W H e))
+
+pub there-some : (W H : Side) (n m : ℕ) → 0 < W .length → 0 < H .length → m ≡ lastSet H → leb n m ≡ hasSet W H n
+unfolding hasSet
+there-some W H n m w h e = ap (leb n) e ∙ sym (ap (λ (t : Bool). both t (leb n (lastSet H))) (cells-yes W H w h))
 
 -- ---- whether a row needs a set that no row before it needs
 pub down-none : (f : ℕ) (W H : Side) (r : ℕ) → Empty W H → false ≡ both (hasCells W H) (opens (ahead f) H r)
@@ -63,7 +86,7 @@ unfolding firstRow
 row-none f S zero e = refl
 row-none f S (suc n) e = omega arith
 
-pub row-some : (f : ℕ) (S : Side) (n r : ℕ) → 0 < n → r ≡ rowTo f S n → min r (S .length - 1) ≡ firstRow f S n
+row-some : (f : ℕ) (S : Side) (n r : ℕ) → 0 < n → r ≡ rowTo f S n → min r (S .length - 1) ≡ firstRow f S n
 unfolding firstRow
 row-some f S zero r p e = absurd (omega arith)
 row-some f S (suc n) r p e = ap (λ i. min i (S .length - 1)) e
@@ -76,7 +99,7 @@ row-either f S n e = go (eqb n 0) refl (eqb (S .length) 0) refl e
     go false p true q z = row-none f S n (eqb-true (S .length) 0 q)
     go false p false q z = absurd (subst T (sym z) tt)
 
-pub row-high : (S : Side) (n : ℕ) → eqb n 0 || eqb (S .length) 0 ≡ false → (0 < n) × (0 < S .length)
+row-high : (S : Side) (n : ℕ) → eqb n 0 || eqb (S .length) 0 ≡ false → (0 < n) × (0 < S .length)
 row-high S n e = go (eqb n 0) refl (eqb (S .length) 0) refl e
   where
     positive : (n : ℕ) → (n ≡ 0 → ⊥) → 0 < n
@@ -86,6 +109,20 @@ row-high S n e = go (eqb n 0) refl (eqb (S .length) 0) refl e
     go true p b q z = absurd (subst T z tt)
     go false p true q z = absurd (subst T z tt)
     go false p false q z = (positive n (eqb-false n 0 p), positive (S .length) (eqb-false (S .length) 0 q))
+
+-- past set 0 of rows that there are, m being how far n is past the look-ahead a: the numbers fit, and which of the two is the row
+module _ (f : ℕ) (S : Side) (n a m : ℕ) (there : eqb n 0 || eqb (S .length) 0 ≡ false) (ea : a ≡ ahead f) (em : m ≡ n - a) where
+  pub row-places : n ≤ 2 ^ 32 → Fits w64 (2 * m) × Fits w64 (2 * m + 1) × (S .start % 2 ≤ 2 * m + 1) × (1 ≤ S .length)
+  row-places h = (omega arith, omega arith, omega arith, row-high S n there .1)
+
+  row-min : min (2 * m + 1 - S .start % 2) (S .length - 1) ≡ firstRow f S n
+  row-min = row-some f S n (2 * m + 1 - S .start % 2) (row-high S n there .0) (omega arith)
+
+  pub row-own : 2 * m + 1 - S .start % 2 < S .length → 2 * m + 1 - S .start % 2 ≡ firstRow f S n
+  row-own h = omega (arith, row-min)
+
+  pub row-last : S .length ≤ 2 * m + 1 - S .start % 2 → S .length - 1 ≡ firstRow f S n
+  row-last h = omega (arith, row-min)
 
 -- ---- a band by its code
 pub across-even : (W : Side) (c : ℕ) → c < 4 → c % 2 ≡ 0 → count (across (named c)) W ≡ count lo W

@@ -15,17 +15,15 @@ use Rattle.wavelet.specs.Levels.{next, sideAt}
 use Rattle.wavelet.specs.Order.{firstSet, setRow}
 use Rattle.wavelet.specs.Steps.{setsBefore}
 use Rattle.level.specs.Sets.{opens}
-use Rattle.reader.specs.Sets.{ahead, hasRow, rowOf, taking, makes, waiting, waitsAt}
-use Rattle.reader.specs.Asked.{asked}
-use Rattle.reader.specs.Store.{hasCells}
-use Rattle.reader.specs.Machine.{Spot, spot, Place, bandAt, lastOfSet, nextUp, past, beyond, dive, begins}
-use Rattle.reader.specs.Holds.{Ready}
+use Rattle.reader_steps.specs.Sets.{ahead, hasRow, rowOf, taking, makes, waiting, waitsAt}
+use Rattle.reader_steps.specs.Asked.{asked}
+use Rattle.reader_steps.specs.Places.{hasCells, Spot, spot, Place, bandAt, lastOfSet, nextUp, past, beyond, dive, begins, Ready}
 use Rattle.reader.specs.Demand3.{setNumber, goesOnSet}
-use Rattle.reader.proofs.Looks.{code-lt}
-use Rattle.reader.proofs.OpenedSets.{opened-row, taking-row, waits-here, waits-finer}
-use Rattle.reader.proofs.CellLaws.{asked-has, has-row}
-use Rattle.reader.proofs.ReadyLaws.{ready-still, ready-beyond}
-use Rattle.reader.proofs.StepsLeft.{stepsLeft, tailAt, Ahead, height, row, ahead-is, left-row, left-height}
+use Rattle.reader_steps.proofs.Looks.{code-lt}
+use Rattle.reader_steps.proofs.OpenedSets.{opened-row, taking-row, waits-here, waits-finer}
+use Rattle.reader_steps.proofs.CellLaws.{asked-has, has-row}
+use Rattle.reader_steps.proofs.ReadyLaws.{ready-still, ready-beyond}
+use Rattle.reader_steps.proofs.StepsLeft.{stepsLeft, tailAt, Ahead, height, row, ahead-is, left-row, left-height}
 use Rattle.reader.proofs.CallViews.{nameOf, Due}
 use Rattle.reader.proofs.Reached.{beyond-le}
 

@@ -1,6 +1,6 @@
 -- The steps of a reader: the row wanted, a row fed, the place after it. Assumes nothing.
 use mathlib.Core.Bool.{Bool, true, false}
-use mathlib.Core.Path.{_≡_, refl, sym, ap, subst, _∙_}
+use mathlib.Core.Path.{ap₂, _≡_, refl, sym, ap, subst, _∙_}
 use Prim.Native.Nat.{ℕ, zero, suc, _+_, _-_, _≤_, _<_, _^_}
 use native.Mathlib.Omega.{arith}
 use lib.IntN.{ℤ}
@@ -17,12 +17,13 @@ use Rattle.wavelet.specs.View.{bandColumns}
 use Rattle.reader.specs.declared.Reader.{Reader}
 use Rattle.reader.specs.declared.walk.Level.{Level}
 use Rattle.reader.specs.declared.walk.Spot.{Spot}
-use Rattle.reader.specs.Sets.{hasRow, rowOf, taking, firstRow, makes, waiting}
-use Rattle.reader.specs.Asked.{named}
+use Rattle.reader_steps.specs.Sets.{hasRow, rowOf, taking, firstRow, makes, waiting}
+use Rattle.reader_steps.specs.Asked.{named}
 use Rattle.level.specs.Tried.{failed, passed}
 use Rattle.reader.specs.Store.{fedAt}
-use Rattle.reader.specs.Machine.{spot, bandAt, nextUp, settled, lastOfSet, finished, past, beyond, dive, begins, fedOn, spotFed}
-use Rattle.reader.specs.Machine as machine
+use Rattle.reader_steps.specs.Places.{spot, bandAt, nextUp, lastOfSet, past, beyond, dive, begins, spotFed}
+use Rattle.reader.specs.Machine.{settled, finished, fedOn}
+use Rattle.reader_steps.specs.Places as machine
 use Rattle.reader.specs.State.{columns, rows, spotNow, next, nextRow, nextLength, settles, feeds}
 use Rattle.reader.specs.declared.walk.Next.{Next}
 use Rattle.reader.specs.Inside.{Counts, IsLevel, Is, IsNext}
@@ -55,10 +56,10 @@ module _ (s : Reader) where
   unfolding next
   near = up-in (s .filter) _ _ _ (s .level) (spotNow s .set) (s .band)
 
-  pub settles-all : next s .level ≡ 0 → (n : ℕ) → n ≡ spotNow s .set → (x : ℕ → ℤ) →
-      settled (s .filter) (columns s) (rows s) (s .levels) 0 (s .level) n x ≡ settles s x
+  pub settles-is : (to n : ℕ) → to ≡ next s .level → n ≡ spotNow s .set → (x : ℕ → ℤ) →
+      settled (s .filter) (columns s) (rows s) (s .levels) to (s .level) n x ≡ settles s x
   unfolding settles
-  settles-all e n f x = rw (e, f)
+  settles-is to n e f x = ap₂ (λ i j. settled (s .filter) (columns s) (rows s) (s .levels) i (s .level) j x) e f
 
   pub next-draw : s .level ≡ 0 → next s .level ≡ 0
   next-draw e = omega (arith, near .within)
@@ -97,10 +98,6 @@ module _ (s : Reader) where
         r ≡ setRow (side (l .y) (l .height)) (named (p .band)) (l .set) → r ≡ nextRow s
     unfolding nextRow
     number-is l r at set e = cc (e, level-high (s .filter) (columns s) (rows s) (s .drawn) (p .level - 1) l at, set, is .level, is .band, is .set)
-
-    pub settles-is : (n : ℕ) → n ≡ spotNow s .set → (x : ℕ → ℤ) → settled (s .filter) (columns s) (rows s) (s .levels) (p .level) (s .level) n x ≡ settles s x
-    unfolding settles
-    settles-is n e x = rw (is .level, e)
 
     pub feed-failed : (v x : ℕ → ℤ) → failed ≡ settles s x → failed ≡ feeds s v x
     unfolding feeds

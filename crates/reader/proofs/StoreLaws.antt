@@ -14,16 +14,16 @@ use Rattle.wavelet.specs.Store.{widths}
 use Rattle.wavelet.proofs.SideLaws.{size-suc}
 use Rattle.wavelet.proofs.StoreLaws as grid
 use Rattle.nine_seven.specs.Filters.{filterOf, isFilter}
-use Rattle.filters.specs.Figures.{storeBy, streamable}
+use Rattle.figures.specs.Figures.{storeBy, streamable}
 use Rattle.filters.proofs.BackLaws.{back-stretch}
-use Rattle.filters.proofs.FigureLaws.{store-few}
+use Rattle.figures.proofs.FigureLaws.{store-few}
 use Rattle.reader.specs.declared.walk.Level.{Level}
 use Rattle.wavelet.specs.Order.{firstSet}
-use Rattle.reader.specs.Sets.{ahead, rowOf, taking, needed, firstRow, waiting}
+use Rattle.reader_steps.specs.Sets.{ahead, rowOf, taking, needed, firstRow, waiting}
 use Rattle.reader.specs.Store.{stretchAt}
 use Rattle.reader.specs.Inside.{IsLevel, IsAt}
 use Rattle.wavelet.proofs.StepLaws.{set-there}
-use Rattle.reader.proofs.OpenedSets.{low-is, last-is, needed-next}
+use Rattle.reader_steps.proofs.OpenedSets.{low-is, last-is, needed-next}
 
 pub stretch-zero : (f : ℕ) (W : Side) → stretchAt f W 0 ≡ 0
 unfolding stretchAt

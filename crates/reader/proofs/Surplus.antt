@@ -13,12 +13,13 @@ use Rattle.wavelet.specs.Levels.{sideAt}
 use Rattle.nine_seven.specs.Filters.{filterOf}
 use Rattle.filters.specs.Back.{backOf}
 use Rattle.filters.proofs.BackLaws.{back-worked}
-use Rattle.filters.specs.Figures.{storeBy}
+use Rattle.figures.specs.Figures.{storeBy}
 use Rattle.reader.specs.declared.Reader.{Reader}
-use Rattle.reader.specs.Sets.{waiting}
+use Rattle.reader_steps.specs.Sets.{waiting}
 use Rattle.level.specs.Tried.{Tried, passed, bind, onto, memory}
 use Rattle.reader.specs.Store.{stretchAt, from, behind, zeroed, hasSet, fedAt, workedAt}
-use Rattle.reader.specs.Machine.{lastOfSet, settled, finished, fedOn}
+use Rattle.reader_steps.specs.Places.{lastOfSet}
+use Rattle.reader.specs.Machine.{settled, finished, fedOn}
 use Rattle.reader.specs.State.{columns, rows, spotNow, next, settles, feeds, drawDue}
 use Rattle.reader.specs.Questions.{setUpQuestion, feedQuestion, drawQuestion}
 use Rattle.reader.specs.Calls.{setUpStore, storeAfter, feedStore, drawStore}

@@ -8,19 +8,26 @@ use lib.IntN.{ℤ}
 use lib.Dec.{eqb}
 use borrow.Author.Tests.{lt-ltb, le-ltb}
 use Rattle.lifting.specs.Grid.{Side, side}
-use Rattle.wavelet.specs.Levels.{sideAt}
 use Rattle.level.specs.Tried.{failed, passed}
 use Rattle.level.proofs.WorkLaws.{bind-failed, bind-passed}
 use Rattle.reader.specs.declared.walk.Level.{Level}
 use Rattle.reader.specs.declared.walk.Spot.{Spot}
 use Rattle.reader.specs.declared.walk.Next.{Next}
-use Rattle.reader.specs.Sets.{makes, waiting}
-use Rattle.reader.specs.Asked.{nextBand}
+use Rattle.reader_steps.specs.Sets.{waiting}
+use Rattle.reader_steps.specs.Asked.{nextBand}
 use Rattle.reader.specs.Store.{workedAt}
-use Rattle.reader.specs.Machine.{spot, bandAt, lastOfSet, nextUp, settled, finished, past, beyond, begins}
-use Rattle.reader.specs.Machine as machine
+use Rattle.reader_steps.specs.Places.{spot, bandAt, lastOfSet, nextUp, past, beyond}
+use Rattle.reader.specs.Machine.{settled, finished}
+use Rattle.reader_steps.specs.Places as machine
 use Rattle.reader.specs.Inside.{IsLevel, Is, IsNext}
 use Rattle.reader.proofs.PartLaws.{level-wide, level-high}
+
+-- ---- a level down from level k, of L levels
+pub step-down : (to k L : ℕ) → to < k → k ≤ L → (1 ≤ k) × (k - 1 < L) × (k - 1 ≤ L) × (k - 1 < k)
+step-down to k L h m = (omega arith, omega arith, omega arith, omega arith)
+
+pub none-left : {A : Type 0} (n : ℕ) → n ≤ 0 → 0 < n → A
+none-left n h m = absurd (omega arith)
 
 -- a place by its numbers
 pub is-spot : (q : machine.Spot) (p : Spot) → spot (p .level) (p .set) (p .band) ≡ q → Is q p

@@ -12,7 +12,7 @@ use Rattle.level.specs.Tried.{memory}
 use Rattle.filters.specs.Back.{backOf}
 use Rattle.reader.specs.Store.{zeroed}
 use Rattle.reader.specs.Answers.{Reply, gives, refused, impossible, Want, Handed, aRow, nothing}
-use Rattle.reader.specs.Machine.{placeOf, enter}
+use Rattle.reader_steps.specs.Places.{placeOf, enter}
 use Rattle.reader.specs.State.{columns, wants, settles, feeds, drawDue, fedReader, drawnReader, endedReader}
 
 -- ---- set-up

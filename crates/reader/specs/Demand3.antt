@@ -25,7 +25,7 @@ use Rattle.wavelet.specs.Steps as step
 use Rattle.calls.specs.Lists.{Reply, gives, refused, Area, All, gathered, ever}
 use Rattle.calls.specs.Lists as lists
 use Rattle.reader.specs.declared.Reader.{Reader}
-use Rattle.reader.specs.Sets.{ahead, hasRow}
+use Rattle.reader_steps.specs.Sets.{ahead, hasRow}
 use Rattle.reader.specs.Rebuilt.{Rows, SetFits, SetsFit}
 use Rattle.reader.specs.Answers.{Want, row, drawNow, done, ended, Handed, aRow}
 use Rattle.reader.specs.Answers as answer

@@ -7,18 +7,18 @@ use lib.IntN.{ℤ}
 use lib.Dec.{eqb}
 use Rattle.lifting.specs.Grid.{Side}
 use Rattle.wavelet.specs.Bands.{Grid, Band, code}
-use Rattle.wavelet.specs.Order.{rowName, lastSet}
+use Rattle.wavelet.specs.Order.{rowName}
 use Rattle.wavelet.specs.Levels.{sideAt}
 use Rattle.reader.specs.declared.Reader.{Reader}
 use Rattle.reader.specs.Answers.{Reply, gives, impossible, Handed, aRow}
-use Rattle.reader.specs.Sets.{ahead, hasRow, needed, makes, waitsAt}
-use Rattle.reader.specs.Asked.{keptAt, named}
-use Rattle.reader.specs.Machine.{Spot, bandAt, lastOfSet}
+use Rattle.reader_steps.specs.Sets.{ahead, hasRow, needed, waitsAt}
+use Rattle.reader_steps.specs.Asked.{keptAt, named}
+use Rattle.reader_steps.specs.Places.{lastOfSet, hasCells, Ready}
 use Rattle.level.specs.Stands.{SetHasBy, BackMeaning}
 use Rattle.nine_seven.specs.Filters.{filterOf}
 use Rattle.filters.specs.Back.{standsOf}
 use Rattle.reader.specs.Rebuilt.{Rows, bandsAt, partAt, SetFits, SetsFit}
-use Rattle.reader.specs.Store.{stretchAt, from, hasCells}
+use Rattle.reader.specs.Store.{stretchAt, from}
 use Rattle.reader.specs.State.{columns, rows, spotNow, next, nextRow, nextLength}
 
 -- ---- what stands in a level's memory: of the sets before set n also that none of them halved an odd number
@@ -31,14 +31,6 @@ M f = record {
   Before = λ W H p n x. standsOf f .Before W H p n x × Tested f W H p n;
   Got = standsOf f .Got;
 }
-
--- ---- a place at which a reader can be, of a map of the columns W and the rows H at L levels while row d is waited for: the set collected is one that row d
--- waits for, of a level that is not empty; and if it asks for no more, it makes the row that waits for it
-pub record Ready (f : ℕ) (W H : Side) (L d : ℕ) (q : Spot) : Type 0 where
-  pub top : waitsAt f H (q .level) (q .set) 0 ≡ d
-  pub cells : (k : ℕ) → suc k ≡ q .level → hasCells (sideAt k W) (sideAt k H) ≡ true
-  pub there : (k : ℕ) → suc k ≡ q .level → q .set ≤ lastSet (sideAt k H)
-  pub asks : (k : ℕ) → suc k ≡ q .level → bandAt W H L k (q .set) (q .band) ≡ 4 → makes f (sideAt k H) (q .set) ≡ true
 
 -- ---- the reader's store, while row `drawn` is waited for: coarser levels than `level` have the last set that what it collects needs, it has the bands before
 -- `band`, finer ones wait

@@ -13,10 +13,10 @@ use Rattle.reader.specs.declared.Reader.{Reader}
 use Rattle.reader.specs.declared.walk.Level.{Level}
 use Rattle.reader.specs.declared.walk.Spot.{Spot}
 use Rattle.reader.specs.declared.walk.Next.{Next}
-use Rattle.reader.specs.Sets.{ahead, needed}
+use Rattle.reader_steps.specs.Sets.{ahead, needed}
 use Rattle.reader.specs.Store.{stretchAt}
-use Rattle.reader.specs.Machine.{lastOfSet}
-use Rattle.reader.specs.Machine as machine
+use Rattle.reader_steps.specs.Places.{lastOfSet}
+use Rattle.reader_steps.specs.Places as machine
 use Rattle.reader.specs.State.{columns, rows, spotNow, next, nextLength, rowDue}
 use Rattle.reader.specs.Questions.{countsFit, storeFits, runFits}
 

@@ -1,5 +1,3 @@
-pub mod Sets
-pub mod Asked
 pub mod Store
 pub mod Machine
 pub mod Answers

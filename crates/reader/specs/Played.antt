@@ -14,7 +14,7 @@ use Rattle.wavelet.specs.ViewCall.{bandRowExists}
 use Rattle.wavelet.specs.Maps.{IsMap}
 use Rattle.wavelet.specs.Order.{RowName, rowName}
 use Rattle.calls.specs.Lists.{gives, refused, Area}
-use Rattle.reader.specs.Asked.{named}
+use Rattle.reader_steps.specs.Asked.{named}
 use Rattle.reader.specs.Answers.{Want, row, drawNow, done, ended}
 use Rattle.reader.specs.Demand3.{Call, want, feed, draw, Event, wanted, fed, drew, World, event, final, drawnRows, IsRow, FirstRows}
 

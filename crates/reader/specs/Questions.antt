@@ -10,10 +10,10 @@ use Rattle.numbers.specs.Tests.{every}
 use Rattle.wavelet.specs.Questions.{ask, within}
 use Rattle.lifting.specs.Grid.{Side}
 use Rattle.nine_seven.specs.Filters.{filterOf, isFilter}
-use Rattle.filters.specs.Figures.{storeBy}
+use Rattle.figures.specs.Figures.{storeBy}
 use Rattle.reader.specs.declared.Reader.{Reader}
 use Rattle.level.specs.Tried.{fits}
-use Rattle.reader.specs.Sets.{ahead}
+use Rattle.reader_steps.specs.Sets.{ahead}
 use Rattle.reader.specs.State.{columns, next, nextLength, rowDue, drawDue, settles, feeds}
 
 -- question 1: "Is every count in the state inside its range?"

@@ -10,8 +10,8 @@ use Rattle.wavelet.specs.Bands.{Grid, Band, LL, HL, LH, HH, levelBack}
 use Rattle.wavelet.specs.Order.{RowName, rowName}
 use Rattle.wavelet.specs.Levels.{sideAt}
 use Rattle.level.specs.Stands.{SetFitsBy}
-use Rattle.reader.specs.Sets.{ahead, needed}
-use Rattle.reader.specs.Store.{hasCells}
+use Rattle.reader_steps.specs.Sets.{ahead, needed}
+use Rattle.reader_steps.specs.Places.{hasCells}
 
 -- band rows by their names
 abbrev pub Rows : Type 0

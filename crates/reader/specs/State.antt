@@ -9,10 +9,11 @@ use Rattle.wavelet.specs.Levels.{sideAt}
 use Rattle.wavelet.specs.Order.{setRow}
 use Rattle.wavelet.specs.View.{bandColumns}
 use Rattle.reader.specs.declared.Reader.{Reader}
-use Rattle.reader.specs.Asked.{named}
+use Rattle.reader_steps.specs.Asked.{named}
 use Rattle.reader.specs.Answers.{Want, row, drawNow, done, ended}
 use Rattle.level.specs.Tried.{Tried, bind}
-use Rattle.reader.specs.Machine.{Spot, Place, place, spotOf, placeOf, nextUp, settled, fedOn, spotFed, enter}
+use Rattle.reader_steps.specs.Places.{Spot, Place, place, spotOf, placeOf, nextUp, spotFed, enter}
+use Rattle.reader.specs.Machine.{settled, fedOn}
 
 -- its map's columns and rows
 abbrev pub columns : Reader → Side

@@ -10,9 +10,10 @@ use Rattle.lifting.specs.Grid.{Side}
 use Rattle.wavelet.specs.Levels.{sideAt}
 use Rattle.wavelet.specs.Order.{lastSet}
 use Rattle.level.specs.Tried.{Tried, passed, onto}
-use Rattle.filters.specs.Figures.{storeBy}
+use Rattle.figures.specs.Figures.{storeBy}
 use Rattle.filters.specs.Back.{backOf}
-use Rattle.reader.specs.Asked.{named}
+use Rattle.reader_steps.specs.Asked.{named}
+use Rattle.reader_steps.specs.Places.{hasCells}
 
 -- where the stretch of level k + 1 begins: past those of the levels before it
 unfoldable pub stretchAt : ℕ → Side → ℕ → ℕ
@@ -29,10 +30,6 @@ behind a x y j = pick (ltb j a) (x j) (y (j - a))
 -- the needed part zeroed
 unfoldable pub zeroed : ℕ → Side → ℕ → (ℕ → ℤ) → ℕ → ℤ
 zeroed f W L x = fronted (storeBy f W L) (λ _. pos 0) x
-
--- columns and rows that have a number between them: "a level may be empty, after which no further level has rows"
-unfoldable pub hasCells : Side → Side → Bool
-hasCells W H = both (ltb 0 (W .length)) (ltb 0 (H .length))
 
 -- ---- at level k + 1, which splits the columns sideAt k W and the rows sideAt k H
 -- the row with band code c of set n fed

@@ -7,7 +7,6 @@ mod walk;
 use areas::copies;
 use areas::height_rows;
 use filters::back;
-use filters::figures;
 use walk::Next;
 use walk::Spot;
 use wavelet::shape::Shape;
@@ -19,13 +18,16 @@ ghost use Rattle.numbers.specs.Signal.{at};
 ghost use Rattle.wavelet.specs.Limits.{maxWidth, maxHeight, maxLevels, maxOrigin};
 ghost use Rattle.wavelet.specs.Shape as shape;
 ghost use Rattle.areas.specs.Areas.{heightsAt};
-ghost use Rattle.reader.specs.Machine.{spot, placeOf};
-ghost use Rattle.reader.specs.Inside.{Small, Due};
-ghost use Rattle.reader.specs.State.{columns, rows, wants, movedTo, endedReader};
+ghost use Rattle.lifting.specs.Halves.{fronted};
+ghost use Rattle.reader_steps.specs.Places.{spot, placeOf};
+ghost use Rattle.figures.specs.Figures.{storeBy};
+ghost use Rattle.reader.specs.Store.{zeroed};
+ghost use Rattle.reader.specs.Inside.{Counts, Small, Due};
+ghost use Rattle.reader.specs.State.{columns, rows, wants, movedTo, drawnReader, endedReader};
 ghost use Rattle.reader.specs.Questions.{setUpQuestion, wantQuestion, feedQuestion, drawQuestion};
 ghost use Rattle.reader.specs.Holds.{SetUpHolds, FeedKeeps, DrawKeeps};
 ghost use Rattle.reader.specs.Answers.{gives, ofSetUp, ofWanted, ofFed, ofDrawn};
-ghost use Rattle.reader.specs.Calls.{setUpReply, setUpStore, wantReply, feedReply, feedStore, drawReply, drawStore, drawArea};
+ghost use Rattle.reader.specs.Calls.{setUpReply, setUpStore, wantReply, feedReply, feedStore, drawReply, drawStore, drawArea, heightRow};
 
 // The counts of a reader; docs/STATE.md gives their ranges. Its map starts at (x, y). `drawn` height rows are drawn; rows of `level` are collected (0: a height
 // row can be drawn), and `band` is the code of the first band that may be next. They are rows of the set that is `back` before the last of its level that row
@@ -222,9 +224,7 @@ impl Reader {
         if steps::feed_row(self, store, next, complete, run) {
             return Fed::Passed(self.moved(self.drawn, steps::spot_fed(self, next, complete)));
         }
-        let n = figures::store_length(self.filter, self.width, self.x, self.levels);
-        copies::clear(store, n);
-        Fed::Impossible(self.over())
+        Fed::Impossible(self.over(store))
     }
 
     // A height row is drawn, if one can be. The questions are 1, 5, 9 and, with a row to give, 12 and 14.
@@ -246,31 +246,40 @@ impl Reader {
         if !questions::draw_due(self) {
             return Drawn::Nothing;
         }
-        let w = self.width;
-        if out.len() < w {
+        if out.len() < self.width {
             return Drawn::Refused(12);
         }
-        if steps::settle_all(self, store) {
-            let a = back::row_place(self.filter, w, self.y % 2 + self.drawn);
-            let e = a + w;
-            height_rows::draw_heights(&store[a..e], self.x, out);
-            let d = self.drawn + 1;
-            let p = walk::dive_from(
-                self.filter,
-                self.levels,
-                0,
-                self.x,
-                w,
-                self.y,
-                self.height,
-                d,
-                d,
-            );
-            return Drawn::Heights(w, self.moved(d, p));
+        if steps::settle(self, store, 0) {
+            return Drawn::Heights(self.width, self.hand_out(store, out));
         }
-        let n = figures::store_length(self.filter, w, self.x, self.levels);
-        copies::clear(store, n);
-        Drawn::Impossible(self.over())
+        Drawn::Impossible(self.over(store))
+    }
+
+    // The height row that stands in the store, drawn, and the reader then.
+    fn hand_out(self, store: &[i32], out: &mut [u16]) -> Reader
+        requires { ⌜ Counts self × (self .drawn < self .height) × (storeBy (self .filter) (columns self) (self .levels) ≤ length (now store)) ×
+            (self .width ≤ length (now out)) ⌝ }
+        ensures { λ r. ⌜ r ≡ drawnReader self ⌝ }
+        ensures { λ _. ⌜ heightsAt (now (out .exit)) ≡
+            fronted (self .width) (heightRow self (at (now (store .entry)))) (heightsAt (now (out .entry))) ⌝ }
+    {
+        let w = self.width;
+        let a = back::row_place(self.filter, w, self.y % 2 + self.drawn);
+        let e = a + w;
+        height_rows::draw_heights(&store[a..e], self.x, out);
+        let d = self.drawn + 1;
+        let p = walk::dive_from(
+            self.filter,
+            self.levels,
+            0,
+            self.x,
+            w,
+            self.y,
+            self.height,
+            d,
+            d,
+        );
+        self.moved(d, p)
     }
 
     // The reader at another place.
@@ -293,10 +302,14 @@ impl Reader {
         }
     }
 
-    // The reader ended by 14: its other numbers stay.
-    fn over(self) -> Reader
+    // The reader ended by 14: the needed part of the line store is zeroed, its other numbers stay.
+    fn over(self, store: &mut [i32]) -> Reader
+        requires { ⌜ Counts self × (storeBy (self .filter) (columns self) (self .levels) ≤ length (now store)) ⌝ }
         ensures { λ r. ⌜ r ≡ endedReader self ⌝ }
+        ensures { λ _. ⌜ at (now (store .exit)) ≡ zeroed (self .filter) (columns self) (self .levels) (at (now (store .entry))) ⌝ }
     {
+        let n = figures::store_length(self.filter, self.width, self.x, self.levels);
+        copies::clear(store, n);
         Reader {
             width: self.width,
             height: self.height,

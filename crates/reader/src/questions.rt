@@ -3,7 +3,6 @@ use crate::Reader;
 use crate::steps;
 use crate::walk::Next;
 use areas::ranges;
-use filters::figures;
 use wavelet::limits;
 ghost use mathlib.Core.Path.{_≡_};
 ghost use Prim.Native.Nat.{_≤_};

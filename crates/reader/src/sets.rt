@@ -1,6 +1,5 @@
 // Sets of rows by the filter's number, and the bands that a set asks for: numbers alone. A side is its start and its length: x, w across and y, h down. The
 // module is private, as `walk` is.
-use filters::figures;
 use wavelet::sizes;
 ghost use mathlib.Core.Path.{_≡_};
 ghost use Prim.Native.Nat.{ℕ, _-_, _<_, _≤_, _^_};
@@ -11,9 +10,10 @@ ghost use Rattle.lifting.specs.Line.{lo};
 ghost use Rattle.wavelet.specs.Order.{firstSet, lastSet, setRow};
 ghost use Rattle.wavelet.specs.Steps.{setOf, setsBefore};
 ghost use Rattle.level.specs.Sets.{opens};
-ghost use Rattle.reader.specs.Sets.{ahead, firstRow, makes};
-ghost use Rattle.reader.specs.Asked.{named, nextBand};
-ghost use Rattle.reader.specs.Store.{hasCells};
+ghost use Rattle.reader_steps.specs.Sets.{ahead, firstRow, makes};
+ghost use Rattle.reader_steps.specs.Asked.{named, nextBand};
+ghost use Rattle.reader_steps.specs.Places.{hasCells};
+ghost use Rattle.reader.specs.Store.{hasSet};
 
 // a less b, 0 where b is more.
 pub fn less(a: usize, b: usize) -> usize
@@ -28,6 +28,17 @@ pub fn last_set(y: usize, h: usize) -> usize
     ensures { λ n. ⌜ n ≡ lastSet (side y h) ⌝ }
 {
     if h == 0 { 0 } else { (y % 2 + h - 1) / 2 }
+}
+
+// Whether a level of w columns has set n: an empty level has none, nor has a level one after its last.
+pub fn is_there(w: usize, y: usize, h: usize, n: usize) -> bool
+    requires { ⌜ h < 2 ^ 32 ⌝ }
+    ensures { λ t. ⌜ ((x : ℕ) → t ≡ hasSet (side x w) (side y h) n) ⌝ }
+{
+    if (w == 0) | (h == 0) {
+        return false;
+    }
+    n <= last_set(y, h)
 }
 
 // The set that makes row r.

@@ -12,9 +12,9 @@ ghost use lib.ListN.{length};
 ghost use Rattle.numbers.specs.Signal.{at};
 ghost use Rattle.level.specs.Tried.{outcome};
 ghost use Rattle.wavelet.specs.Limits.{maxLevels};
-ghost use Rattle.filters.specs.Figures.{storeBy};
-ghost use Rattle.reader.specs.Sets.{needed};
-ghost use Rattle.reader.specs.Machine.{spot, placeOf, past, spotFed};
+ghost use Rattle.figures.specs.Figures.{storeBy};
+ghost use Rattle.reader_steps.specs.Sets.{needed};
+ghost use Rattle.reader_steps.specs.Places.{spot, placeOf, past, spotFed};
 ghost use Rattle.reader.specs.State.{columns, rows, next, nextRow, nextLength, settles, feeds};
 ghost use Rattle.reader.specs.Inside.{Counts, Small, Is, Collected, Due, Completing};
 ghost use Rattle.level.specs.Rebuilding.{Kept};
@@ -124,13 +124,13 @@ pub fn completes(s: Reader, n: Next) -> bool
     4 <= c
 }
 
-// The sets that wait worked out; most often none does.
-pub fn settle(s: Reader, store: &mut [i32], n: Next) -> bool
-    requires { ⌜ Counts s × Due s n × (storeBy (s .filter) (columns s) (s .levels) ≤ length (now store)) ⌝ }
+// The sets that wait, down to the level of the row wanted, worked out; most often none does.
+pub fn settle(s: Reader, store: &mut [i32], to: usize) -> bool
+    requires { ⌜ Counts s × (to ≡ next s .level) × (storeBy (s .filter) (columns s) (s .levels) ≤ length (now store)) ⌝ }
     ensures { λ ok. ⌜ outcome ok (at (now (store .exit))) ≡ settles s (at (now (store .entry))) ⌝ }
     ensures { λ _. ⌜ Kept (storeBy (s .filter) (columns s) (s .levels)) (at (now (store .entry))) (at (now (store .exit))) ⌝ }
 {
-    if s.level <= n.spot.level {
+    if s.level <= to {
         return true;
     }
     walk::settle(
@@ -144,31 +144,7 @@ pub fn settle(s: Reader, store: &mut [i32], n: Next) -> bool
         store,
         s.level,
         own_level(s),
-        n.spot.level,
-    )
-}
-
-// The same before a draw, where no row is wanted.
-pub fn settle_all(s: Reader, store: &mut [i32]) -> bool
-    requires { ⌜ Counts s × (next s .level ≡ 0) × (storeBy (s .filter) (columns s) (s .levels) ≤ length (now store)) ⌝ }
-    ensures { λ ok. ⌜ outcome ok (at (now (store .exit))) ≡ settles s (at (now (store .entry))) ⌝ }
-    ensures { λ _. ⌜ Kept (storeBy (s .filter) (columns s) (s .levels)) (at (now (store .entry))) (at (now (store .exit))) ⌝ }
-{
-    if s.level == 0 {
-        return true;
-    }
-    walk::settle(
-        s.filter,
-        s.x,
-        s.width,
-        s.y,
-        s.height,
-        s.levels,
-        s.drawn,
-        store,
-        s.level,
-        own_level(s),
-        0,
+        to,
     )
 }
 
@@ -179,7 +155,7 @@ pub fn feed_row(s: Reader, store: &mut [i32], n: Next, complete: bool, run: &[i3
     ensures { λ ok. ⌜ outcome ok (at (now (store .exit))) ≡ feeds s (at (now (run .entry))) (at (now (store .entry))) ⌝ }
     ensures { λ _. ⌜ Kept (storeBy (s .filter) (columns s) (s .levels)) (at (now (store .entry))) (at (now (store .exit))) ⌝ }
 {
-    if !settle(s, store, n) {
+    if !settle(s, store, n.spot.level) {
         return false;
     }
     let k = n.spot.level - 1;

@@ -4,7 +4,6 @@
 use crate::sets;
 use areas::copies;
 use filters::back;
-use filters::figures;
 use wavelet::sizes;
 ghost use mathlib.Core.Path.{_≡_};
 ghost use mathlib.Core.Bool.{true, false};
@@ -19,15 +18,16 @@ ghost use Rattle.lifting.specs.Line.{lo};
 ghost use Rattle.wavelet.specs.Order.{firstSet};
 ghost use Rattle.wavelet.specs.Levels.{next, sideAt};
 ghost use Rattle.nine_seven.specs.Filters.{filterOf};
-ghost use Rattle.filters.specs.Figures.{storeBy};
+ghost use Rattle.figures.specs.Figures.{storeBy};
 ghost use Rattle.filters.specs.Back.{rowPlaceOf};
 ghost use Rattle.level.specs.Tried.{outcome};
-ghost use Rattle.level.specs.Slots.{rowOfSet, halfPlace};
+ghost use Rattle.level.specs.Stretch.{rowOfSet, halfPlace};
 ghost use Rattle.level.specs.Rebuilding.{Kept};
-ghost use Rattle.reader.specs.Asked.{named};
+ghost use Rattle.reader_steps.specs.Asked.{named};
 ghost use Rattle.reader.specs.Store.{fedAt, workedAt};
-ghost use Rattle.reader.specs.Sets.{waiting};
-ghost use Rattle.reader.specs.Machine.{spot, bandAt, nextUp, settled, dive};
+ghost use Rattle.reader_steps.specs.Sets.{waiting};
+ghost use Rattle.reader_steps.specs.Places.{spot, bandAt, nextUp, dive};
+ghost use Rattle.reader.specs.Machine.{settled};
 ghost use Rattle.reader.specs.Inside.{Small, IsLevel, IsAt, Is, IsNext};
 
 // A level: where its stretch begins, the columns and rows that it splits, the set that it is at, and the last that the row waited for needs.
@@ -252,7 +252,7 @@ pub fn put_row(
     copies::copy(run, &mut store[a..e]);
 }
 
-// The set of l, level k + 1, worked out in the level's own stretch; an empty level has none.
+// The set of l, level k + 1, worked out in the level's own stretch, if the level has it.
 pub fn work_at(
     filter: usize,
     x: usize,
@@ -272,10 +272,7 @@ pub fn work_at(
         workedAt filter (side x width) (side y height) levels k (l .set) (at (now (store .entry))) ⌝ }
     ensures { λ _. ⌜ Kept (storeBy filter (side x width) levels) (at (now (store .entry))) (at (now (store .exit))) ⌝ }
 {
-    if (l.width == 0) | (l.height == 0) {
-        return true;
-    }
-    if sets::last_set(l.y, l.height) < l.set {
+    if !sets::is_there(l.width, l.y, l.height, l.set) {
         return true;
     }
     let a = l.start;

@@ -13,8 +13,8 @@ use Rattle.numbers.specs.Signal.{pick}
 use Rattle.numbers.specs.Word.{whole}
 use Rattle.numbers.proofs.Sweep.{both}
 use Rattle.nine_seven.specs.Filters.{filterOf, isFilter}
-use Rattle.filters.specs.Figures.{storeBy, streamable}
-use Rattle.filters.proofs.FigureLaws.{streams}
+use Rattle.figures.specs.Figures.{storeBy, streamable}
+use Rattle.figures.proofs.FigureLaws.{streams}
 use Rattle.wavelet.specs.Bands.{Grid, Band, LL, HL, LH, HH, code}
 use Rattle.wavelet.specs.Plane.{cells, planeCell}
 use Rattle.wavelet.specs.ViewCall.{keptAt, bandRowExists}
@@ -36,7 +36,7 @@ use Rattle.writer.specs.History as writer
 use Rattle.writer.specs.Demand3.{HasValues, MapOf, answered}
 use Rattle.writer.specs.Questions as writer-asks
 use Rattle.writer.specs.Demand3 as writes
-use Rattle.writer.proofs.CountLaws.{code-one}
+use Rattle.progress.proofs.CountLaws.{code-one}
 use Rattle.writer.proofs.CallLaws.{set-up-passed}
 use Rattle.writer.proofs.Demand3 as writer-holds
 use Rattle.reader.specs.Questions as reader-asks

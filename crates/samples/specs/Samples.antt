@@ -17,7 +17,7 @@ use Rattle.wavelet.specs.Order.{RowName, rowName, made}
 use Rattle.wavelet.specs.Steps.{bandRowsOf, steps}
 use Rattle.wavelet.specs.Levels.{levelBand}
 use Rattle.wavelet.specs.View.{bandColumns}
-use Rattle.whole_map.specs.Calls.{backwardQuestion}
+use Rattle.map_questions.specs.Calls.{backwardQuestion}
 
 -- the first n numbers of a signal
 unfoldable pub listed : ℕ → (ℕ → ℤ) → List ℤ

@@ -1,5 +1,5 @@
 // T.800's arithmetic a second time, written differently, and the order of document 01.
-// The programs `compare_maps`, `compare_writer` and `compare_reader` hold whole map, writer and reader against it.
+// The program `compare_maps` holds whole map and reader against it, `compare_writer` the writer.
 pub mod area;
 pub mod heights;
 pub mod order;

@@ -1,7 +1,6 @@
-pub mod StateLaws
+pub mod CallLaws
 pub mod Steady
 pub mod WordLaws
 pub mod MovedWords
-pub mod StateTheorems
 pub mod WriterListsHold
 pub mod ReaderListsHold

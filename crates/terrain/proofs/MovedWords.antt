@@ -15,9 +15,10 @@ use Rattle.reader.specs.Answers.{Reply, gives, refused, impossible, Handed, aRo
 use Rattle.reader.specs.State.{drawDue, fedReader, drawnReader, endedReader}
 use Rattle.reader.specs.Questions.{feedQuestion, drawQuestion}
 use Rattle.reader.specs.Calls.{feedReply, drawReply}
-use Rattle.terrain.specs.States.{zeroNext, zeroFrom, isState}
-use Rattle.terrain.specs.ReaderState.{isReader, readerOf, movedWords, readerWords}
-use Rattle.terrain.specs.ReaderCalls.{feeding, drawing}
+use Rattle.states.specs.States.{flag, zeroNext, zeroFrom, isState}
+use Rattle.states.specs.ReaderState.{isReader, readerOf, movedWords, readerWords}
+use Rattle.states.specs.ReaderAnswers.{fedWords, handedWords}
+use Rattle.terrain.specs.ReaderCalls.{feeding, stateOf, drawing, stateDrawn}
 use Rattle.terrain.proofs.WordLaws.{spelt}
 
 -- the words of a reader that no feed and no draw changes
@@ -45,7 +46,7 @@ fixed s h =
       fifteen = eqb-true _ _ (c₇ .0);
     }
 
--- what a feed and a draw leave as it was in a reader
+-- what a feed and a draw leave as it was in a reader, which is not ended then
 record Stays (s t : Reader) : Type 0 where
   width : t .width ≡ s .width
   height : t .height ≡ s .height
@@ -53,11 +54,13 @@ record Stays (s t : Reader) : Type 0 where
   x : t .x ≡ s .x
   y : t .y ≡ s .y
   filter : t .filter ≡ s .filter
+  ended : t .ended ≡ false
 
 words-moved : (s : List ℕ) → length s ≡ 16 → isReader s ≡ true → (t : Reader) → Stays (readerOf s) t → movedWords t s ≡ readerWords t
 words-moved s size is t e =
     let f = fixed s is in
-    ap (movedWords t) (spelt s size) ∙ cc (f .kind, e .width, e .height, e .levels, e .x, e .y, e .filter, f .twelve, f .thirteen, f .fourteen, f .fifteen)
+    let g : flag (t .ended) ≡ 0 = ap flag (e .ended) in
+    ap (movedWords t) (spelt s size) ∙ cc (f .kind, e .width, e .height, e .levels, g, e .x, e .y, e .filter, f .twelve, f .thirteen, f .fourteen, f .fifteen)
 
 -- a call on a reader's array that gives something
 gave : {A : Type 0} (b : Bool) (r : Reply A) (a : A) → pick b r (refused 1) ≡ gives a → (b ≡ true) × (r ≡ gives a)
@@ -74,7 +77,7 @@ feed-stays : (s t : Reader) (q : ℕ) → feedReply s q ≡ gives t → Stays s 
 unfolding feedReply fedReader
 feed-stays s t q e =
     let g : fedReader s ≡ t = given (eqb q 0) (eqb q 14) (fedReader s) t (endedReader s) q e in
-    rw (← g) (record { width = refl; height = refl; levels = refl; x = refl; y = refl; filter = refl })
+    rw (← g) (record { width = refl; height = refl; levels = refl; x = refl; y = refl; filter = refl; ended = refl })
 
 row-is : (b : Bool) (n m : ℕ) (r t : Reader) → pick b (aRow n r) nothing ≡ aRow m t → r ≡ t
 row-is true n m r t e = cc
@@ -85,15 +88,27 @@ unfolding drawReply drawnReader
 draw-stays s t n q e =
     let g = given (eqb q 0) (eqb q 14) (pick (drawDue s) (aRow (s .width) (drawnReader s)) nothing) (aRow n t) (endedReader s) q e in
     let h : drawnReader s ≡ t = row-is (drawDue s) (s .width) n (drawnReader s) t g in
-    rw (← h) (record { width = refl; height = refl; levels = refl; x = refl; y = refl; filter = refl })
+    rw (← h) (record { width = refl; height = refl; levels = refl; x = refl; y = refl; filter = refl; ended = refl })
 
+-- r is what the call answered
 module _ (s : List ℕ) (size : length s ≡ 16) (n : ℕ) (x : ℕ → ℤ) where
-  pub fed-words : (m : ℕ) (v : ℕ → ℤ) (t : Reader) → feeding s n x m v ≡ gives t → movedWords t s ≡ readerWords t
-  fed-words m v t e =
-      let g = gave (isReader s) _ t e in
-      words-moved s size (g .0) t (feed-stays (readerOf s) t (feedQuestion (readerOf s) n x m v) (g .1))
+  pub fed-words : (m : ℕ) (v : ℕ → ℤ) (r : Reply Reader) → feeding s n x m v ≡ r → fedWords r s ≡ stateOf (feeding s n x m v) s
+  fed-words m v r e = kept r e ∙ sym (ap (λ (q : Reply Reader). stateOf q s) e)
+    where
+      kept : (r : Reply Reader) → feeding s n x m v ≡ r → fedWords r s ≡ stateOf r s
+      kept (gives t) e =
+          let g = gave (isReader s) _ t e in
+          words-moved s size (g .0) t (feed-stays (readerOf s) t (feedQuestion (readerOf s) n x m v) (g .1))
+      kept (refused q) e = refl
+      kept (impossible t) e = refl
 
-  pub drawn-words : (m k : ℕ) (t : Reader) → drawing s n x m ≡ gives (aRow k t) → movedWords t s ≡ readerWords t
-  drawn-words m k t e =
-      let g = gave (isReader s) _ (aRow k t) e in
-      words-moved s size (g .0) t (draw-stays (readerOf s) t k (drawQuestion (readerOf s) n x m) (g .1))
+  pub drawn-words : (m : ℕ) (r : Reply Handed) → drawing s n x m ≡ r → handedWords r s ≡ stateDrawn (drawing s n x m) s
+  drawn-words m r e = kept r e ∙ sym (ap (λ (q : Reply Handed). stateDrawn q s) e)
+    where
+      kept : (r : Reply Handed) → drawing s n x m ≡ r → handedWords r s ≡ stateDrawn r s
+      kept (gives (aRow k t)) e =
+          let g = gave (isReader s) _ (aRow k t) e in
+          words-moved s size (g .0) t (draw-stays (readerOf s) t k (drawQuestion (readerOf s) n x m) (g .1))
+      kept (gives nothing) e = refl
+      kept (refused q) e = refl
+      kept (impossible t) e = refl

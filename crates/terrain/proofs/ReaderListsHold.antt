@@ -12,11 +12,12 @@ use Rattle.reader.specs.Questions.{wantQuestion}
 use Rattle.reader.specs.Calls.{wantReply, feedReply, feedStore, drawReply, drawStore}
 use Rattle.reader.specs.Demand3.{Call, World, event, next, events}
 use Rattle.reader.specs.Demand3 as rattle
-use Rattle.terrain.specs.States.{Memories}
-use Rattle.terrain.specs.ReaderState.{readerWords}
+use Rattle.terrain.specs.Memories.{Memories}
+use Rattle.states.specs.ReaderState.{readerWords}
+use Rattle.states.specs.ReaderAnswers.{countOf}
 use Rattle.terrain.specs.ReaderCalls as c
 use Rattle.terrain.specs.ReaderLists.{CCall, wanted, fed, drew, seenOf, leaves, seenAll, told, toldAll, holding, calls}
-use Rattle.terrain.proofs.StateTheorems.{reader-back, reader-is}
+use Rattle.states.proofs.StateTheorems.{reader-back, reader-is}
 
 -- an answer told, and the state array that it leaves. No want answers 14 with an ended reader, but that need not be known here: the number is 14 too
 want-told : (q : List ℕ) (z : ℕ) (r : Reply Want) → wanted (number r) (c.wantOf r q) ≡ told q z (rattle.wanted (rattle.said (λ v. v) r))
@@ -31,7 +32,7 @@ feed-told a q z (gives v) = refl
 feed-told a q z (refused k) = refl
 feed-told a q z (impossible s) = refl
 
-draw-told : (a b : Area) (q : List ℕ) (z : ℕ) (r : Reply Handed) → drew a (number r) (c.countOf r z) b ≡ told q z (rattle.drew a (rattle.said rattle.given r) b)
+draw-told : (a b : Area) (q : List ℕ) (z : ℕ) (r : Reply Handed) → drew a (number r) (countOf r z) b ≡ told q z (rattle.drew a (rattle.said rattle.given r) b)
 unfolding told
 draw-told a b q z (gives (aRow n s)) = refl
 draw-told a b q z (gives nothing) = refl

@@ -13,13 +13,13 @@ use Rattle.numbers.proofs.Sweep as sweep
 use Rattle.calls.specs.Lists.{Reply, gives, refused}
 use Rattle.level.specs.Level.{Memory}
 use Rattle.writer.specs.declared.Writer.{Writer}
-use Rattle.writer.specs.declared.BandRow.{BandRow}
-use Rattle.writer.specs.Answers.{Took, aRow}
+use Rattle.writer.specs.Answers.{Took, Handed, aRow, nothing}
 use Rattle.writer.specs.Calls.{waits, afterDraw}
 use Rattle.writer.specs.Closing.{Shut}
-use Rattle.terrain.specs.States.{flag, zeroNext, zeroFrom, isState}
-use Rattle.terrain.specs.WriterState.{isWriter, writerOf, offeredWords, drawnWords, writerWords}
-use Rattle.terrain.specs.WriterCalls.{offered, drawn}
+use Rattle.states.specs.States.{flag, zeroNext, zeroFrom, isState}
+use Rattle.states.specs.WriterState.{isWriter, writerOf, offeredWords, drawnWords, writerWords}
+use Rattle.states.specs.WriterAnswers.{tookWords, handedWords}
+use Rattle.terrain.specs.WriterCalls.{offered, stateTook, drawn, stateHanded}
 use Rattle.terrain.proofs.Steady.{Steady, offer-steady, draw-steady}
 
 -- sixteen words, spelt out
@@ -106,13 +106,23 @@ gave : {A : Type 0} (b : Bool) (r : Reply A) (a : A) → pick b r (refused 1) �
 gave true r a e = (refl, e)
 gave false r a e = let z : _≡_ {A = ℕ} 0 1 = cc in absurd (omega arith)
 
+-- r is what the call answered
 module _ (s : List ℕ) (size : length s ≡ 16) (n : ℕ) (x : Memory) where
-  pub offered-words : (run : List ℕ) (t : Took) → offered s n run x ≡ gives t → offeredWords (t .writer) s ≡ writerWords (t .writer)
-  offered-words run t e =
-      let g = gave (isWriter s) _ t e in
-      words-offered s size (g .0) (t .writer) (offer-steady (writerOf s) n run x t (g .1))
+  pub offered-words : (run : List ℕ) (r : Reply Took) → offered s n run x ≡ r → tookWords r s ≡ stateTook (offered s n run x) s
+  offered-words run r e = kept r e ∙ sym (ap (λ (q : Reply Took). stateTook q s) e)
+    where
+      kept : (r : Reply Took) → offered s n run x ≡ r → tookWords r s ≡ stateTook r s
+      kept (gives t) e =
+          let g = gave (isWriter s) _ t e in
+          words-offered s size (g .0) (t .writer) (offer-steady (writerOf s) n run x t (g .1))
+      kept (refused q) e = refl
 
-  pub drawn-words : (k : ℕ) (r : BandRow) (t : Writer) → drawn s n k x ≡ gives (aRow r t) → drawnWords t s ≡ writerWords t
-  drawn-words k r t e =
-      let g = gave (isWriter s) _ (aRow r t) e in
-      words-drawn s size (g .0) t (afterDraw (writerOf s) x) (draw-steady (writerOf s) n k x r t (g .1))
+  pub drawn-words : (k : ℕ) (r : Reply Handed) → drawn s n k x ≡ r → handedWords r s ≡ stateHanded (drawn s n k x) s
+  drawn-words k r e = kept r e ∙ sym (ap (λ (q : Reply Handed). stateHanded q s) e)
+    where
+      kept : (r : Reply Handed) → drawn s n k x ≡ r → handedWords r s ≡ stateHanded r s
+      kept (gives (aRow b t)) e =
+          let g = gave (isWriter s) _ (aRow b t) e in
+          words-drawn s size (g .0) t (afterDraw (writerOf s) x) (draw-steady (writerOf s) n k x b t (g .1))
+      kept (gives nothing) e = refl
+      kept (refused q) e = refl

@@ -1,7 +1,7 @@
 -- A list of C calls on a state array shows what the list of Rattle's calls shows, told in C's numbers: so what is proved of the lists
 -- of a writer (demand 3) holds of them. Assumes nothing.
-use mathlib.Core.Path.{_≡_, refl, ap, ap₂, _∙_}
-use mathlib.Core.List.{List, [], _∷_}
+use mathlib.Core.Path.{_≡_, refl, ap}
+use mathlib.Core.List.{List, []}
 use Prim.Native.Nat.{ℕ}
 use Rattle.calls.specs.Lists.{Reply, gives, refused, seen, Area}
 use Rattle.calls.proofs.ListLaws.{told-events}
@@ -11,27 +11,28 @@ use Rattle.writer.specs.Calls.{offerReply, offerStore, drawReply, drawStore, dr
 use Rattle.writer.specs.Holds.{left, after}
 use Rattle.writer.specs.History.{Call, World, event, next, events}
 use Rattle.writer.specs.History as rattle
-use Rattle.terrain.specs.States.{Memories}
-use Rattle.terrain.specs.WriterState.{writerWords, isWriter, writerOf}
+use Rattle.terrain.specs.Memories.{Memories}
+use Rattle.states.specs.WriterState.{writerWords}
+use Rattle.states.specs.WriterAnswers.{number, takenOf, rowOf}
 use Rattle.terrain.specs.WriterCalls as c
-use Rattle.terrain.specs.WriterLists.{CCall, offered, drew, finished, seenOf, leaves, seenAll, told, toldAll, holding, calls, Seen}
-use Rattle.terrain.proofs.StateTheorems.{writer-back, writer-is}
+use Rattle.terrain.specs.WriterLists.{CCall, offered, drew, finished, seenOf, leaves, seenAll, told, toldAll, holding, calls}
+use Rattle.states.proofs.StateTheorems.{writer-back, writer-is}
 use Rattle.level.specs.Level.{Memory}
 
 -- an answer told, and the state array that it leaves
 offer-told : (run : List ℕ) (z : ℕ) (q : List ℕ) (r : Reply Took) →
-    offered run (c.number r) (c.takenOf r z) ≡ told z q (rattle.offered run (seen (λ t. t .taken) r))
+    offered run (number r) (takenOf r z) ≡ told z q (rattle.offered run (seen (λ t. t .taken) r))
 unfolding told
 offer-told run z q (gives t) = refl
 offer-told run z q (refused k) = refl
 
-draw-told : (a b : Area) (z : ℕ) (q : List ℕ) (r : Reply Handed) → drew a (c.number r) (c.rowOf r q) b ≡ told z q (rattle.drew a (seen rattle.given r) b)
+draw-told : (a b : Area) (z : ℕ) (q : List ℕ) (r : Reply Handed) → drew a (number r) (rowOf r q) b ≡ told z q (rattle.drew a (seen rattle.given r) b)
 unfolding told
 draw-told a b z q (gives (aRow r w)) = refl
 draw-told a b z q (gives nothing) = refl
 draw-told a b z q (refused k) = refl
 
-finish-told : (z : ℕ) (q : List ℕ) (r : Reply Writer) → finished (c.number r) ≡ told z q (rattle.finished (seen (λ _. tt) r))
+finish-told : (z : ℕ) (q : List ℕ) (r : Reply Writer) → finished (number r) ≡ told z q (rattle.finished (seen (λ _. tt) r))
 unfolding told
 finish-told z q (gives w) = refl
 finish-told z q (refused k) = refl

@@ -1,8 +1,6 @@
-pub mod States
-pub mod WriterState
+pub mod Memories
 pub mod WriterCalls
 pub mod WriterLists
-pub mod ReaderState
 pub mod ReaderCalls
 pub mod ReaderLists
 pub mod Version

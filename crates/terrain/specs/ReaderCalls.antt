@@ -8,7 +8,7 @@ use Rattle.reader.specs.declared.Reader.{Reader}
 use Rattle.reader.specs.Answers.{Reply, gives, refused, impossible, Want, row, drawNow, done, ended, Handed, aRow, nothing}
 use Rattle.reader.specs.Questions.{wantQuestion, feedQuestion, drawQuestion}
 use Rattle.reader.specs.Calls.{wantReply, feedReply, feedStore, drawReply, drawStore, drawArea}
-use Rattle.terrain.specs.ReaderState.{isReader, readerOf, readerWords}
+use Rattle.states.specs.ReaderState.{isReader, readerOf, readerWords}
 
 -- ---- set-up and feed: the state array afterwards. 14 leaves the ended reader
 abbrev pub stateOf : Reply Reader → List ℕ → List ℕ
@@ -54,10 +54,3 @@ stateDrawn (gives (aRow n r)) s = readerWords r
 stateDrawn (gives nothing) s = s
 stateDrawn (refused q) s = s
 stateDrawn (impossible r) s = readerWords r
-
--- how many heights, 0 for Nothing
-abbrev pub countOf : Reply Handed → ℕ → ℕ
-countOf (gives (aRow n r)) z = n
-countOf (gives nothing) z = 0
-countOf (refused q) z = z
-countOf (impossible r) z = z

@@ -6,8 +6,9 @@ use Rattle.calls.specs.Lists.{gives, refused, Area, events}
 use Rattle.reader.specs.Answers.{number}
 use Rattle.reader.specs.Demand3.{Call, Event, World, heights, nothing}
 use Rattle.reader.specs.Demand3 as rattle
-use Rattle.terrain.specs.States.{Memories}
-use Rattle.terrain.specs.ReaderState.{readerWords}
+use Rattle.terrain.specs.Memories.{Memories}
+use Rattle.states.specs.ReaderState.{readerWords}
+use Rattle.states.specs.ReaderAnswers.{countOf}
 use Rattle.terrain.specs.ReaderCalls as c
 
 -- the arguments of a call that Rattle's has too, and what its out-parameter held: `want` of a want, `drawn` of a draw
@@ -37,7 +38,7 @@ module _ (m : Memories) where
   seenOf rattle.want q z = wanted (number (c.wanting s)) (c.wantOf (c.wanting s) q)
   seenOf (rattle.feed a) q z = fed a (number (c.feeding s n x (a .size) (a .numbers)))
   seenOf (rattle.draw a) q z =
-      drew a (number (c.drawing s n x (a .size))) (c.countOf (c.drawing s n x (a .size)) z)
+      drew a (number (c.drawing s n x (a .size))) (countOf (c.drawing s n x (a .size)) z)
       (record { size = a .size; numbers = c.drawingArea s n x (a .size) (a .numbers) })
 
   unfoldable pub leaves : Call → Memories

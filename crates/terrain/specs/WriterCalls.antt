@@ -9,19 +9,14 @@ use Rattle.writer.specs.declared.Writer.{Writer}
 use Rattle.writer.specs.Answers.{Took, Handed, aRow, nothing}
 use Rattle.writer.specs.declared.BandRow.{BandRow}
 use Rattle.writer.specs.Calls.{offerReply, offerStore, drawReply, drawStore, drawArea, waitsReply, finishReply, finishStore}
-use Rattle.terrain.specs.WriterState.{isWriter, writerOf, writerWords}
-
--- 0, or the number of the question that turned the call away
-abbrev pub number : {A : Type 0} → Reply A → ℕ
-number (gives a) = 0
-number (refused q) = q
+use Rattle.states.specs.WriterState.{isWriter, writerOf, writerWords}
 
 -- the state array afterwards: as it was, s, where the call was turned away
 abbrev pub stateOf : Reply Writer → List ℕ → List ℕ
 stateOf (gives w) s = writerWords w
 stateOf (refused q) s = s
 
--- ---- offer; z is what the out-parameter held
+-- ---- offer
 abbrev pub offered : List ℕ → ℕ → List ℕ → (ℕ → ℤ) → Reply Took
 offered s n run x = pick (isWriter s) (offerReply (writerOf s) n run x) (refused 1)
 
@@ -31,10 +26,6 @@ offeredStore s n run x = pick (isWriter s) (offerStore (writerOf s) n run x) x
 abbrev pub stateTook : Reply Took → List ℕ → List ℕ
 stateTook (gives t) s = writerWords (t .writer)
 stateTook (refused q) s = s
-
-abbrev pub takenOf : Reply Took → ℕ → ℕ
-takenOf (gives t) z = t .taken
-takenOf (refused q) z = z
 
 -- ---- draw into an area of k numbers that holds z
 abbrev pub drawn : List ℕ → ℕ → ℕ → (ℕ → ℤ) → Reply Handed
@@ -50,12 +41,6 @@ abbrev pub stateHanded : Reply Handed → List ℕ → List ℕ
 stateHanded (gives (aRow r w)) s = writerWords w
 stateHanded (gives nothing) s = s
 stateHanded (refused q) s = s
-
--- level, band, row and length; Nothing is all zeros
-abbrev pub rowOf : Reply Handed → List ℕ → List ℕ
-rowOf (gives (aRow r w)) z = r .level ∷ r .band ∷ r .row ∷ r .length ∷ []
-rowOf (gives nothing) z = 0 ∷ 0 ∷ 0 ∷ 0 ∷ []
-rowOf (refused q) z = z
 
 -- ---- a look at what waits; z is what the out-parameter held
 abbrev pub waiting : List ℕ → Reply BandRow

@@ -6,8 +6,9 @@ use Rattle.calls.specs.Lists.{gives, refused, Area, events}
 use Rattle.writer.specs.History.{Call, Event, World, row, none}
 use Rattle.level.specs.Level.{Memory}
 use Rattle.writer.specs.History as rattle
-use Rattle.terrain.specs.States.{Memories}
-use Rattle.terrain.specs.WriterState.{writerWords}
+use Rattle.terrain.specs.Memories.{Memories}
+use Rattle.states.specs.WriterState.{writerWords}
+use Rattle.states.specs.WriterAnswers.{number, takenOf, rowOf}
 use Rattle.terrain.specs.WriterCalls as c
 
 -- the arguments of a call that Rattle's has too, and what its out-parameter held: `taken` of an offer, `row` of a draw
@@ -34,11 +35,11 @@ module _ (m : Memories) where
 
   -- by the contracts of `terrain_writer_offer`, `terrain_writer_draw` and `terrain_writer_finish`
   unfoldable pub seenOf : Call → ℕ → List ℕ → Seen
-  seenOf (rattle.offer run) z q = offered run (c.number (c.offered s n run x)) (c.takenOf (c.offered s n run x) z)
+  seenOf (rattle.offer run) z q = offered run (number (c.offered s n run x)) (takenOf (c.offered s n run x) z)
   seenOf (rattle.draw a) z q =
-      drew a (c.number (c.drawn s n (a .size) x)) (c.rowOf (c.drawn s n (a .size) x) q)
+      drew a (number (c.drawn s n (a .size) x)) (rowOf (c.drawn s n (a .size) x) q)
       (record { size = a .size; numbers = c.drawnArea s n (a .size) x (a .numbers) })
-  seenOf rattle.finish z q = finished (c.number (c.finished s n x))
+  seenOf rattle.finish z q = finished (number (c.finished s n x))
 
   unfoldable pub leaves : Call → Memories
   leaves (rattle.offer run) = record { state = c.stateTook (c.offered s n run x) s; length = n; store = c.offeredStore s n run x }

@@ -1,4 +1,5 @@
 // The fixed form of a picture: its header and its rows. What the calls say is `picture`'s: its definitions give the bytes.
+use height_bytes::rows;
 use picture::form;
 ghost use mathlib.Core.Path.{_≡_};
 ghost use Prim.Native.Nat.{_-_, _*_, min};
@@ -27,5 +28,5 @@ pub extern "C" fn terrain_picture_row(heights: &[u16], from: usize, out: &mut [u
     ensures { λ r. ⌜ r ≡ min (2 * length (now (heights .entry)) - from) (length (now (out .entry))) ⌝ }
     ensures { λ r. ⌜ now (out .exit) ≡ paste (now (out .entry)) 0 (drop from (rowBytes (now (heights .entry)))) r ⌝ }
 {
-    form::row(heights, from, out)
+    rows::row(heights, from, out)
 }

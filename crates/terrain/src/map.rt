@@ -12,8 +12,8 @@ ghost use Rattle.nine_seven.specs.Filters.{filterOf};
 ghost use Rattle.wavelet.specs.Plane.{cells, flat, planeOf, mapBack};
 ghost use Rattle.wavelet.specs.Shape.{columns, rows};
 ghost use Rattle.wavelet.specs.ViewCall.{viewQuestion, viewStart, viewLength};
-ghost use Rattle.whole_map.specs.Rowwise.{heightsAt};
-ghost use Rattle.whole_map.specs.Calls.{forwardQuestion, backwardQuestion, zeros, passed, rebuilt};
+ghost use Rattle.areas.specs.Areas.{heightsAt};
+ghost use Rattle.map_questions.specs.Calls.{forwardQuestion, backwardQuestion, zeros, passed, rebuilt};
 
 // A map of heights to its plane, by the filter of its shape. The questions are 2, 3, 18, 4 and 5.
 #[no_mangle]

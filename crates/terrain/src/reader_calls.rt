@@ -1,10 +1,8 @@
 // The reader's calls. The state is the caller's array: `reader_state` unpacks and packs it.
-use crate::reader_state;
-use reader::Drawn;
-use reader::Fed;
 use reader::Reader;
 use reader::SetUp;
 use reader::Wanted;
+use states::reader_state;
 use wavelet::shape::Shape;
 ghost use mathlib.Core.Path.{_≡_};
 ghost use lib.ListN.{length};
@@ -14,7 +12,8 @@ ghost use Rattle.wavelet.specs.Shape.{columns, rows};
 ghost use Rattle.reader.specs.Questions.{setUpQuestion};
 ghost use Rattle.reader.specs.Answers.{number};
 ghost use Rattle.reader.specs.Calls.{setUpReply, setUpStore};
-ghost use Rattle.terrain.specs.ReaderCalls.{stateOf, wanting, wantOf, feeding, feedingStore, drawing, drawingStore, drawingArea, stateDrawn, countOf};
+ghost use Rattle.states.specs.ReaderAnswers.{countOf};
+ghost use Rattle.terrain.specs.ReaderCalls.{stateOf, wanting, wantOf, feeding, feedingStore, drawing, drawingStore, drawingArea, stateDrawn};
 
 // A fresh reader. The questions are 2, 3, 18, 4 and 5.
 #[no_mangle]
@@ -92,17 +91,7 @@ pub extern "C" fn terrain_reader_feed(state: &mut [u64; 16], store: &mut [i32], 
         return 1;
     }
     let s = reader_state::unpack_reader(state);
-    match s.feed(store, run) {
-        Fed::Passed(next) => {
-            reader_state::pack_moved(next, state);
-            0
-        }
-        Fed::Impossible(next) => {
-            reader_state::pack_reader(next, state);
-            14
-        }
-        Fed::Refused(no) => no as u32,
-    }
+    reader_state::pack_fed(s.feed(store, run), state)
 }
 
 // A height row drawn, or Nothing. The questions are 1, 5, 9, 12 and 14; 14 leaves the ended reader.
@@ -129,20 +118,5 @@ pub extern "C" fn terrain_reader_draw(
         return 1;
     }
     let s = reader_state::unpack_reader(state);
-    match s.draw(store, out) {
-        Drawn::Heights(n, next) => {
-            reader_state::pack_moved(next, state);
-            *drawn = n;
-            0
-        }
-        Drawn::Nothing => {
-            *drawn = 0;
-            0
-        }
-        Drawn::Impossible(next) => {
-            reader_state::pack_reader(next, state);
-            14
-        }
-        Drawn::Refused(no) => no as u32,
-    }
+    reader_state::pack_drawn(s.draw(store, out), state, drawn)
 }

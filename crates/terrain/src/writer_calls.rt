@@ -1,20 +1,18 @@
 // The writer's calls. The state is the caller's array: `writer_state` unpacks and packs it.
-use crate::writer_state;
-use filters::figures;
+use states::writer_state;
 use wavelet::shape::Shape;
-use writer::Drawn;
 use writer::Finished;
 use writer::Look;
-use writer::Offered;
 use writer::SetUp;
 use writer::Writer;
 ghost use mathlib.Core.Path.{_≡_};
 ghost use lib.ListN.{length};
 ghost use Rattle.numbers.specs.Signal.{at, pick};
 ghost use Rattle.wavelet.specs.Shape.{columns};
-ghost use Rattle.filters.specs.Figures.{storeBy, streamable};
+ghost use Rattle.figures.specs.Figures.{storeBy, streamable};
 ghost use Rattle.writer.specs.Calls.{setUpReply, setUpStore};
-ghost use Rattle.terrain.specs.WriterCalls.{number, stateOf, offered, offeredStore, stateTook, takenOf, drawn, drawnStore, drawnArea, stateHanded, rowOf};
+ghost use Rattle.states.specs.WriterAnswers.{number, takenOf, rowOf};
+ghost use Rattle.terrain.specs.WriterCalls.{stateOf, offered, offeredStore, stateTook, drawn, drawnStore, drawnArea, stateHanded};
 ghost use Rattle.terrain.specs.WriterCalls.{waiting, lookOf, finished, finishedStore};
 
 // The numbers that the line store of a writer or a reader needs; 0 where set-up would give 2, 18 or 4. The height does not count.
@@ -71,14 +69,7 @@ pub extern "C" fn terrain_writer_offer(
         return 1;
     }
     let w = writer_state::unpack_writer(state);
-    match w.offer(store, run) {
-        Offered::Taken(n, next) => {
-            writer_state::pack_offered(next, state);
-            *taken = n;
-            0
-        }
-        Offered::Refused(no) => no as u32,
-    }
+    writer_state::pack_offered(w.offer(store, run), state, taken)
 }
 
 // A band row drawn, or Nothing. The questions are 1, 5 and 12.
@@ -103,18 +94,7 @@ pub extern "C" fn terrain_writer_draw(
         return 1;
     }
     let w = writer_state::unpack_writer(state);
-    match w.draw(store, out) {
-        Drawn::Row(r, next) => {
-            writer_state::pack_drawn(next, state);
-            *row = [r.level as u64, r.band as u64, r.row as u64, r.length as u64];
-            0
-        }
-        Drawn::Nothing => {
-            *row = [0, 0, 0, 0];
-            0
-        }
-        Drawn::Refused(no) => no as u32,
-    }
+    writer_state::pack_drawn(w.draw(store, out), state, row)
 }
 
 // A look at the band row that waits, for the next draw; level 0 where none does. The question is 1.

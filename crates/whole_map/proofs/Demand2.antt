@@ -25,11 +25,10 @@ use Rattle.wavelet.specs.Maps.{IsMap, HasPlane, inRange, rebuiltFits}
 use Rattle.wavelet.proofs.GridLaws.{place-below, flat-at}
 use Rattle.wavelet.proofs.LevelTheory.{Same}
 use Rattle.wavelet.proofs.MapTheorems.{some-map, one-map, back-exactly}
-use Rattle.whole_map.specs.Calls.{forwardQuestion, planeQuestions, backwardQuestion, passed, rebuilt}
+use Rattle.map_questions.specs.Calls.{forwardQuestion, planeQuestions, backwardQuestion, passed, rebuilt}
 use Rattle.nine_seven.proofs.Filters.{filter-laws}
-use Rattle.whole_map.proofs.TestLaws.{false-true}
-use Rattle.whole_map.proofs.QuestionLaws.{Roomy, roomy-is, asked-on}
-use Rattle.whole_map.proofs.CallLaws.{passed-yes, rebuilt-yes}
+use Rattle.map_levels.proofs.TestLaws.{false-true}
+use Rattle.map_questions.proofs.QuestionLaws.{Roomy, roomy-is, asked-on, passed-yes, rebuilt-yes}
 
 -- the cells of an area with a map or a plane at its front
 front-cells : (W H : ℕ) (Q : Grid) (h : ℕ → ℤ) (r c : ℕ) → r < H → c < W → cells W (fronted (W * H) (flat W Q) h) r c ≡ Q r c

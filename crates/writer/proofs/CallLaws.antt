@@ -10,26 +10,27 @@ use Rattle.numbers.specs.Signal.{pick, both}
 use Rattle.numbers.proofs.Sweep.{both as split-both}
 use Rattle.lifting.specs.Halves.{fronted}
 use Rattle.wavelet.specs.Limits.{maxWidth, maxHeight}
+use Rattle.wavelet.proofs.LimitLaws.{width-small, height-small}
 use Rattle.wavelet.specs.Questions.{ask, within}
 use Rattle.lifting.specs.Grid.{Side}
 use Rattle.nine_seven.specs.Filters.{filterOf, isFilter}
-use Rattle.filters.specs.Figures.{storeBy, streamable}
+use Rattle.figures.specs.Figures.{storeBy, streamable}
 use Rattle.calls.specs.Lists.{gives, refused, unless, changedUnless}
 use Rattle.calls.proofs.QuestionLaws.{asked-yes, not-yes}
 use Rattle.writer.specs.declared.Writer.{Writer}
 use Rattle.writer.specs.declared.BandRow.{BandRow}
-use Rattle.writer.specs.declared.cascade.Wait.{Wait}
+use Rattle.progress.specs.declared.waits.Wait.{Wait}
 use Rattle.writer.specs.declared.closing.Closure.{Closure}
 use Rattle.writer.specs.declared.draws.Spot.{Spot}
 use Rattle.writer.specs.Closing.{Shut, shut}
-use Rattle.writer.specs.Counts.{startOf}
+use Rattle.progress.specs.Counts.{startOf}
 use Rattle.writer.specs.Taking.{kind, columnsOf, takes}
 use Rattle.writer.specs.Questions.{either, inRanges, longEnough, waitingRow, setUpQuestion, offerQuestion, drawQuestion, finishQuestion}
 use Rattle.writer.specs.Gate.{stateQuestion}
 use Rattle.writer.specs.Answers.{Handed, aRow, nothing}
 use Rattle.writer.specs.Calls.{fresh, setUpReply, setUpStore, waits, closing, finishReply, finishStore, resumed, pulled, afterDraw, bandRow, handed}
 use Rattle.writer.specs.Calls.{handedStore, handedArea, drawReply, drawStore, drawArea}
-use Rattle.writer.specs.Steps.{Left, Found, Closed, Drew}
+use Rattle.writer.specs.Steps.{Room, Left, Walk, Found, Closed, Drawable, Drew}
 use Rattle.writer.proofs.GateLaws.{Sound, sound, state-no, state-yes}
 use Rattle.level.specs.Level.{Memory, rest}
 
@@ -148,18 +149,31 @@ module _ (s : Writer) (n q : ℕ) (x : Memory) (e : q ≡ finishQuestion s n) wh
         column = s .column;
         finished = true;
         closed = r .closed;
-        level = r .level;
-        left = r .left;
-        offset = r .offset;
+        level = r .wait .level;
+        left = r .wait .left;
+        offset = r .wait .offset;
         filter = s .filter;
       }) ≡ finishReply s n x) × (y ≡ finishStore s n x)
   unfolding finishReply finishStore
   finish-yes r y z f =
       rw (← e) (
-        ap gives (waits-same true s (closing s x) (r .closed) (r .level) (r .left) (r .offset) (f .closed) (f .level) (f .left) (f .offset))
-            ∙ unless-yes q _ z,
-        f .store ∙ changed-yes q _ x z,
+        ap gives (waits-same true s (closing s x) (r .closed) (r .wait .level) (r .wait .left) (r .wait .offset) (f .closed) (f .left .level) (f .left .left)
+            (f .left .offset)) ∙ unless-yes q _ z,
+        f .left .store ∙ changed-yes q _ x z,
       )
+
+-- ---- what the steps behind a call ask for
+pub sound-room : (s : Writer) (n : ℕ) → Sound s n → Room (s .filter) (s .levels) (columnsOf s) (s .rows) n
+sound-room s n f =
+    record { room = f .room; wide = omega (arith, f .width, width-small); rows = omega (arith, f .rows, height-small); deep = f .deep }
+
+pub sound-walk : (s : Writer) (n : ℕ) → Sound s n → 0 < s .level → Walk (s .levels) (columnsOf s) (s .level) (s .rows)
+sound-walk s n f h =
+    let r = sound-room s n f in
+    record { first = h; last = f .level; wide = r .wide; rows = r .rows; deep = r .deep }
+
+pub sound-drawable : (s : Writer) (n : ℕ) → Sound s n → 0 < s .level → Drawable s n
+sound-drawable s n f h = record { room = sound-room s n f; walk = sound-walk s n f h; placed = f .placed; closed = f .closed }
 
 -- ---- what a draw leaves
 module _ (s : Writer) (x y : Memory) (r : Wait) (l : Left (s .filter) (s .levels) (columnsOf s) (pulled s x) r y) where
@@ -250,15 +264,15 @@ module _ (s : Writer) (x y : Memory) (r : Wait) (l : Left (s .filter) (s .levels
         column = s .column;
         finished = s .finished;
         closed = q .closed;
-        level = q .level;
-        left = q .left;
-        offset = q .offset;
+        level = q .wait .level;
+        left = q .wait .left;
+        offset = q .wait .offset;
         filter = s .filter;
       }) z
   drew-closes q z e h f =
       let g = rw (l .store) at f in
-      drew (q .closed) (q .level) (q .left) (q .offset) z _ (resumed-closes (s .finished) (pulled s x .level) e (sym (l .level) ∙ h)) (g .closed)
-      (g .level) (g .left) (g .offset) (g .store)
+      drew (q .closed) (q .wait .level) (q .wait .left) (q .wait .offset) z _ (resumed-closes (s .finished) (pulled s x .level) e (sym (l .level) ∙ h))
+      (g .closed) (g .left .level) (g .left .left) (g .left .offset) (g .left .store)
 
 -- ---- draw
 module _ (s : Writer) (n k : ℕ) where

@@ -31,10 +31,10 @@ use Rattle.calls.specs.Lists.{All, all-none, all-more}
 use Rattle.calls.proofs.AllLaws.{all-append}
 use Rattle.nine_seven.specs.Filters.{filterOf}
 use Rattle.level.proofs.LevelLaws.{LevelLaws}
-use Rattle.filters.specs.Figures.{streamable}
+use Rattle.figures.specs.Figures.{streamable}
 use Rattle.filters.specs.Forward.{kindOf, heldOf, endedOf}
 use Rattle.filters.proofs.ForwardLaws.{laws-of}
-use Rattle.writer.specs.Counts.{mostLeft, startOf}
+use Rattle.progress.specs.Counts.{mostLeft, startOf}
 use Rattle.writer.specs.Machine.{Out, arrive}
 use Rattle.writer.specs.Draws.{Waiting, waiting, pull}
 use Rattle.writer.specs.Closing.{Shut, shut}

@@ -4,7 +4,7 @@
 use mathlib.Core.Bool.{Bool, true, false}
 use mathlib.Core.Path.{_≡_, refl, sym, ap, subst, subst₂, _∙_}
 use mathlib.Core.List.{List, [], _∷_}
-use Prim.Native.Nat.{ℕ, zero, suc, _+_, _-_, _*_, _/_, _%_, _≤_, _<_}
+use Prim.Native.Nat.{ℕ, zero, suc, _+_, _*_, _/_, _%_, _≤_, _<_}
 use native.Mathlib.Nat.{suc-mul}
 use native.Mathlib.Omega.{arith}
 use lib.IntN.{pos}
@@ -33,7 +33,7 @@ use Rattle.writer.specs.Answers.{Took, Handed, aRow}
 use Rattle.writer.specs.Calls.{fresh, setUpReply, took, offerReply, offerStore, waits, closing, finishReply, finishStore, bandRow, handed, handedStore}
 use Rattle.writer.specs.Calls.{handedArea, drawReply, drawStore, drawArea}
 use Rattle.writer.specs.Holds.{Holds, Keeps, AnyMap, GoesOn, MapRow, left, after, tookOf, DrawKeeps, FinishKeeps, OfferKeeps, SetUpHolds}
-use Rattle.writer.proofs.CountLaws.{code-one}
+use Rattle.progress.proofs.CountLaws.{code-one}
 use Rattle.writer.proofs.StateHolds.{st, placed-st, fresh-st, fresh-holds, pulled-by, draw-holds, finish-holds, begun-holds, complete-holds}
 use Rattle.writer.proofs.CallList.{rows-of, column-of, rows-below}
 use Rattle.writer.proofs.CallLaws.{offer-sound, finish-may, offer-may}

@@ -30,13 +30,13 @@ use Rattle.level.specs.Level.{Memory, LevelKind, completes, prev, rest, joinAt,
 use Rattle.level.proofs.Places.{prev-is}
 use Rattle.level.proofs.RestLaws.{rest-join, join-below}
 use Rattle.level.proofs.LevelLaws.{LevelLaws}
-use Rattle.writer.specs.Counts.{deeper, made, lowRows, most, mostLeft, bandAt, skip}
+use Rattle.progress.specs.Counts.{deeper, made, lowRows, most, mostLeft, bandAt, skip}
 use Rattle.writer.specs.Machine.{Out, still, under, passed, settled, arrived, arrive, passOn}
 use Rattle.writer.specs.Draws.{Waiting, lower, waiting, pull}
 use Rattle.writer.specs.Closing.{Shut, stepped, onward, closeStep, closeLevel, shut}
 use Rattle.writer.specs.Holds.{below, LevelHolds, SetWaits, LevelsHold}
-use Rattle.writer.proofs.CountLaws.{left-first, left-under, left-next, made-is, made-open, made-shut, made-most, made-step, made-stop, low-shut}
-use Rattle.writer.proofs.CountLaws.{low-none, completes-set, completes-no}
+use Rattle.progress.proofs.CountLaws.{left-first, left-under, left-next, made-is, made-open, made-shut, made-most, made-step, made-stop, low-shut}
+use Rattle.progress.proofs.CountLaws.{low-none, completes-set, completes-no}
 use Rattle.writer.proofs.Waiting.{lasts, lasts-most, rows-yes, skip-rows, skip-has, skip-le, onwards, pend, later, pend-none, pend-under, later-step}
 use Rattle.writer.proofs.Waiting.{later-still, later-empty, later-shut, made-still, made-set}
 

@@ -10,16 +10,21 @@ use Rattle.numbers.proofs.Sweep as sweep
 use Rattle.lifting.specs.Grid.{Side, side}
 use Rattle.wavelet.specs.Bands.{LL}
 use Rattle.wavelet.specs.Levels.{next}
+use Rattle.wavelet.proofs.SideLaws.{next-le}
+use Rattle.wavelet.proofs.StoreLaws.{store-next}
 use Rattle.nine_seven.specs.Filters.{filterOf}
 use Rattle.level.specs.Level.{Memory, LevelKind, completes, rest, joinAt}
+use Rattle.figures.specs.Figures.{storeBy}
 use Rattle.filters.specs.Forward.{kindOf, delivered}
+use Rattle.figures.proofs.FigureLaws.{row-few}
 use Rattle.filters.proofs.ForwardLaws.{passed-on}
 use Rattle.level.proofs.RestLaws.{rest-join, join-again}
-use Rattle.writer.specs.declared.cascade.Wait.{Wait}
-use Rattle.writer.specs.Counts.{deeper, further, most, skip, startOf}
+use Rattle.progress.specs.declared.waits.Wait.{Wait}
+use Rattle.progress.specs.Counts.{deeper, further, most, skip, startOf}
+use Rattle.progress.specs.Waits.{noWait, seenFrom}
 use Rattle.writer.specs.Machine.{Out, still, under, passed, settled, arrived, arrive, passOn}
-use Rattle.writer.specs.Steps.{Left, noWait}
-use Rattle.writer.proofs.CountLaws.{deeper-le, start-first, start-deeper, start-small}
+use Rattle.writer.specs.Steps.{Room, Left}
+use Rattle.progress.proofs.CountLaws.{deeper-le, deeper-by-one, start-first, start-deeper, start-small}
 
 -- ---- a set that is made
 pub settled-waits : (pass : ℕ → Memory → Out) (n i : ℕ) (x : Memory) → 0 < i → settled pass n x i ≡ record { store = x; level = 1; left = i }
@@ -56,6 +61,19 @@ module _ (φ : ℕ) where
   abbrev A : ℕ
   A = filterOf φ .ahead
 
+  -- ---- the levels below have room from the end of the first one's stretch on
+  pub room-below : (l p : ℕ) (W B : Side) (m k n j N : ℕ) → l ≡ p + 1 → Room φ l W m n → j ≡ R * W .length → B ≡ next W → k < 2 ^ 32 → n - j ≤ N →
+      Room φ p B k N
+  room-below l p W B m k n j N el r ej eb hk g =
+      let e : storeBy φ B p ≡ storeBy φ (next W) p = ap (λ (S : Side). storeBy φ S p) eb in
+      let d : B .length ≡ next W .length = ap (λ (S : Side). S .length) eb in
+      record {
+        room = omega (arith, e, ap (storeBy φ W) el, store-next R W p, r .room);
+        wide = omega (arith, d, next-le W, r .wide);
+        rows = hk;
+        deep = omega (arith, r .deep);
+      }
+
   -- ---- what a step leaves
   pub left-still : (l : ℕ) (w : Side) (o : Out) (r : Wait) (x : Memory) → r ≡ noWait → o ≡ still x → Left φ l w o r x
   left-still l w o r x d e = rw (d, e)
@@ -69,27 +87,32 @@ module _ (φ : ℕ) where
   left-same l w o o′ r x e f = rw e f
 
   -- an offset is far from what a number holds
-  pub left-small : (l : ℕ) (w : Side) (o : Out) (r : Wait) (x : Memory) → w .length < 2 ^ 16 → l < 2 ^ 16 → Left φ l w o r x → r .offset < 4294967296
+  pub left-small : (l : ℕ) (w : Side) (o : Out) (r : Wait) (x : Memory) → w .length < 2 ^ 16 → l < 2 ^ 16 → Left φ l w o r x → r .offset < 2 ^ 32
   left-small l w o r x h g f = omega (arith, f .offset, start-small φ w (o .level) h (omega (arith, f .level, f .within)))
+
+  -- what the next level leaves is still one, seen from this one
+  pub left-fits : (l : ℕ) (w : Side) (o : Out) (r : Wait) (x : Memory) → w .length < 2 ^ 16 → l < 2 ^ 16 → Left φ l (next w) o r x →
+      (1 + r .level < 2 ^ 64) × (R * w .length + r .offset < 2 ^ 64)
+  left-fits l w o r x h g f =
+      let small = left-small l (next w) o r x (omega (arith, next-le w)) g f in
+      (omega (arith, f .within), omega (arith, small, row-few φ (w .length)))
 
   -- what waits of the level above: seen from there
   pub under-offset : (w : Side) (o r v : ℕ) → r ≡ v → o ≡ startOf φ (next w) v → further r (R * w .length) o ≡ startOf φ w (deeper v)
   under-offset w o r v e f = ap (λ (r : ℕ). further r (R * w .length) o) e ∙ ap (further v (R * w .length)) f ∙ sym (start-deeper φ w v)
 
-  -- the levels below, from the end of the first one's stretch on: y is the store with the row that went there, t what they leave
-  pub left-under : (l k : ℕ) (w : Side) (d b : ℕ) (x y u t z : Memory) (o : Out) (r : Wait) → l ≡ k + 1 → y ≡ joinAt (R * w .length) x u →
-      z ≡ joinAt (R * w .length) y t →
-      d ≡ deeper (r .level) →
-      b ≡ further (r .level) (R * w .length) (r .offset) → Left φ k (next w) o r t →
-      Left φ l w (under (R * w .length) x o) (record { level = d; left = r .left; offset = b }) z
-  left-under l k w d b x y u t z o r el ey ez ed eb f =
-      record {
-        level = ed ∙ ap deeper (f .level);
+  -- the levels below, from the end of the first one's stretch on: t is what they leave
+  pub left-under : (l k : ℕ) (w : Side) (x t z : Memory) (o : Out) (r q : Wait) → l ≡ k + 1 → z ≡ joinAt (R * w .length) x t →
+      q ≡ seenFrom 1 (R * w .length) r → Left φ k (next w) o r t → Left φ l w (under (R * w .length) x o) q z
+  left-under l k w x t z o r q el ez eq f =
+      let d = deeper-by-one (r .level) in
+      rw eq (record {
+        level = d ∙ ap deeper (f .level);
         left = f .left;
-        offset = eb ∙ under-offset w (r .offset) (r .level) (o .level) (f .level) (f .offset);
-        store = ez ∙ ap (λ (m : Memory). joinAt (R * w .length) m t) ey ∙ join-again (R * w .length) x u t ∙ ap (joinAt (R * w .length) x) (f .store);
-        within = omega (arith, deeper-le (r .level) k (f .within));
-      }
+        offset = under-offset w (r .offset) (r .level) (o .level) (f .level) (f .offset);
+        store = ez ∙ ap (joinAt (R * w .length) x) (f .store);
+        within = omega (arith, d, deeper-le (r .level) k (f .within));
+      })
 
   -- ---- its LL row
   module _ (W : Side) (s n : ℕ) (x : Memory) where
@@ -124,17 +147,20 @@ module _ (φ : ℕ) where
         (sym delivered-rest))
 
   -- the LL row has gone on to the levels below, whose stretches begin at j, and which leave t
-  pub passed-goes : (l : ℕ) (W : Side) (s n v a b k d o p j : ℕ) (x y t z : Memory) (r : Wait) → 0 < l → s % 2 ≤ n → Below W s n v a b k → p ≡ b % 2 + k →
-      j ≡ K .stretch W →
+  pub passed-goes : (l : ℕ) (W : Side) (s n v a b k p j : ℕ) (x y t z : Memory) (r q : Wait) → W .length < 2 ^ 16 → l < 2 ^ 16 → 0 < l → s % 2 ≤ n →
+      Below W s n v a b k → p ≡ b % 2 + k → j ≡ K .stretch W →
       y ≡ delivered φ W n p x → Left φ l (side a v) (arrive K l (side a v) b k (rest j y)) r t → z ≡ joinAt j y t →
-      d ≡ deeper (r .level) → o ≡ further (r .level) j (r .offset) → Left φ (l + 1) W (passOn K l W s n x)
-      (record { level = d; left = r .left; offset = o }) z
-  passed-goes l W s n v a b k d o p j x y t z r h f g ep ej e u ez ed eo =
+      ((1 + r .level < 2 ^ 64) × (j + r .offset < 2 ^ 64) → q ≡ seenFrom 1 j r) → Left φ (l + 1) W (passOn K l W s n x) q z
+  passed-goes l W s n v a b k p j x y t z r q wide deep h f g ep ej e u ez eq =
       let place : p ≡ (s + 1) / 2 % 2 + (n - s % 2) = ep ∙ ap (λ (i : ℕ). i % 2 + k) (g .start) ∙ ap (λ (i : ℕ). (s + 1) / 2 % 2 + i) (g .row) in
       let y-is : y ≡ delivered φ W n ((s + 1) / 2 % 2 + (n - s % 2)) x = e ∙ ap (λ (i : ℕ). delivered φ W n i x) place in
-      left-same (l + 1) W _ _ _ z (pass-goes W s n x l h f)
-      (left-under (l + 1) l W d o x y _ t z _ r refl (y-is ∙ delivered-join W s n x) (ez ∙ ap (λ (i : ℕ). joinAt i y t) ej) ed
-      (eo ∙ ap (λ (i : ℕ). further (r .level) i (r .offset)) ej) (rw (g .columns, g .start, g .row, ej, y-is) at u))
+      let below : Left φ l (next W) (arrive K l (next W) ((s + 1) / 2) (n - s % 2) (rest (R * W .length) (delivered φ W n (to W s n x) x))) r t =
+      rw (g .columns, g .start, g .row, ej, y-is) at u in
+      let seen : q ≡ seenFrom 1 (R * W .length) r = (rw ej at eq) (left-fits l W _ r t wide deep below) in
+      let join =
+      ez ∙ ap (λ (i : ℕ). joinAt i y t) ej ∙ ap (λ (m : Memory). joinAt (R * W .length) m t) (y-is ∙ delivered-join W s n x)
+      ∙ join-again (R * W .length) x _ t in
+      left-same (l + 1) W _ _ _ z (pass-goes W s n x l h f) (left-under (l + 1) l W x t z _ r q refl join seen below)
 
   -- ---- a row that comes
   module _ (l : ℕ) (W : Side) (s m : ℕ) (x : Memory) where
@@ -187,11 +213,12 @@ module _ (φ : ℕ) where
     came-last q h t et n₂ r er = left-still l W _ r x₁ er (goes-on q h ∙ pass-none W s n x₁ (l - 1) (sym et ∙ not-true t n₂))
 
     pub came-goes : i ≡ skip W (side s (m + 1)) n (most (l - 1)) → i ≡ 0 → (t : Bool) → t ≡ both (ltb 0 (l - 1)) (leb (s % 2) n) → not t ≡ false →
-        (v a b k d o p e : ℕ) (x₂ y z : Memory) (r : Wait) → Below W s n v a b k → p ≡ b % 2 + k → e ≡ K .stretch W → x₂ ≡ delivered φ W n p x₁ →
+        (v a b k p e : ℕ) (x₂ y z : Memory) (r r′ : Wait) → W .length < 2 ^ 16 → l < 2 ^ 16 →
+        Below W s n v a b k → p ≡ b % 2 + k → e ≡ K .stretch W → x₂ ≡ delivered φ W n p x₁ →
         Left φ (l - 1) (side a v) (arrive K (l - 1) (side a v) b k (rest e x₂)) r y → z ≡ joinAt e x₂ y →
-        d ≡ deeper (r .level) → o ≡ further (r .level) e (r .offset) →
-        Left φ l W (arrive K l W s m x) (record { level = d; left = r .left; offset = o }) z
-    came-goes q h t et yes₂ v a b k d o p e x₂ y z r g ep ee e₂ f ez ed eo =
+        ((1 + r .level < 2 ^ 64) × (e + r .offset < 2 ^ 64) → r′ ≡ seenFrom 1 e r) → Left φ l W (arrive K l W s m x) r′ z
+    came-goes q h t et yes₂ v a b k p e x₂ y z r r′ wide deep g ep ee e₂ f ez er =
         let w = goes (l - 1) s n t et yes₂ in
         let j : l - 1 + 1 ≡ l = omega (arith, hl) in
-        rw j at (left-same (l - 1 + 1) W _ _ _ z (goes-on q h) (passed-goes (l - 1) W s n v a b k d o p e x₁ x₂ y z r (w .0) (w .1) g ep ee e₂ f ez ed eo))
+        rw j at (left-same (l - 1 + 1) W _ _ _ z (goes-on q h)
+        (passed-goes (l - 1) W s n v a b k p e x₁ x₂ y z r r′ wide (omega arith) (w .0) (w .1) g ep ee e₂ f ez er))

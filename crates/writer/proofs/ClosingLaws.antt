@@ -13,14 +13,15 @@ use Rattle.wavelet.specs.Order.{lastSet}
 use Rattle.nine_seven.specs.Filters.{filterOf}
 use Rattle.level.specs.Level.{Memory, LevelKind, rest, joinAt}
 use Rattle.filters.specs.Forward.{kindOf}
-use Rattle.writer.specs.declared.cascade.Wait.{Wait}
+use Rattle.progress.specs.declared.waits.Wait.{Wait}
 use Rattle.writer.specs.declared.closing.Closure.{Closure}
-use Rattle.writer.specs.Counts.{deeper, further, made, most, skip}
+use Rattle.progress.specs.Counts.{made, most, skip}
+use Rattle.progress.specs.Waits.{noWait, seenFrom}
 use Rattle.writer.specs.Machine.{Out, still, under, settled, passOn}
 use Rattle.writer.specs.Closing.{Shut, stepped, onward, closeStep, closeLevel, shut}
-use Rattle.writer.specs.Steps.{Left, LevelClosed, Closed, idle}
-use Rattle.writer.proofs.CountLaws.{steps-more, deeper-le, start-first, start-small}
-use Rattle.writer.proofs.CascadeLaws.{left-waits, left-same, under-offset, settled-waits, settled-goes}
+use Rattle.writer.specs.Steps.{Left, LevelClosed, Closed}
+use Rattle.progress.proofs.CountLaws.{steps-more}
+use Rattle.writer.proofs.CascadeLaws.{left-still, left-waits, left-same, left-fits, left-under, settled-waits, settled-goes}
 
 -- ---- the steps of a level
 stepped-waits : (c : ℕ) (f : Memory → Shut) (o : Out) (v : ℕ) → 0 < v → stepped c f o v ≡ record { closed = suc c; out = o }
@@ -96,34 +97,16 @@ module _ (φ : ℕ) where
 
     module _ (c k : ℕ) (x₀ x : Memory) (e : from k x ≡ from c x₀) where
       -- all are done, and nothing waits
-      pub level-done : (r : Closure) → r ≡ idle k → A ≤ k → LevelClosed φ (l + 1) w (from c x₀) r x
+      pub level-done : (r : Wait) → r ≡ noWait → A ≤ k → LevelClosed φ (l + 1) w (from c x₀) (record { closed = k; wait = r }) x
       level-done r d h =
-          rw (d, sym e ∙ from-done k x h)
-          (record {
-            closed = refl;
-            level = refl;
-            left = refl;
-            offset = sym (start-first φ w 0 (omega arith));
-            store = refl;
-            within = omega arith;
-            some = λ z. absurd (omega arith);
-          })
+          let none : r .level ≡ 0 = ap (λ (q : Wait). q .level) d in
+          rw (sym e ∙ from-done k x h) (record { closed = refl; left = left-still φ (l + 1) w _ r x d refl; some = λ z. absurd (omega arith) })
 
       module _ (h : k < A) (r : Wait) (y : Memory) (f : Left φ (l + 1) w (closeStep K l w s k m x) r y) where
         -- a step after which a row waits
-        pub level-waits : (b : ℕ) → b ≡ k + 1 → 0 < r .level →
-            LevelClosed φ (l + 1) w (from c x₀) (record { closed = b; level = r .level; left = r .left; offset = r .offset }) y
+        pub level-waits : (b : ℕ) → b ≡ k + 1 → 0 < r .level → LevelClosed φ (l + 1) w (from c x₀) (record { closed = b; wait = r }) y
         level-waits b eb g =
-            rw (sym e ∙ from-step k x h ∙ stepped-waits k _ _ _ (omega (arith, f .level)))
-            (record {
-              closed = omega arith;
-              level = f .level;
-              left = f .left;
-              offset = f .offset;
-              store = f .store;
-              within = f .within;
-              some = λ z. omega arith;
-            })
+            rw (sym e ∙ from-step k x h ∙ stepped-waits k _ _ _ (omega (arith, f .level))) (record { closed = omega arith; left = f; some = λ z. omega arith })
 
         -- and one after which none does
         pub level-on : (b : ℕ) → b ≡ k + 1 → r .level ≡ 0 → from b y ≡ from c x₀
@@ -132,20 +115,10 @@ module _ (φ : ℕ) where
             rw (d, f .store) (sym (stepped-goes k (from (suc k)) (closeStep K l w s k m x) _ (sym (f .level) ∙ g)) ∙ sym (from-step k x h) ∙ e)
 
   -- ---- all of them
-  pub closed-small : (l : ℕ) (w : Side) (o : Shut) (r : Closure) (x : Memory) → w .length < 2 ^ 16 → l < 2 ^ 16 → Closed φ l w o r x → r .offset < 4294967296
-  closed-small l w o r x h g f = omega (arith, f .offset, start-small φ w (o .out .level) h (omega (arith, f .level, f .within)))
-
-  pub shut-none : (l : ℕ) (w : Side) (s c m : ℕ) (x : Memory) (r : Closure) → r ≡ idle c → l ≡ 0 → c ≤ A * l → Closed φ l w (shut K l w s c m x) r x
+  pub shut-none : (l : ℕ) (w : Side) (s c m : ℕ) (x : Memory) (r : Wait) → r ≡ noWait → l ≡ 0 → c ≤ A * l →
+      Closed φ l w (shut K l w s c m x) (record { closed = c; wait = r }) x
   unfolding shut
-  shut-none zero w s c m x r d e h = rw d (record {
-    closed = refl;
-    level = refl;
-    left = refl;
-    offset = sym (start-first φ w 0 (omega arith));
-    store = refl;
-    within = omega arith;
-    all = h;
-  })
+  shut-none zero w s c m x r d e h = record { closed = refl; left = left-still φ 0 w _ r x d refl; all = h }
   shut-none (suc l) w s c m x r d e h = absurd (omega arith)
 
   shut-more : (l : ℕ) (w : Side) (s c m : ℕ) (x : Memory) →
@@ -165,35 +138,25 @@ module _ (φ : ℕ) where
     abbrev o : Shut
     o = closeLevel K (A - c) (l - 1) w s c m x
 
-    pub shut-waits : 0 < r .level → Closed φ l w (shut K l w s c m x) r y
+    pub shut-waits : 0 < r .wait .level → Closed φ l w (shut K l w s c m x) r y
     shut-waits g =
-        let e : shut K l w s c m x ≡ o = shut-is l w s c m x h ∙ onward-waits _ _ _ o (o .out .level) (omega (arith, f .level)) in
-        rw e (record {
-          closed = f .closed;
-          level = f .level;
-          left = f .left;
-          offset = f .offset;
-          store = f .store;
-          within = omega (arith, f .within);
-          all = omega (arith, f .some g, steps-more A l h);
-        })
+        let e : shut K l w s c m x ≡ o = shut-is l w s c m x h ∙ onward-waits _ _ _ o (o .out .level) (omega (arith, f .left .level)) in
+        let k : l - 1 + 1 ≡ l = omega arith in
+        rw e (record { closed = f .closed; left = rw k at (f .left); all = omega (arith, f .some g, steps-more A l h) })
 
-    pub shut-goes : (v : Side) (a p k d b e j : ℕ) (t z : Memory) (q : Closure) → r .level ≡ 0 → j ≡ K .stretch w →
-        v ≡ next w → a ≡ (s + 1) / 2 → p ≡ c - A →
-        k ≡ count lo (side s m) → Closed φ (l - 1) v (shut K (l - 1) v a p k (rest j y)) q t → z ≡ joinAt j y t →
-        e ≡ A → d ≡ deeper (q .level) → b ≡ further (q .level) j (q .offset) → Closed φ l w (shut K l w s c m x)
-        (record { closed = e + q .closed; level = d; left = q .left; offset = b }) z
-    shut-goes v a p k d b e j t z q g ej ev ea ep ek u ez ee ed eb =
+    pub shut-goes : (v : Side) (a p k e j : ℕ) (t z : Memory) (q : Closure) (u : Wait) → w .length < 2 ^ 16 → l < 2 ^ 16 → r .wait .level ≡ 0 →
+        j ≡ K .stretch w → v ≡ next w → a ≡ (s + 1) / 2 → p ≡ c - A → k ≡ count lo (side s m) →
+        Closed φ (l - 1) v (shut K (l - 1) v a p k (rest j y)) q t → z ≡ joinAt j y t →
+        e ≡ A → ((1 + q .wait .level < 2 ^ 64) × (j + q .wait .offset < 2 ^ 64) → u ≡ seenFrom 1 j (q .wait)) →
+        Closed φ l w (shut K l w s c m x) (record { closed = e + q .closed; wait = u }) z
+    shut-goes v a p k e j t z q u wide deep g ej ev ea ep ek d ez ee eu =
         let below : Closed φ (l - 1) (next w) (shut K (l - 1) (next w) ((s + 1) / 2) (c - A) (count lo (side s m))
-        (rest (R * w .length) (o .out .store))) q t = rw (ev, ea, ep, ek, ej, f .store) at u in
-        let is = shut-is l w s c m x h ∙ onward-goes _ _ _ o (o .out .level) (sym (f .level) ∙ g) in
+        (rest (R * w .length) (o .out .store))) q t = rw (ev, ea, ep, ek, ej, f .left .store) at d in
+        let is = shut-is l w s c m x h ∙ onward-goes _ _ _ o (o .out .level) (sym (f .left .level) ∙ g) in
+        let seen : u ≡ seenFrom 1 (R * w .length) (q .wait) = (rw ej at eu) (left-fits φ (l - 1) w _ (q .wait) t wide (omega arith) (below .left)) in
+        let join = ez ∙ ap (λ (i : ℕ). joinAt i y t) ej ∙ ap (λ (m : Memory). joinAt (R * w .length) m t) (f .left .store) in
         rw is (record {
           closed = ap (λ (i : ℕ). i + q .closed) ee ∙ ap (λ (i : ℕ). A + i) (below .closed);
-          level = ed ∙ ap deeper (below .level);
-          left = below .left;
-          offset = eb ∙ ap (λ (i : ℕ). further (q .level) i (q .offset)) ej ∙ under-offset φ w (q .offset) (q .level) _ (below .level) (below .offset);
-          store = ez ∙ ap (λ (i : ℕ). joinAt i y t) ej ∙ ap (λ (m : Memory). joinAt (R * w .length) m t) (f .store)
-              ∙ ap (joinAt (R * w .length) (o .out .store)) (below .store);
-          within = omega (arith, deeper-le (q .level) (l - 1) (below .within));
+          left = left-under φ l (l - 1) w (o .out .store) t z _ (q .wait) u (omega arith) join seen (below .left);
           all = omega (arith, below .all, steps-more A l h);
         })

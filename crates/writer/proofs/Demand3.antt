@@ -3,7 +3,7 @@
 use mathlib.Core.Bool.{Bool, true, false}
 use mathlib.Core.Path.{_≡_, refl, sym, ap, ap₂, subst, _∙_}
 use mathlib.Core.List.{List, [], _++_, map, map-append, append-nil, append-assoc}
-use Prim.Native.Nat.{ℕ, zero, suc, _+_, _-_, _*_, _≤_, _<_}
+use Prim.Native.Nat.{ℕ, zero, suc, _+_, _*_, _≤_, _<_}
 use native.Mathlib.Nat.{mul-comm, mul-le-mul-right, suc-mul}
 use native.Mathlib.Decide.{decLt}
 use native.Mathlib.Omega.{arith}
@@ -27,14 +27,14 @@ use Rattle.calls.proofs.AllLaws.{all-map, all-take, all-at}
 use Rattle.nine_seven.specs.Filters.{filterOf}
 use Rattle.nine_seven.proofs.Filters.{filter-laws}
 use Rattle.level.specs.Level.{Memory, rest}
-use Rattle.filters.specs.Figures.{storeBy, streamable}
-use Rattle.filters.proofs.FigureLaws.{streams}
+use Rattle.figures.specs.Figures.{storeBy, streamable}
+use Rattle.figures.proofs.FigureLaws.{streams}
 use Rattle.filters.proofs.ForwardLaws.{laws-of}
 use Rattle.writer.specs.Taking.{columnsOf}
 use Rattle.writer.specs.Questions.{inRanges, setUpQuestion}
 use Rattle.writer.specs.History.{Call, row, Event, World, event, events, final, freshWorld, taken, finishes, finishedBy, DrawnRow, drawn}
 use Rattle.writer.specs.Demand3.{wholeRows, madeOf, waitingOf, answered, Begins, MapOf, HasValues, PlaneDrawn, Demand3}
-use Rattle.writer.proofs.CountLaws.{code-one}
+use Rattle.progress.proofs.CountLaws.{code-one}
 use Rattle.writer.proofs.StateHolds.{differ, st}
 use Rattle.writer.proofs.CallLaws.{set-up-passed}
 use Rattle.writer.proofs.CallList.{Fits, coming, Right, At, own-sound, in-ranges, rows-all}

@@ -1,5 +1,5 @@
 -- The row that waits and its draw, as the code's branches meet them. Assumes nothing.
-use mathlib.Core.Path.{_≡_, refl, sym, ap, _∙_, fun-ext}
+use mathlib.Core.Path.{_≡_, refl, sym, ap, subst, _∙_, fun-ext}
 use Prim.Native.Nat.{ℕ, zero, suc, _+_, _-_, _*_, _/_, _≤_, _<_, _^_}
 use native.Mathlib.Decide.{decLt}
 use native.Mathlib.Omega.{arith}
@@ -10,25 +10,29 @@ use Rattle.wavelet.specs.Order.{setRow}
 use Rattle.wavelet.proofs.SideLaws.{next-le}
 use Rattle.wavelet.proofs.StoreLaws.{store-back, store-next}
 use Rattle.nine_seven.specs.Filters.{filterOf}
+use Rattle.figures.specs.Figures.{storeBy}
 use Rattle.level.specs.Level.{Memory, LevelKind, prev, rest, joinAt}
 use Rattle.level.proofs.Places.{prev-is}
 use Rattle.level.proofs.RestLaws.{rest-at, join-below, join-past}
 use Rattle.filters.specs.Forward.{kindOf}
+use Rattle.figures.proofs.FigureLaws.{store-few}
 use Rattle.filters.proofs.ForwardLaws.{place-room}
 use Rattle.writer.specs.declared.Writer.{Writer}
-use Rattle.writer.specs.declared.cascade.Wait.{Wait}
-use Rattle.writer.specs.declared.draws.Level.{Level}
+use Rattle.progress.specs.declared.waits.Wait.{Wait}
+use Rattle.progress.specs.declared.levels.Level.{Level}
 use Rattle.writer.specs.declared.draws.Spot.{Spot}
-use Rattle.writer.specs.Counts.{deeperBy, further, made, lowRows, bandAt, skip, startOf}
+use Rattle.progress.specs.Levels.{levelAt}
+use Rattle.progress.specs.Waits.{seenFrom}
+use Rattle.progress.specs.Counts.{deeperBy, further, made, lowRows, bandAt, skip, startOf}
 use Rattle.writer.specs.Machine.{Out, under, settled, passOn}
 use Rattle.writer.specs.Draws.{lower, rowOf, waiting, pull}
 use Rattle.writer.specs.Taking.{kind, columnsOf}
 use Rattle.writer.specs.Questions.{waitingRow}
 use Rattle.writer.specs.Calls.{pulled, bandRow}
 use Rattle.writer.specs.Steps.{Left, Found, Reaches, columns, received, waitingAt, pullAt, from, spotOf, Walk}
-use Rattle.writer.proofs.CountLaws.{start-first, start-deeper, further-none, further-some, deeper-by-same, deeper-by-more, deeper-by-none}
-use Rattle.writer.proofs.CountLaws.{deeper-by-some, deeper-by-le, made-le, low-le, start-more}
-use Rattle.writer.proofs.CascadeLaws.{left-same, settled-waits, settled-goes}
+use Rattle.progress.proofs.CountLaws.{start-first, start-deeper, further-none, further-some, deeper-by-same, deeper-by-more, deeper-by-none}
+use Rattle.progress.proofs.CountLaws.{deeper-by-some, deeper-by-le, made-le, low-le, start-more}
+use Rattle.writer.proofs.CascadeLaws.{left-same, left-small, settled-waits, settled-goes}
 
 -- ---- the store from a place on, in two steps
 pub rest-rest : (a b : ℕ) (x : Memory) → rest b (rest a x) ≡ rest (a + b) x
@@ -130,7 +134,7 @@ module _ (φ : ℕ) where
 
   module _ (w : Side) (s c m l v a i : ℕ) (e : v ≡ 1) (z : a ≡ 0) where
     abbrev first : Level
-    first = record { below = l; width = w .length; x = w .start; rows = m; y = s; set = prev (made A c s m) }
+    first = record { width = w .length; x = w .start; rows = m; y = s; set = prev (made A c s m) }
 
     at-first : waitingAt φ v a first i ≡ rowOf K w (side s m) (prev (made A c s m)) (bandAt (prev i))
     unfolding waitingAt
@@ -138,7 +142,7 @@ module _ (φ : ℕ) where
         let k : 0 + K .place w s (prev (made A c s m)) (bandAt (prev i)) ≡ K .place w s (prev (made A c s m)) (bandAt (prev i)) = omega arith in
         rw (z, e, k) refl
 
-    pull-first : (x : Memory) → pullAt φ v a first i x ≡ settled (passOn K l w s)
+    pull-first : (x : Memory) → pullAt φ l v a first i x ≡ settled (passOn K l w s)
         (prev (made A c s m)) x (skip w (side s m) (prev (made A c s m)) (prev i))
     unfolding pullAt
     pull-first x = rw (z, e, rest-first x) (from-first x _)
@@ -153,19 +157,22 @@ module _ (φ : ℕ) where
       ap (λ (k : ℕ). startOf φ w (deeperBy k (suc u))) k ∙ ap (startOf φ w) (deeper-by-same (suc u)) ∙ q ∙ further-some (suc u) (startOf φ w v) _ (omega arith)
 
   pub reaches-here : (l : ℕ) (w : Side) (s c v m : ℕ) → 0 < l → v ≡ 1 → w .length < 2 ^ 16 → m < 2 ^ 32 →
-      Reaches φ l w s c v m (record { below = l - 1; width = w .length; x = w .start; rows = m; y = s; set = prev (made A c s m) })
+      Reaches φ l w s c v m (record { width = w .length; x = w .start; rows = m; y = s; set = prev (made A c s m) })
   reaches-here l w s c v m h e g g′ =
       let z = start-first φ w v (omega arith) in
-      let k : l - 1 + 1 ≡ l = omega arith in
+      let k : l - v + 1 ≡ l = omega arith in
+      let b : l - 1 ≡ l - v = omega arith in
       record {
         waits = λ i. waiting-here w s c i m l v h e ∙ sym (at-first w s c m (l - 1) v (startOf φ w v) i e z);
-        pulls = λ i x. pull-here w s c i m l v x h e ∙ sym (pull-first w s c m (l - 1) v (startOf φ w v) i e z x);
+        pulls =
+            λ i x. pull-here w s c i m l v x h e ∙ sym (pull-first w s c m (l - 1) v (startOf φ w v) i e z x)
+            ∙ ap (λ (b : ℕ). pullAt φ b v (startOf φ w v) (first w s c m (l - 1) v (startOf φ w v) i e z) i x) b;
         starts = λ u. starts-here w v u e;
         room = rw (z, k) (omega arith);
         wide = g;
         rows = g′;
         sets = omega (arith, prev-is (made A c s m), made-le A c s m);
-        deep = omega arith;
+        last = omega arith;
       }
 
   module _ (w : Side) (v : ℕ) (r : Level) (i : ℕ) (g : 1 < v) where
@@ -178,10 +185,10 @@ module _ (φ : ℕ) where
         let q : R * w .length + (a + d) ≡ startOf φ w v + d = omega (arith, start-more φ w v g) in
         rw (e, q) refl
 
-    pull-more : (x : Memory) → under (R * w .length) x (pullAt φ (v - 1) (startOf φ (next w) (v - 1)) r i (rest (R * w .length) x))
-        ≡ pullAt φ v (startOf φ w v) r i x
+    pull-more : (b : ℕ) (x : Memory) → under (R * w .length) x (pullAt φ b (v - 1) (startOf φ (next w) (v - 1)) r i (rest (R * w .length) x))
+        ≡ pullAt φ b v (startOf φ w v) r i x
     unfolding pullAt
-    pull-more x =
+    pull-more b x =
         from-under (prev (v - 1)) (R * w .length) (startOf φ (next w) (v - 1)) x _
         ∙ rw (rest-rest (R * w .length) (startOf φ (next w) (v - 1)) x, start-more φ w v g, prev-more v g) refl
 
@@ -204,62 +211,45 @@ module _ (φ : ℕ) where
       ∙ sum
       ∙ further-some (suc u) (startOf φ w v) _ (omega arith)
 
-  pub reaches-below : (l : ℕ) (w : Side) (s c v m : ℕ) (h : Side) (b p k : ℕ) (r : Level) → 1 < v → v ≤ l → h ≡ next w → b ≡ (s + 1) / 2 → p ≡ c - A →
-      k ≡ lowRows s (made A c s m) → Reaches φ (l - 1) h b p (v - 1) k r → Reaches φ l w s c v m r
-  reaches-below l w s c v m h b p k r g g′ eh eb ep ek f =
-      let below : Reaches φ (l - 1) (next w) ((s + 1) / 2) (c - A) (v - 1) (lowRows s (made A c s m)) r = rw (eh, eb, ep, ek) at f in
+  reaches-below : (l : ℕ) (w : Side) (s c v m : ℕ) (r : Level) → 1 < v → v ≤ l →
+      Reaches φ (l - 1) (next w) ((s + 1) / 2) (c - A) (v - 1) (lowRows s (made A c s m)) r → Reaches φ l w s c v m r
+  reaches-below l w s c v m r g g′ below =
+      let e : l - 1 - (v - 1) ≡ l - v = omega arith in
       record {
         waits = λ i. waiting-below w s c i m l v (omega arith) g ∙ ap (lower (R * w .length)) (below .waits i) ∙ at-below w v r i g;
         pulls =
-            λ i x. pull-below w s c i m l v x (omega arith) g ∙ ap (under (R * w .length) x) (below .pulls i (rest (R * w .length) x)) ∙ pull-more w v r i g x;
+            λ i x. pull-below w s c i m l v x (omega arith) g ∙ ap (under (R * w .length) x) (below .pulls i (rest (R * w .length) x))
+            ∙ pull-more w v r i g (l - 1 - (v - 1)) x ∙ ap (λ (b : ℕ). pullAt φ b v (startOf φ w v) r i x) e;
         starts = λ u. starts-below w v (columns r) u g (below .starts u);
-        room = omega (arith, below .room, start-more φ w v g, store-back R w l (omega arith));
-        wide = f .wide;
-        rows = f .rows;
-        sets = f .sets;
-        deep = omega (arith, f .deep);
+        room =
+            omega (arith, below .room, ap (λ (b : ℕ). storeBy φ (columns r) (b + 1)) e, start-more φ w v g, store-back R w l (omega arith));
+        wide = below .wide;
+        rows = below .rows;
+        sets = below .sets;
+        last = g′;
       }
 
-  -- the way down from the first of l levels to level v has come to level k, of the columns u and n rows that start at t, b levels closed from there on: what is
-  -- found from there is what is found from the first
-  module _ (l : ℕ) (w : Side) (s c v m : ℕ) where
-    pub record Walked (u : Side) (t b n k : ℕ) : Type 0 where
-      pub first : 0 < k
-      pub last : k ≤ v
-      pub wide : u .length < 2 ^ 16
-      pub rows : n < 2 ^ 32
-      pub found : (r : Level) → Reaches φ (l - (v - k)) u t b k n r → Reaches φ l w s c v m r
+  -- the level that is found, a step down at a time
+  reaches : (v l : ℕ) (w : Side) (s c m : ℕ) → Walk l w v m → Reaches φ l w s c v m (levelAt A w s c v m)
+  unfolding levelAt
+  reaches zero l w s c m h = absurd (omega (arith, h .first))
+  reaches (suc zero) l w s c m h = reaches-here l w s c 1 m (omega (arith, h .last)) refl (h .wide) (h .rows)
+  reaches (suc (suc v)) l w s c m h =
+      let k = lowRows s (made A c s m) in
+      let e : suc v ≡ suc (suc v) - 1 = omega arith in
+      reaches-below l w s c (suc (suc v)) m _ (omega arith) (h .last)
+      (subst (λ (u : ℕ). Reaches φ (l - 1) (next w) ((s + 1) / 2) (c - A) u k (levelAt A (next w) ((s + 1) / 2) (c - A) (suc v) k)) e
+      (reaches (suc v) (l - 1) (next w) ((s + 1) / 2) (c - A) k
+      (record {
+        first = omega arith;
+        last = omega (arith, h .last);
+        wide = omega (arith, h .wide, next-le w);
+        rows = omega (arith, h .rows, low-le A c s m);
+        deep = omega (arith, h .deep);
+      })))
 
-    pub walk-start : Walk l w v m → Walked w s c m v
-    walk-start h =
-        let e : l - (v - v) ≡ l = omega arith in
-        record { first = h .first; last = omega arith; wide = h .wide; rows = h .rows; found = λ r f. rw e at f }
-
-    module _ (u : Side) (t b n k : ℕ) (d : v ≤ l) (h : Walked u t b n k) where
-      pub walk-on : (u′ : Side) (t′ b′ n′ : ℕ) → 1 < k → u′ ≡ next u → t′ ≡ (t + 1) / 2 → b′ ≡ b - A → n′ ≡ lowRows t (made A b t n) →
-          Walked u′ t′ b′ n′ (k - 1)
-      walk-on u′ t′ b′ n′ g eu et eb en =
-          let below : (r : Level) → Reaches φ (l - (v - (k - 1))) u′ t′ b′ (k - 1) n′ r → Reaches φ l w s c v m r =
-          λ r f.
-          let e : l - (v - (k - 1)) ≡ l - (v - k) - 1 = omega (arith, h .last) in
-          h .found r (reaches-below (l - (v - k)) u t b k n u′ t′ b′ n′ r g (omega (arith, h .last)) eu et eb en (rw e at f)) in
-          record {
-            first = omega arith;
-            last = omega (arith, h .last);
-            wide = omega (arith, h .wide, next-le u, ap (λ (S : Side). S .length) eu);
-            rows = omega (arith, h .rows, low-le A b t n);
-            found = below;
-          }
-
-      pub walk-end : (i j : ℕ) → k ≤ 1 → i ≡ made A b t n → j ≡ prev i →
-          Reaches φ l w s c v m (record { below = l - v; width = u .length; x = u .start; rows = n; y = t; set = j })
-      walk-end i j g ei ej =
-          let e : l - (v - k) - 1 ≡ l - v = omega (arith, h .first, h .last) in
-          let z : prev (made A b t n) ≡ j = sym (ej ∙ ap prev ei) in
-          let f :
-          Reaches φ (l - (v - k)) u t b k n (record { below = l - (v - k) - 1; width = u .length; x = u .start; rows = n; y = t; set = prev (made A b t n) }) =
-          reaches-here (l - (v - k)) u t b k n (omega (arith, h .first, h .last)) (omega (arith, h .first)) (h .wide) (h .rows) in
-          h .found _ (rw (e, z) at f)
+  pub reached : (l : ℕ) (w : Side) (s c v m : ℕ) (r : Level) → Walk l w v m → r ≡ levelAt A w s c v m → Reaches φ l w s c v m r
+  reached l w s c v m r h e = rw e (reaches v l w s c m h)
 
   -- ---- the row that waits, and what the draw of it leaves
   module _ (v a : ℕ) (r : Level) (i : ℕ) where
@@ -268,10 +258,10 @@ module _ (φ : ℕ) where
     unfolding waitingAt
     at-is j b n d p ej eb en ed ep = cc
 
-    pull-is : (x : Memory) (p j : ℕ) → p ≡ prev i → j ≡ skip (columns r) (received r) (r .set) p →
-        pullAt φ v a r i x ≡ from (prev v) a x (settled (passOn K (r .below) (columns r) (r .y)) (r .set) (rest a x) j)
+    pull-is : (x : Memory) (b p j : ℕ) → p ≡ prev i → j ≡ skip (columns r) (received r) (r .set) p →
+        pullAt φ b v a r i x ≡ from (prev v) a x (settled (passOn K b (columns r) (r .y)) (r .set) (rest a x) j)
     unfolding pullAt
-    pull-is x p j ep ej = cc
+    pull-is x b p j ep ej = cc
 
 module _ (s : Writer) (r : Level) (f : Reaches (s .filter) (s .levels) (columnsOf s) (s .y) (s .closed) (s .level) (s .rows) r)
     (placed : s .offset ≡ startOf (s .filter) (columnsOf s) (s .level)) where
@@ -284,11 +274,11 @@ module _ (s : Writer) (r : Level) (f : Reaches (s .filter) (s .levels) (columnsO
       (record { level = s .level; band = b; row = n; length = d; start = s .offset + p })
   found i b n d p h ei eb en ed ep =
       let q = place-room (s .filter) (columns r) (r .y) (r .set) (bandAt i) in
-      let g = store-next (filterOf (s .filter) .rows) (columns r) (r .below) in
+      let g = store-next (filterOf (s .filter) .rows) (columns r) (s .levels - s .level) in
       record {
         spot = at-is (s .filter) (s .level) (s .offset) r (s .left) i b n d p ei eb en ed ep ∙ ap spotOf (sym row-is);
         room = omega (arith, placed, f .room);
-        within = omega (arith, f .deep);
+        within = f .last;
       }
 
   -- as a look tells it
@@ -299,17 +289,18 @@ module _ (s : Writer) (r : Level) (f : Reaches (s .filter) (s .levels) (columnsO
       (at-is (s .filter) (s .level) (s .offset) r (s .left) i b n d _ ei eb en ed refl ∙ ap spotOf (sym row-is))
 
   module _ (x : Memory) (p i : ℕ) (ep : p ≡ prev (s .left)) (ei : i ≡ skip (columns r) (received r) (r .set) p) where
-    draw-is : pulled s x ≡ from (prev (s .level)) (s .offset) x (settled (passOn (kind s) (r .below) (columns r) (r .y)) (r .set) (rest (s .offset) x) i)
+    draw-is : pulled s x
+        ≡ from (prev (s .level)) (s .offset) x (settled (passOn (kind s) (s .levels - s .level) (columns r) (r .y)) (r .set) (rest (s .offset) x) i)
     draw-is =
         f .pulls (s .left) x
-        ∙ ap (λ (a : ℕ). pullAt (s .filter) (s .level) a r (s .left) x) (sym placed)
-        ∙ pull-is (s .filter) (s .level) (s .offset) r (s .left) x p i ep ei
+        ∙ ap (λ (a : ℕ). pullAt (s .filter) (s .levels - s .level) (s .level) a r (s .left) x) (sym placed)
+        ∙ pull-is (s .filter) (s .level) (s .offset) r (s .left) x (s .levels - s .level) p i ep ei
 
     -- the next band of the set waits
     pub pull-waits : 0 < s .level → 0 < i →
         Left (s .filter) (s .levels) (columnsOf s) (pulled s x) (record { level = s .level; left = i; offset = s .offset }) x
     pull-waits h g =
-        let q = settled-waits (passOn (kind s) (r .below) (columns r) (r .y)) (r .set) i (rest (s .offset) x) g in
+        let q = settled-waits (passOn (kind s) (s .levels - s .level) (columns r) (r .y)) (r .set) i (rest (s .offset) x) g in
         let v : 1 + prev (s .level) ≡ s .level = omega (arith, prev-is (s .level)) in
         let d : deeperBy (prev (s .level)) 1 ≡ s .level = sym (deeper-by-some (prev (s .level)) 1 (omega arith)) ∙ v in
         left-same (s .filter) (s .levels) (columnsOf s) _ _ _ x (draw-is ∙ ap (from (prev (s .level)) (s .offset) x) q)
@@ -318,26 +309,32 @@ module _ (s : Writer) (r : Level) (f : Reaches (s .filter) (s .levels) (columnsO
           left = refl;
           offset = placed ∙ ap (startOf (s .filter) (columnsOf s)) (sym d);
           store = join-rest (s .offset) x;
-          within = omega
-              (arith, f .deep);
+          within = f .last;
         })
 
     -- its LL row goes on
-    pub pull-goes : (o : Wait) (t z : Memory) (d b : ℕ) → 0 < s .level → i ≡ 0 →
-        Left (s .filter) (r .below + 1) (columns r) (passOn (kind s) (r .below) (columns r) (r .y) (r .set) (rest (s .offset) x)) o t →
-        z ≡ joinAt (s .offset) x t → d ≡ deeperBy (s .level - 1) (o .level) → b ≡ further (o .level) (s .offset) (o .offset) →
-        Left (s .filter) (s .levels) (columnsOf s) (pulled s x) (record { level = d; left = o .left; offset = b }) z
-    pull-goes o t z d b h g a ez ed eb =
-        let q = settled-goes (passOn (kind s) (r .below) (columns r) (r .y)) (r .set) i (rest (s .offset) x) g in
+    pub pull-goes : (o q : Wait) (t z : Memory) → Walk (s .levels) (columnsOf s) (s .level) (s .rows) → i ≡ 0 →
+        Left (s .filter) (s .levels - s .level + 1) (columns r)
+        (passOn (kind s) (s .levels - s .level) (columns r) (r .y) (r .set) (rest (s .offset) x)) o t →
+        z ≡ joinAt (s .offset) x t →
+        ((s .level - 1 + o .level < 2 ^ 64) × (s .offset + o .offset < 2 ^ 64) → q ≡ seenFrom (s .level - 1) (s .offset) o) →
+        Left (s .filter) (s .levels) (columnsOf s) (pulled s x) q z
+    pull-goes o q t z h g a ez eq =
         let k : s .level - 1 ≡ prev (s .level) = omega (arith, prev-is (s .level)) in
-        let u : Out = passOn (kind s) (r .below) (columns r) (r .y) (r .set) (rest (s .offset) x) in
-        left-same (s .filter) (s .levels) (columnsOf s) _ _ _ z (draw-is ∙ ap (from (prev (s .level)) (s .offset) x) q)
-        (record {
-          level = ed ∙ ap (λ (k : ℕ). deeperBy k (o .level)) k ∙ ap (deeperBy (prev (s .level))) (a .level);
+        let u : Out = passOn (kind s) (s .levels - s .level) (columns r) (r .y) (r .set) (rest (s .offset) x) in
+        let few = store-few (s .filter) (columnsOf s) (s .levels) in
+        let small = left-small (s .filter) (s .levels - s .level + 1) (columns r) _ o t (f .wide) (omega (arith, h .first, h .last, h .deep)) a in
+        let seen : q ≡ seenFrom (prev (s .level)) (s .offset) o =
+        eq (omega (arith, a .within, h .last, h .deep), omega (arith, small, few, f .room, placed, h .wide, h .deep))
+        ∙ ap (λ (k : ℕ). seenFrom k (s .offset) o) k in
+        left-same (s .filter) (s .levels) (columnsOf s) _ _ _ z
+        (draw-is ∙ ap (from (prev (s .level)) (s .offset) x) (settled-goes (passOn (kind s) (s .levels - s .level) (columns r) (r .y)) (r .set) i _ g))
+        (rw seen (record {
+          level = ap (deeperBy (prev (s .level))) (a .level);
           left = a .left;
           offset =
-              eb ∙ ap (λ (v : ℕ). further v (s .offset) (o .offset)) (a .level) ∙ ap (further (u .level) (s .offset)) (a .offset)
+              ap (λ (v : ℕ). further v (s .offset) (o .offset)) (a .level) ∙ ap (further (u .level) (s .offset)) (a .offset)
               ∙ ap (λ (p : ℕ). further (u .level) p (startOf (s .filter) (columns r) (u .level))) placed ∙ sym (f .starts (u .level));
           store = ez ∙ ap (joinAt (s .offset) x) (a .store);
-          within = omega (arith, ed, deeper-by-le (s .level - 1) (o .level), a .within, f .deep);
-        })
+          within = omega (arith, k, deeper-by-le (prev (s .level)) (o .level), a .within, h .first, h .last);
+        }))

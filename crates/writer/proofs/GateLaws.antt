@@ -13,14 +13,14 @@ use Rattle.lifting.specs.Grid.{Side}
 use Rattle.wavelet.proofs.LimitLaws.{levels-small}
 use Rattle.wavelet.specs.Levels.{next}
 use Rattle.nine_seven.specs.Filters.{filterOf, isFilter}
-use Rattle.filters.specs.Figures.{storeBy, streamable}
-use Rattle.filters.proofs.FigureLaws.{streams, levels-most}
+use Rattle.figures.specs.Figures.{storeBy, streamable}
+use Rattle.figures.proofs.FigureLaws.{streams, levels-most}
 use Rattle.writer.specs.declared.Writer.{Writer}
-use Rattle.writer.specs.Counts.{mostLeft, startOf}
+use Rattle.progress.specs.Counts.{mostLeft, startOf}
 use Rattle.writer.specs.Taking.{columnsOf}
 use Rattle.writer.specs.Questions.{either, onGrid, inRanges, longEnough, offerQuestion, finishQuestion}
 use Rattle.writer.specs.Gate.{stateQuestion, openQuestion}
-use Rattle.writer.proofs.CountLaws.{start-first, start-more}
+use Rattle.progress.proofs.CountLaws.{start-first, start-more}
 
 -- ---- two questions, and what follows them
 module _ (p q : ℕ) where

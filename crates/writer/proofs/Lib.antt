@@ -1,4 +1,3 @@
-pub mod CountLaws
 pub mod Filling
 pub mod Waiting
 pub mod CascadeHolds

@@ -13,21 +13,21 @@ use borrow.Author.Tests.{eq-eqb, ne-eqb, lt-ltb, le-ltb, ltb-true, eqb-true}
 use Rattle.numbers.specs.Signal.{at, both, pick}
 use Rattle.numbers.proofs.Sweep as sweep
 use Rattle.wavelet.specs.Limits.{maxHeight}
-use Rattle.wavelet.proofs.LimitLaws.{width-small, height-small}
+use Rattle.wavelet.proofs.LimitLaws.{height-small}
 use Rattle.calls.specs.Lists.{gives, refused}
 use Rattle.level.specs.Level.{Memory}
 use Rattle.level.specs.Heights.{heightAt}
 use Rattle.filters.specs.Forward.{heightsPut}
 use Rattle.filters.proofs.ForwardLaws.{height-more, height-none}
 use Rattle.writer.specs.declared.Writer.{Writer}
-use Rattle.writer.specs.declared.cascade.Wait.{Wait}
+use Rattle.progress.specs.declared.waits.Wait.{Wait}
 use Rattle.writer.specs.Machine.{arrive}
 use Rattle.writer.specs.Taking.{kind, columnsOf, Taking, none, oneMore, takes, begun, complete, heightPut, rowMakes, offering}
 use Rattle.writer.specs.Questions.{offerQuestion, either, inRanges, longEnough}
 use Rattle.writer.specs.Calls.{offerReply, offerStore}
 use Rattle.writer.specs.Steps.{Left}
 use Rattle.writer.proofs.GateLaws.{Sound}
-use Rattle.writer.proofs.CallLaws.{unless-no, unless-yes, changed-no, changed-yes}
+use Rattle.writer.proofs.CallLaws.{sound-room, unless-no, unless-yes, changed-no, changed-yes}
 use Rattle.writer.specs.Stretch.{nextCount, atColumn, Taker, Stretched}
 use Rattle.wavelet.specs.Questions.{ask}
 
@@ -279,12 +279,7 @@ module _ (s : Writer) (l q : ℕ) (run : List ℕ) (x : Memory) (e : q ≡ offer
 pub sound-taker : (s : Writer) (l : ℕ) → Sound s l → Taker s l
 sound-taker s l f =
     record {
-      room = record {
-        room = f .room;
-        wide = omega (arith, f .width, width-small);
-        rows = omega (arith, f .rows, height-small);
-        deep = f .deep;
-      };
+      room = sound-room s l f;
       column = f .column;
       deep = omega (arith, f .levels);
     }

@@ -14,7 +14,7 @@ use Rattle.wavelet.specs.Limits.{maxHeight, maxOrigin}
 use Rattle.calls.specs.Lists.{gives, unless, changedUnless, seen, Area}
 use Rattle.calls.specs.Lists as lists
 use Rattle.writer.specs.declared.Writer.{Writer}
-use Rattle.writer.specs.Counts.{startOf}
+use Rattle.progress.specs.Counts.{startOf}
 use Rattle.writer.specs.Machine.{Out}
 use Rattle.writer.specs.Taking.{kind, columnsOf, Taking, takes, offering}
 use Rattle.writer.specs.Questions.{inRanges, longEnough, setUpQuestion, offerQuestion, drawQuestion, finishQuestion}

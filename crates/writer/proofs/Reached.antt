@@ -3,7 +3,7 @@
 use mathlib.Core.Bool.{Bool, true, false}
 use mathlib.Core.Path.{_≡_, refl, sym, ap, subst, subst₂, _∙_}
 use mathlib.Core.List.{List, [], _∷_, _++_, append-nil}
-use Prim.Native.Nat.{ℕ, zero, suc, _+_, _-_, _≤_, _<_}
+use Prim.Native.Nat.{ℕ, zero, suc, _+_, _≤_, _<_}
 use native.Mathlib.Omega.{arith}
 use lib.IntN.{ℤ}
 use lib.ListN.{length, take, drop}
@@ -19,7 +19,7 @@ use Rattle.wavelet.specs.View.{bandColumns}
 use Rattle.calls.specs.Lists.{Reply, gives, refused, unless, seen, Area, gathered, ever}
 use Rattle.calls.proofs.ListLaws.{either-no, gathered-snoc, ever-snoc, list-reached}
 use Rattle.nine_seven.specs.Filters.{filterOf}
-use Rattle.filters.specs.Figures.{storeBy, streamable}
+use Rattle.figures.specs.Figures.{storeBy, streamable}
 use Rattle.filters.specs.Forward.{kindOf}
 use Rattle.writer.specs.declared.Writer.{Writer}
 use Rattle.writer.specs.Machine.{Out}

@@ -15,7 +15,7 @@ use Rattle.level.proofs.LevelLaws.{LevelLaws}
 use Rattle.filters.specs.Forward.{kindOf, heldOf, endedOf}
 use Rattle.filters.proofs.ForwardLaws.{laws-of}
 use Rattle.writer.specs.declared.Writer.{Writer}
-use Rattle.writer.specs.Counts.{mostLeft, startOf}
+use Rattle.progress.specs.Counts.{mostLeft, startOf}
 use Rattle.writer.specs.Machine.{Out, arrive}
 use Rattle.writer.specs.Draws.{pull}
 use Rattle.writer.specs.Closing.{Shut, shut}

@@ -15,8 +15,8 @@ use Rattle.wavelet.specs.Order.{RowName, rowName, handedOut, inTurn, firstSet, 
 use Rattle.wavelet.specs.Levels.{next}
 use Rattle.wavelet.proofs.OrderLaws.{made-early, last-set, unmade-is, turn-zero, turn-suc, turn-same, turn-none, turn-add, set-empty}
 use Rattle.level.specs.Level.{prev, completes}
-use Rattle.writer.specs.Counts.{deeper, made, lowRows, most, bandAt, skip}
-use Rattle.writer.proofs.CountLaws.{made-open, made-shut}
+use Rattle.progress.specs.Counts.{deeper, made, lowRows, most, bandAt, skip}
+use Rattle.progress.proofs.CountLaws.{made-open, made-shut}
 
 -- the last i bands of a set
 unfoldable pub lasts : ℕ → List Band

@@ -16,8 +16,8 @@ use Rattle.calls.specs.Lists as lists
 use Rattle.nine_seven.specs.Filters.{filterOf}
 use Rattle.level.specs.Level.{Memory, LevelKind, rest}
 use Rattle.filters.specs.Forward.{kindOf}
-use Rattle.filters.specs.Figures.{storeBy, streamable}
-use Rattle.writer.specs.Counts.{mostLeft}
+use Rattle.figures.specs.Figures.{storeBy, streamable}
+use Rattle.progress.specs.Counts.{mostLeft}
 use Rattle.writer.specs.Machine.{Out, arrive}
 use Rattle.writer.specs.Draws.{Waiting, waiting, pull}
 use Rattle.writer.specs.Closing.{Shut, shut}

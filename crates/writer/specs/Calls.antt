@@ -9,10 +9,10 @@ use Rattle.wavelet.specs.Bands.{code}
 use Rattle.lifting.specs.Grid.{Side}
 use Rattle.calls.specs.Lists.{Reply, unless, changedUnless}
 use Rattle.level.specs.Level.{Memory, rest}
-use Rattle.filters.specs.Figures.{storeBy}
+use Rattle.figures.specs.Figures.{storeBy}
 use Rattle.writer.specs.declared.Writer.{Writer}
 use Rattle.writer.specs.declared.BandRow.{BandRow}
-use Rattle.writer.specs.Counts.{startOf}
+use Rattle.progress.specs.Counts.{startOf}
 use Rattle.writer.specs.Machine.{Out}
 use Rattle.writer.specs.Draws.{Waiting, pull}
 use Rattle.writer.specs.Closing.{Shut, shut}

@@ -8,7 +8,7 @@ use Rattle.lifting.specs.Grid.{Side, side, count}
 use Rattle.wavelet.specs.Levels.{next}
 use Rattle.wavelet.specs.Order.{lastSet}
 use Rattle.level.specs.Level.{Memory, LevelKind, rest, ahead}
-use Rattle.writer.specs.Counts.{made, most, skip}
+use Rattle.progress.specs.Counts.{made, most, skip}
 use Rattle.writer.specs.Machine.{Out, still, under, settled, passOn}
 
 -- how many steps are done, and what waits

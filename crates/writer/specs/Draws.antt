@@ -5,7 +5,7 @@ use Rattle.wavelet.specs.Bands.{Band, HH, across}
 use Rattle.wavelet.specs.Levels.{next}
 use Rattle.wavelet.specs.Order.{setRow}
 use Rattle.level.specs.Level.{Memory, LevelKind, prev, rest, ahead}
-use Rattle.writer.specs.Counts.{made, lowRows, bandAt, skip}
+use Rattle.progress.specs.Counts.{made, lowRows, bandAt, skip}
 use Rattle.writer.specs.Machine.{Out, still, under, settled, passOn}
 
 -- a band row that waits: its level from 1, 0: none, its number in its band, and where in the store its numbers begin

@@ -17,7 +17,7 @@ use Rattle.nine_seven.specs.Filters.{filterOf}
 use Rattle.filters.specs.Forward.{heldOf, endedOf}
 use Rattle.writer.specs.declared.Writer.{Writer}
 use Rattle.writer.specs.declared.BandRow.{BandRow}
-use Rattle.writer.specs.Counts.{made, lowRows, mostLeft, bandAt, startOf}
+use Rattle.progress.specs.Counts.{made, lowRows, mostLeft, bandAt, startOf}
 use Rattle.writer.specs.Taking.{kind, columnsOf}
 use Rattle.writer.specs.Answers.{Took, Handed, aRow, nothing}
 use Rattle.level.specs.Level.{Memory, LevelKind, prev, rest, Meaning, Ending, SetStands, ahead}

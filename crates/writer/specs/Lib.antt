@@ -6,7 +6,6 @@ pub mod Demand3
 pub mod Questions
 pub mod Calls
 pub mod Holds
-pub mod Counts
 pub mod Machine
 pub mod Draws
 pub mod Closing

@@ -9,7 +9,7 @@ use Rattle.lifting.specs.Grid.{Side, side}
 use Rattle.wavelet.specs.Bands.{LL}
 use Rattle.wavelet.specs.Levels.{next}
 use Rattle.level.specs.Level.{Memory, LevelKind, completes, rest, joinAt, ahead}
-use Rattle.writer.specs.Counts.{deeper, most, skip}
+use Rattle.progress.specs.Counts.{deeper, most, skip}
 
 -- the store, the level (from 1) whose set is being handed out, 0: nothing waits, and how many bands of that set are left
 pub record Out : Type 0 where

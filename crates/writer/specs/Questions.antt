@@ -7,9 +7,9 @@ use Rattle.wavelet.specs.Limits.{maxWidth, maxHeight, maxOrigin}
 use Rattle.wavelet.specs.Questions.{ask, within}
 use Rattle.lifting.specs.Grid.{Side}
 use Rattle.nine_seven.specs.Filters.{filterOf, isFilter}
-use Rattle.filters.specs.Figures.{storeBy, streamable}
+use Rattle.figures.specs.Figures.{storeBy, streamable}
 use Rattle.writer.specs.declared.Writer.{Writer}
-use Rattle.writer.specs.Counts.{mostLeft, startOf}
+use Rattle.progress.specs.Counts.{mostLeft, startOf}
 use Rattle.writer.specs.Draws.{Waiting, waiting}
 use Rattle.writer.specs.Taking.{kind, columnsOf}
 

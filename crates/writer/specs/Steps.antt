@@ -1,19 +1,19 @@
 -- What the private functions require and leave: the machine's steps at the level of the filter's number f. Nothing here needs to be believed.
 use mathlib.Core.Path.{_≡_}
-use Prim.Native.Nat.{ℕ, _+_, _*_, _^_, _<_, _≤_}
+use Prim.Native.Nat.{ℕ, _+_, _-_, _*_, _^_, _<_, _≤_}
 use Rattle.lifting.specs.Grid.{Side, side, count}
 use Rattle.wavelet.specs.Bands.{across, code}
 use Rattle.wavelet.specs.Order.{setRow}
 use Rattle.nine_seven.specs.Filters.{filterOf}
 use Rattle.level.specs.Level.{Memory, prev, rest, joinAt}
-use Rattle.filters.specs.Figures.{storeBy}
+use Rattle.figures.specs.Figures.{storeBy}
 use Rattle.filters.specs.Forward.{kindOf}
+use Rattle.progress.specs.declared.waits.Wait.{Wait}
+use Rattle.progress.specs.declared.levels.Level.{Level}
+use Rattle.progress.specs.Counts.{deeperBy, further, bandAt, skip, startOf}
 use Rattle.writer.specs.declared.Writer.{Writer}
-use Rattle.writer.specs.declared.cascade.Wait.{Wait}
 use Rattle.writer.specs.declared.draws.Spot.{Spot}
-use Rattle.writer.specs.declared.draws.Level.{Level}
 use Rattle.writer.specs.declared.closing.Closure.{Closure}
-use Rattle.writer.specs.Counts.{deeperBy, further, bandAt, skip, startOf}
 use Rattle.writer.specs.Machine.{Out, settled, passOn}
 use Rattle.writer.specs.Draws.{Waiting, waiting, pull}
 use Rattle.writer.specs.Closing.{Shut}
@@ -61,24 +61,24 @@ waitingAt f v a r i =
       start = a + kindOf f .place (columns r) (r .y) (r .set) (bandAt (prev i));
     }
 
--- what a draw of it leaves
+-- what a draw of it leaves, b levels being below it
 abbrev pub from : ℕ → ℕ → Memory → Out → Out
 from k a x o = record { store = joinAt a x (o .store); level = deeperBy k (o .level); left = o .left }
 
-unfoldable pub pullAt : ℕ → ℕ → ℕ → Level → ℕ → Memory → Out
-pullAt f v a r i x =
-    from (prev v) a x (settled (passOn (kindOf f) (r .below) (columns r) (r .y)) (r .set) (rest a x) (skip (columns r) (received r) (r .set) (prev i)))
+unfoldable pub pullAt : ℕ → ℕ → ℕ → ℕ → Level → ℕ → Memory → Out
+pullAt f b v a r i x =
+    from (prev v) a x (settled (passOn (kindOf f) b (columns r) (r .y)) (r .set) (rest a x) (skip (columns r) (received r) (r .set) (prev i)))
 
 -- level v of them, r: what waits there, what a draw of it leaves, and where deeper stretches begin, all from where its stretch begins
 pub record Reaches (f l : ℕ) (W : Side) (s c v m : ℕ) (r : Level) : Type 0 where
   pub waits : (i : ℕ) → waiting (kindOf f) l W s c v i m ≡ waitingAt f v (startOf f W v) r i
-  pub pulls : (i : ℕ) (x : Memory) → pull (kindOf f) l W s c v i m x ≡ pullAt f v (startOf f W v) r i x
+  pub pulls : (i : ℕ) (x : Memory) → pull (kindOf f) l W s c v i m x ≡ pullAt f (l - v) v (startOf f W v) r i x
   pub starts : (u : ℕ) → startOf f W (deeperBy (prev v) u) ≡ further u (startOf f W v) (startOf f (columns r) u)
-  pub room : startOf f W v + storeBy f (columns r) (r .below + 1) ≡ storeBy f W l
+  pub room : startOf f W v + storeBy f (columns r) (l - v + 1) ≡ storeBy f W l
   pub wide : r .width < 2 ^ 16
   pub rows : r .rows < 2 ^ 32
   pub sets : r .set < 2 ^ 32
-  pub deep : r .below + v ≡ l
+  pub last : v ≤ l
 
 -- the offset of a writer is where its level's stretch begins
 abbrev pub Placed : Writer → Type 0
@@ -97,32 +97,17 @@ pub record Found (f l : ℕ) (W : Side) (o : Waiting) (r : Spot) : Type 0 where
   pub room : r .start + r .length ≤ storeBy f W l
   pub within : r .level ≤ l
 
--- nothing waits, and c steps of the closing are done
-abbrev pub noWait : Wait
-noWait = record { level = 0; left = 0; offset = 0 }
-
-abbrev pub idle : ℕ → Closure
-idle c = record { closed = c; level = 0; left = 0; offset = 0 }
-
 -- what the steps of the first level's closing leave, of l levels, the first of the columns W
 pub record LevelClosed (f l : ℕ) (W : Side) (o : Shut) (r : Closure) (x : Memory) : Type 0 where
   pub closed : r .closed ≡ o .closed
-  pub level : r .level ≡ o .out .level
-  pub left : r .left ≡ o .out .left
-  pub offset : r .offset ≡ startOf f W (o .out .level)
-  pub store : x ≡ o .out .store
-  pub within : r .level ≤ l
+  pub left : Left f l W (o .out) (r .wait) x
   -- while a row waits, no more steps than the level has are done
-  pub some : 0 < r .level → r .closed ≤ filterOf f .ahead
+  pub some : 0 < r .wait .level → r .closed ≤ filterOf f .ahead
 
 -- what the finish of l levels leaves, the first of the columns W
 pub record Closed (f l : ℕ) (W : Side) (o : Shut) (r : Closure) (x : Memory) : Type 0 where
   pub closed : r .closed ≡ o .closed
-  pub level : r .level ≡ o .out .level
-  pub left : r .left ≡ o .out .left
-  pub offset : r .offset ≡ startOf f W (o .out .level)
-  pub store : x ≡ o .out .store
-  pub within : r .level ≤ l
+  pub left : Left f l W (o .out) (r .wait) x
   pub all : r .closed ≤ filterOf f .ahead * l
 
 -- a row waits in a writer whose store has n numbers

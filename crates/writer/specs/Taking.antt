@@ -10,7 +10,7 @@ use Rattle.wavelet.specs.Limits.{maxHeight}
 use Rattle.level.specs.Level.{Memory, LevelKind}
 use Rattle.filters.specs.Forward.{kindOf}
 use Rattle.writer.specs.declared.Writer.{Writer}
-use Rattle.writer.specs.Counts.{startOf}
+use Rattle.progress.specs.Counts.{startOf}
 use Rattle.writer.specs.Machine.{Out, arrive}
 
 -- the level that the writer runs, by its filter's number: what a level does, keeps and looks ahead comes from this number alone

@@ -2,7 +2,7 @@
 use crate::Writer;
 use crate::closing;
 use crate::draws;
-use crate::draws::Level;
+use progress::levels::Level;
 ghost use lib.ListN.{length};
 ghost use Rattle.numbers.specs.Signal.{at};
 ghost use Rattle.writer.specs.Steps.{Drawable, Reached, Drew};
@@ -34,9 +34,9 @@ pub fn draw_on(s: Writer, from: Level, store: &mut [i32]) -> Writer
                 column: s.column,
                 finished: s.finished,
                 closed: q.closed,
-                level: q.level,
-                left: q.left,
-                offset: q.offset,
+                level: q.wait.level,
+                left: q.wait.left,
+                offset: q.wait.offset,
                 filter: s.filter,
             };
         }

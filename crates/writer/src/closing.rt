@@ -2,12 +2,11 @@
 // A level has w columns, the first at coordinate x, and m rows, the first at coordinate y; `filter` is the number of the filter.
 // The module is private: only this crate, which meets what is required, can call it.
 use crate::cascade;
-use crate::cascade::Wait;
-use crate::counts;
-use filters::figures;
 use filters::forward;
+use progress::counts;
+use progress::waits;
+use progress::waits::Wait;
 use wavelet::sizes;
-ghost use mathlib.Core.Path.{_≡_};
 ghost use Prim.Native.Nat.{_≤_, _+_, _-_, _*_};
 ghost use lib.ListN.{length};
 ghost use Rattle.numbers.specs.Signal.{at};
@@ -15,26 +14,12 @@ ghost use Rattle.lifting.specs.Grid.{side};
 ghost use Rattle.nine_seven.specs.Filters.{filterOf};
 ghost use Rattle.filters.specs.Forward.{kindOf};
 ghost use Rattle.writer.specs.Closing.{closeStep, closeLevel, shut};
-ghost use Rattle.writer.specs.Steps.{Room, Left, LevelClosed, Closed, idle};
+ghost use Rattle.writer.specs.Steps.{Room, Left, LevelClosed, Closed};
 
 // How many steps are done, and what waits.
 pub struct Closure {
     pub closed: usize,
-    pub level: usize,
-    pub left: usize,
-    pub offset: usize,
-}
-
-// c steps are done, and nothing waits.
-fn idle(c: usize) -> Closure
-    ensures { λ r. ⌜ r ≡ idle c ⌝ }
-{
-    Closure {
-        closed: c,
-        level: 0,
-        left: 0,
-        offset: 0,
-    }
+    pub wait: Wait,
 }
 
 // Step c of the level: its first set that is not made is made, if one is left; l levels are below.
@@ -53,7 +38,7 @@ fn close_step(
 {
     let n = counts::made(filter, c, y, m);
     if !counts::is_left(y, m, n) {
-        return cascade::nothing();
+        return waits::nothing();
     }
     forward::close(filter, store, w, x, y, m, n);
     let i = counts::next_band(w, x, m, y, n, counts::most(l));
@@ -89,15 +74,13 @@ fn close_level(
         let o = close_step(filter, store, l, w, x, y, k, m);
         k += 1;
         if 0 < o.level {
-            return Closure {
-                closed: k,
-                level: o.level,
-                left: o.left,
-                offset: o.offset,
-            };
+            return Closure { closed: k, wait: o };
         }
     }
-    idle(k)
+    Closure {
+        closed: k,
+        wait: waits::nothing(),
+    }
 }
 
 // The l levels close, c steps being done, until a row waits.
@@ -115,13 +98,17 @@ pub fn shut(
     ensures { λ r. ⌜ Closed filter l (side x w) (shut (kindOf filter) l (side x w) y c m (at (now (store .entry)))) r (at (now (store .exit))) ⌝ }
 {
     if l == 0 {
-        return idle(c);
+        return Closure {
+            closed: c,
+            wait: waits::nothing(),
+        };
     }
     let o = close_level(filter, store, l - 1, w, x, y, c, m);
-    if 0 < o.level {
+    if 0 < o.wait.level {
         return o;
     }
-    let a = counts::stretch(filter, w, x);
+    let a = cascade::stretch(filter, w, x);
+    let ahead = figures::look_ahead(filter);
     let r = shut(
         filter,
         &mut store[a..],
@@ -129,13 +116,11 @@ pub fn shut(
         sizes::low_count(x, w),
         sizes::next_start(x),
         sizes::next_start(y),
-        counts::closed_below(filter, c),
+        counts::minus(c, ahead),
         sizes::low_count(y, m),
     );
     Closure {
-        closed: figures::look_ahead(filter) + r.closed,
-        level: counts::deeper(r.level),
-        left: r.left,
-        offset: counts::further(r.level, a, r.offset),
+        closed: ahead + r.closed,
+        wait: waits::seen_from(1, a, r.wait),
     }
 }

@@ -1,7 +1,7 @@
 // The gate questions of the writer's calls, in order: 0, or the number of the first that says no.
 use crate::Writer;
-use crate::counts;
-use filters::figures;
+use crate::cascade;
+use progress::counts;
 use wavelet::limits;
 use wavelet::sizes;
 ghost use mathlib.Core.Path.{_≡_};
@@ -9,8 +9,8 @@ ghost use Prim.Native.Nat.{_^_, _<_, _≤_};
 ghost use lib.Dec.{leb, eqb};
 ghost use Rattle.numbers.specs.Signal.{both};
 ghost use Rattle.lifting.specs.Grid.{side};
-ghost use Rattle.filters.specs.Figures.{streamable};
-ghost use Rattle.writer.specs.Counts.{mostLeft, startOf};
+ghost use Rattle.figures.specs.Figures.{streamable};
+ghost use Rattle.progress.specs.Counts.{mostLeft, startOf};
 ghost use Rattle.writer.specs.Taking.{columnsOf};
 ghost use Rattle.writer.specs.Questions.{onGrid, inRanges, setUpQuestion, offerQuestion, finishQuestion};
 ghost use Rattle.writer.specs.Gate.{stateQuestion, openQuestion};
@@ -25,7 +25,7 @@ fn begins(filter: usize, w: usize, x: usize, v: usize, o: usize) -> bool
     let mut rest = o;
     let mut k = v;
     while 1 < k {
-        let a = counts::stretch(filter, width, column);
+        let a = cascade::stretch(filter, width, column);
         if rest < a {
             return false;
         }

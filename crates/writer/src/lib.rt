@@ -3,12 +3,11 @@ mod after;
 mod cascade;
 mod closing;
 mod copies;
-mod counts;
 mod draws;
 mod gate;
 mod offers;
 
-use filters::figures;
+use progress::levels;
 use wavelet::shape::Shape;
 ghost use mathlib.Core.Path.{_≡_};
 ghost use lib.ListN.{length};
@@ -180,9 +179,8 @@ impl Writer {
         if self.level == 0 {
             return Drawn::Nothing;
         }
-        let q = draws::level_of(
+        let q = levels::level_of(
             self.filter,
-            self.levels,
             self.width,
             self.x,
             self.y,
@@ -215,9 +213,8 @@ impl Writer {
             return Look::Refused(1);
         }
         if 0 < self.level {
-            let q = draws::level_of(
+            let q = levels::level_of(
                 self.filter,
-                self.levels,
                 self.width,
                 self.x,
                 self.y,
@@ -264,9 +261,9 @@ impl Writer {
             column: self.column,
             finished: true,
             closed: r.closed,
-            level: r.level,
-            left: r.left,
-            offset: r.offset,
+            level: r.wait.level,
+            left: r.wait.left,
+            offset: r.wait.offset,
             filter: self.filter,
         })
     }

@@ -1,6 +1,6 @@
 -- `listing_io::list_all`: the rounds, and those after the end, as the definition has them. Assumes nothing.
 use mathlib.Core.Path.{sym, _∙_}
-use Rattle.listing_io.proofs.RoundLaws.{ends-idle, listed-before, listed-after}
+use Rattle.listing_rounds.proofs.RoundLaws.{ends-idle, listed-before, listed-after}
 use Rattle.listing_io.proofs.list_all.Statement.{statement}
 use Rattle.listing_io.proofs.list_all.Tie as tie
 

@@ -1,6 +1,6 @@
 -- `listing_io::round`: read, turn and write, as the definition has them. Assumes nothing.
 use Rattle.descriptors.proofs.LeftLaws.{fills-within}
-use Rattle.listing_io.proofs.RoundLaws.{round-is}
+use Rattle.listing_rounds.proofs.RoundLaws.{round-is}
 use borrow.Author.Needs.{needs}
 use Rattle.listing_io.proofs.round.Statement.{statement}
 use Rattle.listing_io.proofs.round.Tie as tie

@@ -5,7 +5,7 @@ use lib.ListN.{length}
 use borrow.Author.Needs.{needs}
 use Rattle.numbers.specs.Signal.{at}
 use Rattle.listing.specs.States.{stateOf}
-use Rattle.listing_io.proofs.RoundLaws.{Looped, looped-start, looped-on, looped-stop, false-true}
+use Rattle.listing_rounds.proofs.RoundLaws.{Looped, looped-start, looped-on, looped-stop, false-true}
 use Rattle.listing_io.proofs.rounds.Statement.{statement}
 use Rattle.listing_io.proofs.rounds.Tie as tie
 

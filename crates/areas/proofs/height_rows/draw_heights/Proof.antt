@@ -10,7 +10,7 @@ use Rattle.lifting.specs.Grid.{side}
 use Rattle.areas.specs.Areas.{heightsAt, height16, wholes}
 use Rattle.areas.proofs.AreaLaws.{front-rest, went, turned}
 use Rattle.areas.proofs.HeightLaws.{start-heights, finish-heights}
-use Rattle.areas.proofs.PartLaws.{Halves, halves-of}
+use Rattle.areas.proofs.PartLaws.{Halves, halves-front}
 use Rattle.areas.proofs.WeaveLaws.{laid, lay-turn, lay-last, finish-drawn}
 use Rattle.areas.proofs.height_rows.draw_heights.Statement.{statement}
 use Rattle.areas.proofs.height_rows.draw_heights.Tie as tie
@@ -38,7 +38,7 @@ loop-holds c =
       omega arith,
       omega arith,
       omega arith,
-      halves-of (side (args .start) (length (args .row .now))) 0 _ _ (omega (arith, c .before .evens .ensures)) (omega (arith, c .odds .ensures)),
+      halves-front (side (args .start) (length (args .row .now))) _ _ (c .before .evens .ensures) (c .odds .ensures),
       omega arith,
       omega arith,
       start-heights (args .out .now) _ 0 (λ j lt. absurd (omega arith)),

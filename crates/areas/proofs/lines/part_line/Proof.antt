@@ -6,7 +6,8 @@ use borrow.Author.Tests.{le-leb, lt-leb}
 use Rattle.numbers.specs.Signal.{at}
 use Rattle.lifting.specs.Grid.{side}
 use Rattle.areas.proofs.AreaLaws.{went, turned}
-use Rattle.areas.proofs.PartLaws.{evens-fit, odds-fit, parted-is}
+use Rattle.half_places.proofs.HalfLaws.{evens-fit, odds-fit}
+use Rattle.areas.proofs.PartLaws.{evens-then-odds}
 use Rattle.areas.proofs.lines.part_line.Statement.{statement}
 use Rattle.areas.proofs.lines.part_line.Tie as tie
 
@@ -38,14 +39,9 @@ returns-2 c =
     let first = last .before .before .before .before in
     let args = first .before .before .before .before .args in
     let g = args .line .now in
-    went _ _ _ _ (le-leb (length g) (length (args .row .now)) (omega arith))
-    (cc (
-      first .before .evens .ensures,
-      last .before .odds .ensures,
-      first .part-evens .ensures,
-      last .part-odds .ensures,
-      parted-is (side (args .start) (length g)) (at g) (at (args .row .now)),
-    ))
+    went _ _ _ _ (le-leb (length g) (length (args .row .now)) (first .before .before .before .if1 .left))
+    (evens-then-odds (side (args .start) (length g)) (at g) (at (args .row .now)) _ _ (first .before .evens .ensures) (last .before .odds .ensures) _ _
+    (first .part-evens .ensures) (last .part-odds .ensures))
 
 pub part-line-spec : {M : Type 1} → statement M
 part-line-spec =

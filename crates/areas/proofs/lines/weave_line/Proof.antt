@@ -3,13 +3,12 @@ use Prim.Native.Nat.{_+_, _-_, _/_}
 use native.Mathlib.Omega.{arith}
 use lib.ListN.{length}
 use borrow.Author.Tests.{le-leb, lt-leb}
-use borrow.Rule.Slice.PartMut.{midOf}
 use Rattle.numbers.specs.Signal.{at}
-use Rattle.numbers.proofs.Parts.{length-mid, at-mid}
 use Rattle.lifting.specs.Grid.{side}
 use Rattle.areas.proofs.AreaLaws.{went, turned}
-use Rattle.areas.proofs.PartLaws.{evens-within, odds-within, halves-of}
-use Rattle.areas.proofs.WeaveLaws.{turns-are}
+use Rattle.half_places.proofs.HalfLaws.{evens-within, odds-within}
+use Rattle.areas.proofs.PartLaws.{halves-front}
+use Rattle.areas.proofs.WeaveLaws.{parts-fit, parts-woven}
 use Rattle.areas.proofs.lines.weave_line.Statement.{statement}
 use Rattle.areas.proofs.lines.weave_line.Tie as tie
 
@@ -70,17 +69,15 @@ part-put-pairs-end-2 c =
 put-pairs-requires : tie.Need-put-pairs-requires
 put-pairs-requires c κs =
     let odd = c .before .before .before in
-    let args = odd .before .before .before .args in
+    let even = odd .before in
+    let args = even .before .before .args in
     let x = args .row .now in
+    let S = side (args .start) (length x) in
     let N = length x in
-    let S = side (args .start) N in
-    let a = odd .before .evens .result in
+    let a = even .evens .result in
     let b = odd .odds .result in
-    let k = evens-within S a (odd .before .evens .ensures) in
-    let m = odds-within S b (odd .odds .ensures) in
-    let la = length-mid a (a + (N - N / 2) - a) x (omega arith) in
-    let lb = length-mid b (b + N / 2 - b) x (omega arith) in
-    (omega arith, omega arith, omega arith)
+    let h = halves-front S a b (even .evens .ensures) (odd .odds .ensures) in
+    parts-fit S x a b (a + (N - N / 2) - a) (b + N / 2 - b) h (omega arith) (omega arith) (omega arith) (length (args .line .now)) (omega arith)
 
 same-length : tie.Need-same-length
 same-length c = c .before .put-pairs .kept .1 .1 .0
@@ -89,26 +86,16 @@ returns-2 : tie.Need-returns-2
 returns-2 c =
     let pairs = c .before in
     let odd = pairs .before .before .before .before in
-    let args = odd .before .before .before .args in
+    let even = odd .before in
+    let args = even .before .before .args in
     let x = args .row .now in
     let N = length x in
-    let S = side (args .start) N in
-    let a = odd .before .evens .result in
+    let a = even .evens .result in
     let b = odd .odds .result in
-    let k = evens-within S a (odd .before .evens .ensures) in
-    let m = odds-within S b (odd .odds .ensures) in
-    let p = a + (N - N / 2) - a in
-    let q = b + N / 2 - b in
-    let la = length-mid a p x (omega arith) in
-    let lb = length-mid b q x (omega arith) in
-    let h = halves-of S 0 a b (omega (arith, odd .before .evens .ensures)) (omega (arith, odd .odds .ensures)) in
+    let S = side (args .start) N in
+    let h = halves-front S a b (even .evens .ensures) (odd .odds .ensures) in
     went _ _ _ _ (le-leb N (length (args .line .now)) (omega arith))
-    (cc (
-      pairs .put-pairs .ensures,
-      at-mid a p x,
-      at-mid b q x,
-      turns-are S (at x) (at (args .line .now)) a b p q (length (midOf a p x) + length (midOf b q x)) h (omega arith) (omega arith) (omega arith),
-    ))
+    (parts-woven S x a b (a + (N - N / 2) - a) (b + N / 2 - b) h (omega arith) (omega arith) (omega arith) (at (args .line .now)) _ (pairs .put-pairs .ensures))
 
 pub weave-line-spec : {M : Type 1} → statement M
 weave-line-spec =

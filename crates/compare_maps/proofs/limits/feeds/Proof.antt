@@ -16,23 +16,23 @@ abbrev μ-loop : tie.MeasureT-loop
 loop-holds : tie.Need-loop-holds Inv-loop μ-loop
 loop-holds c = search needs
 
-add-feed : tie.Need-add-feed Inv-loop μ-loop
-add-feed c = omega arith
+add-fed : tie.Need-add-fed Inv-loop μ-loop
+add-fed c = omega arith
 
-mul-feed : tie.Need-mul-feed Inv-loop μ-loop
-mul-feed c = search needs
+mul-fed : tie.Need-mul-fed Inv-loop μ-loop
+mul-fed c = search needs
 
-sub-feed : tie.Need-sub-feed Inv-loop μ-loop
-sub-feed c = omega arith
+sub-fed : tie.Need-sub-fed Inv-loop μ-loop
+sub-fed c = omega arith
 
-part-feed-start : tie.Need-part-feed-start Inv-loop μ-loop
-part-feed-start c = search needs
+part-fed-start : tie.Need-part-fed-start Inv-loop μ-loop
+part-fed-start c = search needs
 
-part-feed-end : tie.Need-part-feed-end Inv-loop μ-loop
-part-feed-end c = search needs
+part-fed-end : tie.Need-part-fed-end Inv-loop μ-loop
+part-fed-end c = search needs
 
-feed-requires : tie.Need-feed-requires Inv-loop μ-loop
-feed-requires c κs = tt
+fed-requires : tie.Need-fed-requires Inv-loop μ-loop
+fed-requires c κs = tt
 
 same-length : tie.Need-same-length Inv-loop μ-loop
 same-length c = search needs
@@ -62,12 +62,12 @@ feeds-spec =
     Inv-loop
     μ-loop
     loop-holds
-    add-feed
-    mul-feed
-    sub-feed
-    part-feed-start
-    part-feed-end
-    feed-requires
+    add-fed
+    mul-fed
+    sub-fed
+    part-fed-start
+    part-fed-end
+    fed-requires
     same-length
     returns
     add-i

@@ -8,7 +8,7 @@ use Rattle.numbers.proofs.Words.{read-back}
 use Rattle.numbers.proofs.Stores.{at-stored}
 use Rattle.lifting.specs.Line.{lo}
 use Rattle.lifting.specs.Grid.{side, count}
-use Rattle.level.proofs.DeliverLaws.{FirstAt, first-at, parted-even, parted-odd}
+use Rattle.level.proofs.PartedLaws.{FirstAt, first-at, parted-even, parted-odd}
 use borrow.Author.Needs.{needs}
 use Rattle.level.proofs.copies.part_row.Statement.{statement}
 use Rattle.level.proofs.copies.part_row.Tie as tie

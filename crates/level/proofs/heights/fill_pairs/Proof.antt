@@ -5,7 +5,7 @@ use native.Mathlib.Omega.{arith}
 use lib.ListN.{length, getD, length-set}
 use Rattle.numbers.specs.Signal.{at}
 use Rattle.lifting.specs.Grid.{side}
-use Rattle.level.specs.FiveThreeLevel.{cellOf}
+use Rattle.level.specs.Cells.{cellOf}
 use Rattle.level.specs.Heights.{heightAt, heightsPut}
 use Rattle.level.proofs.FillLaws.{height-fits, height-read, Put, put-none, put-pair, put-place}
 use Rattle.level.proofs.heights.fill_pairs.Statement.{statement}

@@ -1,7 +1,7 @@
 -- `lifting::sample::is_within` meets its contract: two comparisons. Assumes nothing.
 use mir.Syntax.{w32}
 use mir.ValLaws.{toZ-ofZ}
-use Rattle.lifting.proofs.BackLaws.{within-is}
+use Rattle.lifting.proofs.RangeLaws.{within-is}
 use Rattle.lifting.proofs.sample.is_within.Statement.{statement}
 use Rattle.lifting.proofs.sample.is_within.Tie as tie
 

@@ -26,7 +26,7 @@ part-put-start : tie.Need-part-put-start
 part-put-start c = let a = c .before .before .args in omega (arith, block-in (a .w) (a .q))
 
 part-put-end : tie.Need-part-put-end
-part-put-end c = search needs
+part-put-end c = omega arith
 
 put-requires : tie.Need-put-requires
 put-requires c κs = tt

@@ -2,7 +2,6 @@
 use native.Mathlib.Omega.{arith}
 use Rattle.lifting.specs.Grid.{side}
 use Rattle.nine_seven_making.proofs.SetLaws.{next-eighth, next-none}
-use borrow.Author.Needs.{needs}
 use Rattle.nine_seven_making.proofs.making.next_fits.Statement.{statement}
 use Rattle.nine_seven_making.proofs.making.next_fits.Tie as tie
 
@@ -10,10 +9,10 @@ low-count-requires : tie.Need-low-count-requires
 low-count-requires c κs = tt
 
 mul-result : tie.Need-mul-result
-mul-result c = search needs
+mul-result c = omega arith
 
 sub-result : tie.Need-sub-result
-sub-result c = search needs
+sub-result c = omega arith
 
 returns : tie.Need-returns
 returns c = let a = c .before .before .args in next-eighth (a .n) (side (a .x) (a .w)) (c .low-count .result) (omega arith) (c .low-count .ensures)

@@ -19,10 +19,10 @@ mul-lift : tie.Need-mul-lift
 mul-lift c = omega (arith, row-room (c .args .w) (c .args .q % 8) (slot-index _))
 
 sub-lift : tie.Need-sub-lift
-sub-lift c = search needs
+sub-lift c = omega arith
 
 part-lift-start : tie.Need-part-lift-start
-part-lift-start c = search needs
+part-lift-start c = omega arith
 
 part-lift-end : tie.Need-part-lift-end
 part-lift-end c = omega (arith, row-room (c .args .w) (c .args .q % 8) (slot-index _))

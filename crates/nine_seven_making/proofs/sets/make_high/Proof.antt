@@ -17,7 +17,7 @@ predict-row-requires c κs =
     (h .before .pre, c .before .if2 .taken, sym (h .has-high .ensures) ∙ t .if1 .taken)
 
 double-row-requires : tie.Need-double-row-requires
-double-row-requires c κs = search needs
+double-row-requires c κs = omega arith
 
 same-length : tie.Need-same-length
 same-length c = search needs

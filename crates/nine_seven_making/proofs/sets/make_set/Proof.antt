@@ -1,4 +1,5 @@
 -- `sets::make_set` meets its contract: the calls are the definition's. Assumes nothing.
+use native.Mathlib.Omega.{arith}
 use Rattle.lifting.specs.Grid.{side}
 use Rattle.nine_seven_making.proofs.SetLaws.{set-made}
 use borrow.Author.Needs.{needs}
@@ -6,13 +7,13 @@ use Rattle.nine_seven_making.proofs.sets.make_set.Statement.{statement}
 use Rattle.nine_seven_making.proofs.sets.make_set.Tie as tie
 
 make-high-requires : tie.Need-make-high-requires
-make-high-requires c κs = search needs
+make-high-requires c κs = omega arith
 
 lay-low-requires : tie.Need-lay-low-requires
-lay-low-requires c κs = search needs
+lay-low-requires c κs = omega arith
 
 lay-high-requires : tie.Need-lay-high-requires
-lay-high-requires c κs = search needs
+lay-high-requires c κs = omega arith
 
 same-length : tie.Need-same-length
 same-length c = search needs

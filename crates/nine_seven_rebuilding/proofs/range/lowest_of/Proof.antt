@@ -8,7 +8,7 @@ use borrow.Author.Needs.{sfits-of}
 use Rattle.numbers.proofs.Words.{read-back}
 use Rattle.nine_seven.specs.NineSevenFilter.{nineSevenFilter}
 use Rattle.level.proofs.AdmitLaws.{neg-fits, low-zero, low-more}
-use Rattle.nine_seven_rebuilding.proofs.RangeLaws.{some-level}
+use Rattle.figures.proofs.RangeLaws.{some-level}
 use Rattle.nine_seven_rebuilding.proofs.range.lowest_of.Statement.{statement}
 use Rattle.nine_seven_rebuilding.proofs.range.lowest_of.Tie as tie
 

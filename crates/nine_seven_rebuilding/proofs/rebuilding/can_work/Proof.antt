@@ -5,7 +5,7 @@ use native.Mathlib.Omega.{arith}
 use lib.Dec.{leb}
 use borrow.Author.Tests.{not-true, not-false}
 use Rattle.lifting.specs.Grid.{side}
-use Rattle.nine_seven_rebuilding.specs.Rebuilding.{maxLevels}
+use Rattle.figures.specs.Range.{maxLevels}
 use Rattle.level.proofs.RebuildingLaws.{not-workable, no-set, workable-last}
 use Rattle.nine_seven_rebuilding.proofs.rebuilding.can_work.Statement.{statement}
 use Rattle.nine_seven_rebuilding.proofs.rebuilding.can_work.Tie as tie

@@ -10,7 +10,7 @@ use Rattle.areas.proofs.AreaLaws.{did}
 use Rattle.level.proofs.WorkLaws.{told-no, told-yes}
 use Rattle.level.proofs.KeptLaws.{kept-none}
 use Rattle.level.proofs.RebuildingLaws.{workable-in, did-fit, did-not-fit, no-room, left-none, left-made, left-zeros, zeros-kept, set-small, set-row}
-use Rattle.nine_seven_rebuilding.specs.Rebuilding.{maxLevels}
+use Rattle.figures.specs.Range.{maxLevels}
 use Rattle.nine_seven_rebuilding.proofs.rebuilding.work_set.Statement.{statement}
 use Rattle.nine_seven_rebuilding.proofs.rebuilding.work_set.Tie as tie
 

@@ -2,7 +2,6 @@
 use mathlib.Core.Path.{_∙_}
 use Prim.Native.Nat.{_+_, _-_}
 use native.Mathlib.Omega.{arith}
-use borrow.Author.Needs.{needs}
 use Rattle.numbers.proofs.Words.{read-back}
 use Rattle.nine_seven.specs.NineSevenFilter.{nineSevenFilter}
 use Rattle.level.proofs.AdmitLaws.{admit-is}
@@ -11,22 +10,22 @@ use Rattle.nine_seven_rebuilding.proofs.rows.admit_row.Statement.{state
 use Rattle.nine_seven_rebuilding.proofs.rows.admit_row.Tie as tie
 
 row-place-requires : tie.Need-row-place-requires
-row-place-requires c κs = search needs
+row-place-requires c κs = omega arith
 
 add-e : tie.Need-add-e
-add-e c = search needs
+add-e c = omega arith
 
 mul-all-between : tie.Need-mul-all-between
-mul-all-between c = search needs
+mul-all-between c = omega arith
 
 sub-all-between : tie.Need-sub-all-between
-sub-all-between c = search needs
+sub-all-between c = omega arith
 
 part-all-between-start : tie.Need-part-all-between-start
-part-all-between-start c = search needs
+part-all-between-start c = omega arith
 
 part-all-between-end : tie.Need-part-all-between-end
-part-all-between-end c = search needs
+part-all-between-end c = omega arith
 
 lowest-of-requires : tie.Need-lowest-of-requires
 lowest-of-requires c κs = tt

@@ -15,22 +15,22 @@ use Rattle.nine_seven_rebuilding.proofs.rows.make_lone.Statement.{state
 use Rattle.nine_seven_rebuilding.proofs.rows.make_lone.Tie as tie
 
 row-place-requires : tie.Need-row-place-requires
-row-place-requires c κs = search needs
+row-place-requires c κs = omega arith
 
 add-e : tie.Need-add-e
-add-e c = search needs
+add-e c = omega arith
 
 mul-all-even : tie.Need-mul-all-even
-mul-all-even c = search needs
+mul-all-even c = omega arith
 
 sub-all-even : tie.Need-sub-all-even
-sub-all-even c = search needs
+sub-all-even c = omega arith
 
 part-all-even-start : tie.Need-part-all-even-start
-part-all-even-start c = search needs
+part-all-even-start c = omega arith
 
 part-all-even-end : tie.Need-part-all-even-end
-part-all-even-end c = search needs
+part-all-even-end c = omega arith
 
 all-even-requires : tie.Need-all-even-requires
 all-even-requires c κs = tt
@@ -51,22 +51,22 @@ returns c =
     )
 
 mul-halve-all : tie.Need-mul-halve-all
-mul-halve-all c = search needs
+mul-halve-all c = omega arith
 
 sub-halve-all : tie.Need-sub-halve-all
-sub-halve-all c = search needs
+sub-halve-all c = omega arith
 
 part-halve-all-start : tie.Need-part-halve-all-start
-part-halve-all-start c = search needs
+part-halve-all-start c = omega arith
 
 part-halve-all-end : tie.Need-part-halve-all-end
-part-halve-all-end c = search needs
+part-halve-all-end c = omega arith
 
 halve-all-requires : tie.Need-halve-all-requires
 halve-all-requires c κs = tt
 
 admit-row-requires : tie.Need-admit-row-requires
-admit-row-requires c κs = search needs
+admit-row-requires c κs = omega arith
 
 same-length-2 : tie.Need-same-length-2
 same-length-2 c = search needs

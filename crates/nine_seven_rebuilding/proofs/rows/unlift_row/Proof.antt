@@ -9,22 +9,22 @@ use Rattle.nine_seven_rebuilding.proofs.rows.unlift_row.Statement.{stat
 use Rattle.nine_seven_rebuilding.proofs.rows.unlift_row.Tie as tie
 
 row-place-requires : tie.Need-row-place-requires
-row-place-requires c κs = search needs
+row-place-requires c κs = omega arith
 
 add-e : tie.Need-add-e
-add-e c = search needs
+add-e c = omega arith
 
 mul-unlift : tie.Need-mul-unlift
-mul-unlift c = search needs
+mul-unlift c = omega arith
 
 sub-unlift : tie.Need-sub-unlift
-sub-unlift c = search needs
+sub-unlift c = omega arith
 
 part-unlift-start : tie.Need-part-unlift-start
-part-unlift-start c = search needs
+part-unlift-start c = omega arith
 
 part-unlift-end : tie.Need-part-unlift-end
-part-unlift-end c = search needs
+part-unlift-end c = omega arith
 
 unlift-requires : tie.Need-unlift-requires
 unlift-requires c κs = tt

@@ -1,7 +1,6 @@
 -- `nine_seven_rebuilding::work::unlift_high` meets its contract: no row, or one lifted back. Assumes nothing.
 use mathlib.Core.Path.{_∙_}
 use native.Mathlib.Omega.{arith}
-use borrow.Author.Needs.{needs}
 use Rattle.lifting.specs.Grid.{side}
 use Rattle.nine_seven.specs.Memory.{unliftedInPlace}
 use Rattle.level.proofs.WorkLaws.{high-none, high-some}
@@ -28,7 +27,7 @@ add-unlift-row : tie.Need-add-unlift-row
 add-unlift-row c = omega arith
 
 unlift-row-requires : tie.Need-unlift-row-requires
-unlift-row-requires c κs = search needs
+unlift-row-requires c κs = omega arith
 
 same-length : tie.Need-same-length
 same-length c = c .before .unlift-row .kept .0

@@ -1,7 +1,6 @@
 -- `nine_seven_rebuilding::work::unlift_low` meets its contract: no row, or one lifted back. Assumes nothing.
 use mathlib.Core.Path.{_∙_}
 use native.Mathlib.Omega.{arith}
-use borrow.Author.Needs.{needs}
 use Rattle.lifting.specs.Grid.{side}
 use Rattle.nine_seven.specs.Memory.{unliftedInPlace}
 use Rattle.level.proofs.WorkLaws.{low-none, low-some}
@@ -16,7 +15,7 @@ mul-unlift-row : tie.Need-mul-unlift-row
 mul-unlift-row c = omega arith
 
 unlift-row-requires : tie.Need-unlift-row-requires
-unlift-row-requires c κs = search needs
+unlift-row-requires c κs = omega arith
 
 same-length : tie.Need-same-length
 same-length c = c .before .unlift-row .kept .0

@@ -1,7 +1,7 @@
 -- `nine_seven_rebuilding::work::unlift_set` meets its contract: one row after the other, as long as they are lines'. Assumes nothing.
 use mathlib.Core.Path.{_∙_}
-use borrow.Author.Needs.{needs}
 use borrow.Author.Tests.{not-true, not-false}
+use native.Mathlib.Omega.{arith}
 use Rattle.numbers.specs.Signal.{at}
 use Rattle.lifting.specs.Grid.{side}
 use Rattle.nine_seven.specs.Memory.{unliftedInPlace}
@@ -11,7 +11,7 @@ use Rattle.nine_seven_rebuilding.proofs.work.unlift_set.Statement.{stat
 use Rattle.nine_seven_rebuilding.proofs.work.unlift_set.Tie as tie
 
 unlift-low-requires : tie.Need-unlift-low-requires
-unlift-low-requires c κs = search needs
+unlift-low-requires c κs = omega arith
 
 same-length : tie.Need-same-length
 same-length c = c .before .before .unlift-low .kept .0
@@ -26,7 +26,7 @@ returns c =
     )
 
 unlift-high-requires : tie.Need-unlift-high-requires
-unlift-high-requires c κs = search needs
+unlift-high-requires c κs = omega arith
 
 same-length-2 : tie.Need-same-length-2
 same-length-2 c = c .before .unlift-high .kept .0 ∙ c .before .before .before .before .before .unlift-low .kept .0

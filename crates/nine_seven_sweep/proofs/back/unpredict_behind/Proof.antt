@@ -1,6 +1,5 @@
 -- `back::unpredict_behind` meets its contract, by whether there is such a row. Assumes nothing.
-use Prim.Native.Nat.{_+_, _-_, _%_}
-use borrow.Author.Needs.{needs}
+use Prim.Native.Nat.{_-_, _%_}
 use native.Mathlib.Omega.{arith}
 use Rattle.lifting.specs.Grid.{side, place}
 use Rattle.nine_seven_sweep.proofs.CallLaws.{high-made, high-early}
@@ -8,7 +7,7 @@ use Rattle.nine_seven_sweep.proofs.back.unpredict_behind.Statement.{sta
 use Rattle.nine_seven_sweep.proofs.back.unpredict_behind.Tie as tie
 
 sub-behind : tie.Need-sub-behind
-sub-behind c = search needs
+sub-behind c = omega arith
 
 returns : tie.Need-returns
 returns c =

@@ -1,71 +1,52 @@
 -- `back::unupdate` meets its contract: the call by the rows that it goes by. Assumes nothing.
-use Prim.Native.Nat.{_+_, _-_, _%_}
+use Prim.Native.Nat.{_%_}
 use native.Mathlib.Omega.{arith}
-use Rattle.lifting.specs.Grid.{side, count}
-use Rattle.nine_seven_sweep.proofs.CallLaws.{high-places, low-in-order}
+use Rattle.lifting.specs.Grid.{side}
+use Rattle.nine_seven_sweep.proofs.CallLaws.{lows-within, few, LowPlaces, low-places, low-in-order}
 use Rattle.nine_seven_sweep.proofs.back.unupdate.Statement.{statement}
 use Rattle.nine_seven_sweep.proofs.back.unupdate.Tie as tie
 
 lows-requires : tie.Need-lows-requires
 lows-requires c κs = tt
 
-sub-high : tie.Need-sub-high
-unfolding count
-sub-high c = omega (arith, c .lows .ensures)
+sub-beside : tie.Need-sub-beside
+sub-beside c = let a = c .before .args in lows-within (side (a .y) (a .height)) _ (c .lows .ensures)
 
-left-requires : tie.Need-left-requires
-unfolding count
-left-requires c κs = (omega (arith, c .lows .ensures), omega arith)
+beside-requires : tie.Need-beside-requires
+beside-requires c κs = tt
 
-add-nearest : tie.Need-add-nearest
-unfolding count
-add-nearest c = omega arith
-
-nearest-requires : tie.Need-nearest-requires
-unfolding count
-nearest-requires c κs = omega (arith, c .before .lows .ensures)
+-- all three rows are there
+rooms : (q : tie.After-beside) → (let s = q .before .before in
+    LowPlaces (s .args .y % 2) (s .args .n) (q .beside .result .left) (q .beside .result .right))
+rooms q =
+    let low = q .before in
+    let s = low .before in
+    low-places (side (s .args .y) (s .args .height)) (s .fits .height) _ (s .args .n) (s .pre .0) (low .lows .ensures) _ _
+    (q .beside .ensures (few (s .args .y))) (s .pre .1)
 
 mul-unupdate-row : tie.Need-mul-unupdate-row
-unfolding count
-mul-unupdate-row c = omega arith
+mul-unupdate-row c = rooms (c .before) .0 .0
 
 add-unupdate-row : tie.Need-add-unupdate-row
-unfolding count
-add-unupdate-row c = omega arith
+add-unupdate-row c = rooms (c .before) .0 .1
 
 mul-unupdate-row-2 : tie.Need-mul-unupdate-row-2
-mul-unupdate-row-2 c =
-    let low = c .before .before .before in
-    let a = low .before .args in
-    let p = high-places (side (a .y) (a .height)) _ (a .n + a .y % 2 - 1) _ (omega arith) (low .lows .ensures) (c .before .before .left .ensures) in
-    omega (arith, p)
+mul-unupdate-row-2 c = rooms (c .before .before) .1 .0
 
 sub-unupdate-row : tie.Need-sub-unupdate-row
 sub-unupdate-row c = omega arith
 
 add-unupdate-row-2 : tie.Need-add-unupdate-row-2
-add-unupdate-row-2 c =
-    let low = c .before .before .before in
-    let a = low .before .args in
-    let p = high-places (side (a .y) (a .height)) _ (a .n + a .y % 2 - 1) _ (omega arith) (low .lows .ensures) (c .before .before .left .ensures) in
-    omega (arith, p)
+add-unupdate-row-2 c = rooms (c .before .before) .1 .1
 
 mul-unupdate-row-3 : tie.Need-mul-unupdate-row-3
-mul-unupdate-row-3 c =
-    let low = c .before .before .before in
-    let a = low .before .args in
-    let p = high-places (side (a .y) (a .height)) _ (a .n + a .y % 2) _ (omega arith) (low .lows .ensures) (c .before .nearest .ensures) in
-    omega (arith, p)
+mul-unupdate-row-3 c = rooms (c .before .before .before) .2 .0
 
 sub-unupdate-row-2 : tie.Need-sub-unupdate-row-2
 sub-unupdate-row-2 c = omega arith
 
 add-unupdate-row-3 : tie.Need-add-unupdate-row-3
-add-unupdate-row-3 c =
-    let low = c .before .before .before in
-    let a = low .before .args in
-    let p = high-places (side (a .y) (a .height)) _ (a .n + a .y % 2) _ (omega arith) (low .lows .ensures) (c .before .nearest .ensures) in
-    omega (arith, p)
+add-unupdate-row-3 c = rooms (c .before .before .before) .2 .1
 
 unupdate-row-requires : tie.Need-unupdate-row-requires
 unupdate-row-requires c κs = tt
@@ -76,20 +57,19 @@ same-length c = c .before .unupdate-row .kept .0
 returns : tie.Need-returns
 returns c =
     let row = c .before in
-    let right = row .before .before in
-    let left = right .before in
-    let low = left .before in
-    low-in-order _ _ _ _ _ _ _ _ (low .lows .ensures) _ _ _ (left .left .ensures) (right .nearest .ensures) (row .unupdate-row .ensures .1)
+    let q = row .before .before .before .before in
+    let low = q .before in
+    let s = low .before in
+    low-in-order _ _ _ (side (s .args .y) (s .args .height)) (s .args .n) _ _ _ (low .lows .ensures) _ _ _
+    (q .beside .ensures (few (s .args .y))) (row .unupdate-row .ensures .1)
 
 pub unupdate-spec : {M : Type 1} → statement M
 unupdate-spec =
     tie.close
     (tie.spec
     lows-requires
-    sub-high
-    left-requires
-    add-nearest
-    nearest-requires
+    sub-beside
+    beside-requires
     mul-unupdate-row
     add-unupdate-row
     mul-unupdate-row-2

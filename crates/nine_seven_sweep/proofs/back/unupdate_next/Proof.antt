@@ -1,6 +1,6 @@
 -- `back::unupdate_next` meets its contract, by whether there is such a row. Assumes nothing.
 use native.Mathlib.Omega.{arith}
-use Rattle.lifting.specs.Grid.{side, count, place}
+use Rattle.lifting.specs.Grid.{side, place}
 use Rattle.nine_seven_sweep.proofs.CallLaws.{low-own, low-late}
 use Rattle.nine_seven_sweep.proofs.back.unupdate_next.Statement.{statement}
 use Rattle.nine_seven_sweep.proofs.back.unupdate_next.Tie as tie

@@ -1,6 +1,5 @@
 -- `columns::columns_have` meets its contract: the row at the front, lent and asked.  Assumes nothing.
-use mathlib.Core.Path.{_≡_, sym, ap, _∙_}
-use borrow.Author.Needs.{needs}
+use mathlib.Core.Path.{sym, _∙_}
 use Prim.Native.Nat.{_-_}
 use native.Mathlib.Omega.{arith}
 use borrow.Author.Tests.{not-true, not-false}
@@ -10,22 +9,22 @@ use Rattle.nine_seven_sweep.proofs.ShortColumns.{have-other, have-lone}
 use Rattle.nine_seven_sweep.proofs.columns.columns_have.Statement.{statement}
 use Rattle.nine_seven_sweep.proofs.columns.columns_have.Tie as tie
 
-lone-high-requires : tie.Need-lone-high-requires
-lone-high-requires c κs = tt
+is-lone-requires : tie.Need-is-lone-requires
+is-lone-requires c κs = tt
 
 returns : tie.Need-returns
 returns c =
     let lone = c .before in
-    sym (have-other _ _ _ (sym (lone .lone-high .ensures) ∙ not-true _ (c .if1 .taken)))
+    sym (have-other _ _ _ (sym (lone .is-lone .ensures) ∙ not-true _ (c .if1 .taken)))
 
 sub-all-even : tie.Need-sub-all-even
-sub-all-even c = search needs
+sub-all-even c = omega arith
 
 part-all-even-start : tie.Need-part-all-even-start
-part-all-even-start c = search needs
+part-all-even-start c = omega arith
 
 part-all-even-end : tie.Need-part-all-even-end
-part-all-even-end c = search needs
+part-all-even-end c = omega arith
 
 all-even-requires : tie.Need-all-even-requires
 all-even-requires c κs = tt
@@ -38,13 +37,13 @@ returns-2 c =
     let a = start .args in
     c .all-even .ensures
     ∙ front-test (a .width) (a .width - 0) (a .area .now) (omega arith) (start .pre) isEven
-    ∙ sym (have-lone _ (side (a .y) (a .height)) _ (sym (lone .lone-high .ensures) ∙ not-false _ (left .if1 .left)))
+    ∙ sym (have-lone _ (side (a .y) (a .height)) _ (sym (lone .is-lone .ensures) ∙ not-false _ (left .if1 .left)))
 
 pub columns-have-spec : {M : Type 1} → statement M
 columns-have-spec =
     tie.close
     (tie.spec
-    lone-high-requires
+    is-lone-requires
     returns
     sub-all-even
     part-all-even-start

@@ -1,5 +1,5 @@
 -- `columns::lift_all` meets its contract: the sweep, or the only row lent. Assumes nothing.
-use mathlib.Core.Path.{_≡_, sym, ap, _∙_}
+use mathlib.Core.Path.{sym, _∙_}
 use borrow.Author.Needs.{needs}
 use Prim.Native.Nat.{_-_}
 use native.Mathlib.Omega.{arith}
@@ -7,7 +7,6 @@ use lib.IntN.{pos, _*ℤ_}
 use borrow.Author.Tests.{not-true, not-false}
 use Rattle.numbers.specs.Word.{wrap32}
 use Rattle.lifting.specs.Grid.{side}
-use Rattle.nine_seven_sweep.specs.Lone.{doubledInPlace}
 use Rattle.nine_seven_sweep.proofs.LoneLaws.{mapped-part}
 use Rattle.nine_seven_sweep.proofs.ShortColumns.{lone-lifted, short-lifted}
 use Rattle.nine_seven_sweep.proofs.columns.lift_all.Statement.{statement}
@@ -22,8 +21,8 @@ same-length c = c .before .lift-rows .kept .0
 returns : tie.Need-returns
 returns c = c .before .lift-rows .ensures
 
-lone-high-requires : tie.Need-lone-high-requires
-lone-high-requires c κs = tt
+is-lone-requires : tie.Need-is-lone-requires
+is-lone-requires c κs = tt
 
 returns-2 : tie.Need-returns-2
 returns-2 c =
@@ -31,28 +30,27 @@ returns-2 c =
     let start = lone .before .before in
     let a = start .args in
     short-lifted (a .stride) (a .width) (side (a .y) (a .height)) _ (start .pre .some) (start .pre .wide)
-    (sym (lone .lone-high .ensures) ∙ not-true _ (c .if2 .taken))
+    (sym (lone .is-lone .ensures) ∙ not-true _ (c .if2 .taken))
     (omega arith)
 
-sub-double-row : tie.Need-sub-double-row
-sub-double-row c = omega arith
+sub-double-all : tie.Need-sub-double-all
+sub-double-all c = omega arith
 
-part-double-row-start : tie.Need-part-double-row-start
-part-double-row-start c = omega arith
+part-double-all-start : tie.Need-part-double-all-start
+part-double-all-start c = omega arith
 
-part-double-row-end : tie.Need-part-double-row-end
-part-double-row-end c = omega (arith, c .before .before .before .pre .room)
+part-double-all-end : tie.Need-part-double-all-end
+part-double-all-end c = omega (arith, c .before .before .before .pre .room)
 
-double-row-requires : tie.Need-double-row-requires
-double-row-requires c κs = tt
+double-all-requires : tie.Need-double-all-requires
+double-all-requires c κs = tt
 
 same-length-2 : tie.Need-same-length-2
 same-length-2 c = search needs
 
 returns-3 : tie.Need-returns-3
-unfolding doubledInPlace
 returns-3 c =
-    let called = c .before .double-row in
+    let called = c .before .double-all in
     let left = c .before .before .before in
     let lone = left .before in
     let start = lone .before .before in
@@ -61,7 +59,7 @@ returns-3 c =
     (called .kept .0)
     (called .ensures)
     ∙ lone-lifted (a .stride) (a .width) (side (a .y) (a .height)) _ (start .pre .some) (start .pre .wide)
-    (sym (lone .lone-high .ensures) ∙ not-false _ (left .if2 .left))
+    (sym (lone .is-lone .ensures) ∙ not-false _ (left .if2 .left))
 
 pub lift-all-spec : {M : Type 1} → statement M
 lift-all-spec =
@@ -70,11 +68,11 @@ lift-all-spec =
     lift-rows-requires
     same-length
     returns
-    lone-high-requires
+    is-lone-requires
     returns-2
-    sub-double-row
-    part-double-row-start
-    part-double-row-end
-    double-row-requires
+    sub-double-all
+    part-double-all-start
+    part-double-all-end
+    double-all-requires
     same-length-2
     returns-3)

@@ -1,12 +1,11 @@
 -- `columns::unlift_all` meets its contract: the sweep, or the only row lent. Assumes nothing.
-use mathlib.Core.Path.{_≡_, sym, ap, _∙_}
+use mathlib.Core.Path.{sym, _∙_}
 use borrow.Author.Needs.{needs}
 use Prim.Native.Nat.{_-_}
 use native.Mathlib.Omega.{arith}
 use lib.Signed.{shrZ}
 use borrow.Author.Tests.{not-true, not-false}
 use Rattle.lifting.specs.Grid.{side}
-use Rattle.nine_seven_sweep.specs.Lone.{halvedInPlace}
 use Rattle.nine_seven_sweep.proofs.LoneLaws.{mapped-part}
 use Rattle.nine_seven_sweep.proofs.ShortColumns.{lone-back, short-back}
 use Rattle.nine_seven_sweep.proofs.columns.unlift_all.Statement.{statement}
@@ -21,8 +20,8 @@ same-length c = c .before .unlift-rows .kept .0
 returns : tie.Need-returns
 returns c = c .before .unlift-rows .ensures
 
-lone-high-requires : tie.Need-lone-high-requires
-lone-high-requires c κs = tt
+is-lone-requires : tie.Need-is-lone-requires
+is-lone-requires c κs = tt
 
 returns-2 : tie.Need-returns-2
 returns-2 c =
@@ -30,36 +29,35 @@ returns-2 c =
     let start = lone .before .before in
     let a = start .args in
     short-back (a .stride) (a .width) (side (a .y) (a .height)) _ (start .pre .some) (start .pre .wide)
-    (sym (lone .lone-high .ensures) ∙ not-true _ (c .if2 .taken))
+    (sym (lone .is-lone .ensures) ∙ not-true _ (c .if2 .taken))
     (omega arith)
 
-sub-halve-row : tie.Need-sub-halve-row
-sub-halve-row c = omega arith
+sub-halve-all : tie.Need-sub-halve-all
+sub-halve-all c = omega arith
 
-part-halve-row-start : tie.Need-part-halve-row-start
-part-halve-row-start c = omega arith
+part-halve-all-start : tie.Need-part-halve-all-start
+part-halve-all-start c = omega arith
 
-part-halve-row-end : tie.Need-part-halve-row-end
-part-halve-row-end c = omega (arith, c .before .before .before .pre .room)
+part-halve-all-end : tie.Need-part-halve-all-end
+part-halve-all-end c = omega (arith, c .before .before .before .pre .room)
 
-halve-row-requires : tie.Need-halve-row-requires
-halve-row-requires c κs = tt
+halve-all-requires : tie.Need-halve-all-requires
+halve-all-requires c κs = tt
 
 same-length-2 : tie.Need-same-length-2
 same-length-2 c = search needs
 
 returns-3 : tie.Need-returns-3
-unfolding halvedInPlace
 returns-3 c =
-    let called = c .before .halve-row in
+    let called = c .before .halve-all in
     let left = c .before .before .before in
     let lone = left .before in
     let start = lone .before .before in
     let a = start .args in
     mapped-part (a .width) (a .width - 0) (a .area .now) (omega arith) (omega (arith, start .pre .room)) (λ v. shrZ v 2) (called .last .0) (called .kept .0)
-    (called .ensures .1)
+    (called .ensures)
     ∙ lone-back (a .stride) (a .width) (side (a .y) (a .height)) _ (start .pre .some) (start .pre .wide)
-    (sym (lone .lone-high .ensures) ∙ not-false _ (left .if2 .left))
+    (sym (lone .is-lone .ensures) ∙ not-false _ (left .if2 .left))
 
 pub unlift-all-spec : {M : Type 1} → statement M
 unlift-all-spec =
@@ -68,11 +66,11 @@ unlift-all-spec =
     unlift-rows-requires
     same-length
     returns
-    lone-high-requires
+    is-lone-requires
     returns-2
-    sub-halve-row
-    part-halve-row-start
-    part-halve-row-end
-    halve-row-requires
+    sub-halve-all
+    part-halve-all-start
+    part-halve-all-end
+    halve-all-requires
     same-length-2
     returns-3)

@@ -1,15 +1,14 @@
 -- `forth::update_behind` meets its contract, by whether there is such a row. Assumes nothing.
-use Prim.Native.Nat.{_+_, _-_, _%_}
-use borrow.Author.Needs.{needs}
+use Prim.Native.Nat.{_+_, _%_}
 use native.Mathlib.Omega.{arith}
-use Rattle.lifting.specs.Grid.{side, count}
+use Rattle.lifting.specs.Grid.{side}
 use Rattle.nine_seven_sweep.specs.Passes.{inHalf}
 use Rattle.nine_seven_sweep.proofs.CallLaws.{low-made, low-early}
 use Rattle.nine_seven_sweep.proofs.forth.update_behind.Statement.{statement}
 use Rattle.nine_seven_sweep.proofs.forth.update_behind.Tie as tie
 
 add-behind : tie.Need-add-behind
-add-behind c = search needs
+add-behind c = omega arith
 
 returns : tie.Need-returns
 returns c =

@@ -1,15 +1,14 @@
 -- `reader::Reader::feed` meets its contract: refused by a question, or fed, or ended. Assumes nothing.
 use mathlib.Core.Path.{_∙_, sym}
+use native.Mathlib.Nat.{le-trans, le-of-eq}
 use native.Mathlib.Omega.{arith}
 use lib.ListN.{length}
-use borrow.Author.Tests.{le-leb}
-use Rattle.areas.proofs.AreaLaws.{did}
 use Rattle.numbers.specs.Signal.{at}
 use Rattle.reader.specs.State.{columns, rows}
 use Rattle.reader.specs.State as state
 use Rattle.reader.proofs.StepLaws.{near, fed-level}
 use Rattle.level.proofs.WorkLaws.{told-no, told-yes}
-use Rattle.reader.proofs.QuestionLaws.{counts-small, counts-length, store-in, row-asked}
+use Rattle.reader.proofs.QuestionLaws.{counts-small, store-in, row-asked}
 use Rattle.reader.proofs.CallLaws.{store-14, row-14, feed-early, feed-late, feed-last, feed-no, feed-yes, feed-end}
 use Rattle.reader.proofs.CallLaws.{fits-yes, fits-no, fed-reader, zero-kept}
 use Rattle.reader.proofs.Keeps.{feed-also}
@@ -111,26 +110,21 @@ returns-3 c =
     let goes = fed-reader (a .self) (c .moved .result) (there .spot-fed .result) (there .spot-fed .ensures) (c .moved .ensures) in
     feed-also (a .self) n m x v (feed-yes (a .self) _ _ _ _ _ (fits-yes _ _ made ∙ feed-last (a .self) n m v x one two) goes made)
 
-store-length-requires : tie.Need-store-length-requires
-store-length-requires c κs = tt
-
-clear-requires : tie.Need-clear-requires
-clear-requires c κs = tt
-
 over-requires : tie.Need-over-requires
-over-requires c κs = tt
+over-requires c κs =
+    let call = c .before .before .before in
+    let asked = call .before .before .before in
+    let ok = asked .before .before .before in
+    let one = store-in _ _ (sym (ok .before .store-question .ensures) ∙ ok .if1 .left) in
+    (one .0, le-trans (one .1) (le-of-eq (sym (call .feed-row .kept .1 .0))))
 
 same-length-2 : tie.Need-same-length-2
-same-length-2 c =
-    let clear = c .before .before in
-    let call = clear .before .before .before .before .before in
-    clear .clear .kept .0 ∙ call .feed-row .kept .1 .0
+same-length-2 c = let ended = c .before in ended .over .kept .1 .0 ∙ ended .before .before .before .before .feed-row .kept .1 .0
 
 returns-4 : tie.Need-returns-4
 returns-4 c =
-    let clear = c .before .before in
-    let long = clear .before .before in
-    let failed = long .before in
+    let ended = c .before in
+    let failed = ended .before .before in
     let call = failed .before .before in
     let asked = call .before .before .before in
     let ok = asked .before .before .before in
@@ -140,15 +134,12 @@ returns-4 c =
     let m = length (a .run .now) in
     let one = sym (ok .before .store-question .ensures) ∙ ok .if1 .left in
     let two = sym (asked .before .row-question .ensures) ∙ asked .if2 .left in
-    let asked-store = store-in s n one in
-    let long-is = counts-length s (asked-store .0) _ (long .store-length .ensures) in
-    let after = call .feed-row .last .1 .0 in
-    let room = le-leb (long .store-length .result) (length after) (omega (arith, asked-store .1, long-is, call .feed-row .kept .1 .0)) in
-    let made = told-no (call .feed-row .result) (at (call .feed-row .last .1 .0)) _ (call .feed-row .ensures .0) (failed .if3 .left) in
+    let y = at (call .feed-row .last .1 .0) in
+    let made = told-no (call .feed-row .result) y _ (call .feed-row .ensures .0) (failed .if3 .left) in
     let v = at (a .run .now) in
     let x = at (a .store .now) in
-    let zeroed = zero-kept _ (columns s) (s .levels) _ _ _ _ long-is (call .feed-row .ensures .1) (did _ _ _ _ room (clear .clear .ensures .1)) in
-    feed-also (a .self) n m x v (feed-end s _ _ _ _ _ (fits-no _ made ∙ feed-last s n m v x one two) (c .over .ensures) zeroed)
+    let zeros = zero-kept (s .filter) (columns s) (s .levels) x y _ (call .feed-row .ensures .1) (ended .over .ensures .1) in
+    feed-also (a .self) n m x v (feed-end s _ _ _ _ _ (fits-no _ made ∙ feed-last s n m v x one two) (ended .over .ensures .0) zeros)
 
 pub feed-spec : {M : Type 1} → statement M
 feed-spec =
@@ -165,8 +156,6 @@ feed-spec =
     moved-requires
     same-length
     returns-3
-    store-length-requires
-    clear-requires
     over-requires
     same-length-2
     returns-4)

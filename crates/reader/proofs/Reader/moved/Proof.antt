@@ -1,7 +1,7 @@
 -- `reader::Reader::moved` meets its contract: the definition's record. Assumes nothing.
 use mathlib.Core.Path.{ap}
 use Prim.Native.Nat.{ℕ}
-use Rattle.reader.specs.Machine.{place}
+use Rattle.reader_steps.specs.Places.{place}
 use Rattle.reader.specs.State.{movedTo}
 use Rattle.reader.proofs.Reader.moved.Statement.{statement}
 use Rattle.reader.proofs.Reader.moved.Tie as tie

@@ -77,7 +77,7 @@ returns-6 c =
     counts-y _ (sym (a .before .is-within .ensures) ∙ not-false _ (a .if1 .left)) (sym (b .before .is-within2 .ensures) ∙ not-false _ (b .if2 .left))
     (sym (k .before .is-filter .ensures) ∙ not-false _ (k .if3 .left))
     (levels-asked _ _ _ _ _ (d .before .before .most-levels .ensures) (d .before .is-within3 .ensures) (not-false _ (d .if4 .left)))
-    (omega arith) (c .if6 .taken)
+    (e .if5 .left) (c .if6 .taken)
 
 returns-7 : tie.Need-returns-7
 unfolding maxWidth maxHeight maxOrigin
@@ -91,7 +91,7 @@ returns-7 c =
     counts-4 _ (sym (a .before .is-within .ensures) ∙ not-false _ (a .if1 .left)) (sym (b .before .is-within2 .ensures) ∙ not-false _ (b .if2 .left))
     (sym (k .before .is-filter .ensures) ∙ not-false _ (k .if3 .left))
     (levels-asked _ _ _ _ _ (d .before .before .most-levels .ensures) (d .before .is-within3 .ensures) (not-false _ (d .if4 .left)))
-    (omega arith) (omega arith) (c .if7 .taken)
+    (e .if5 .left) (f .if6 .left) (c .if7 .taken)
 
 returns-8 : tie.Need-returns-8
 unfolding maxWidth maxHeight maxOrigin
@@ -106,7 +106,7 @@ returns-8 c =
     counts-5 _ (sym (a .before .is-within .ensures) ∙ not-false _ (a .if1 .left)) (sym (b .before .is-within2 .ensures) ∙ not-false _ (b .if2 .left))
     (sym (k .before .is-filter .ensures) ∙ not-false _ (k .if3 .left))
     (levels-asked _ _ _ _ _ (d .before .before .most-levels .ensures) (d .before .is-within3 .ensures) (not-false _ (d .if4 .left)))
-    (omega arith) (omega arith) (omega arith) (c .if8 .taken)
+    (e .if5 .left) (f .if6 .left) (g .if7 .left) (c .if8 .taken)
 
 returns-9 : tie.Need-returns-9
 unfolding maxWidth maxHeight maxOrigin
@@ -122,7 +122,7 @@ returns-9 c =
     counts-6 _ (sym (a .before .is-within .ensures) ∙ not-false _ (a .if1 .left)) (sym (b .before .is-within2 .ensures) ∙ not-false _ (b .if2 .left))
     (sym (k .before .is-filter .ensures) ∙ not-false _ (k .if3 .left))
     (levels-asked _ _ _ _ _ (d .before .before .most-levels .ensures) (d .before .is-within3 .ensures) (not-false _ (d .if4 .left)))
-    (omega arith) (omega arith) (omega arith) (omega arith) (c .if9 .taken)
+    (e .if5 .left) (f .if6 .left) (g .if7 .left) (h .if8 .left) (c .if9 .taken)
 
 look-ahead-requires : tie.Need-look-ahead-requires
 look-ahead-requires c κs = tt
@@ -149,7 +149,7 @@ returns-10 c =
     ∙ counts-7 _ (sym (a .before .is-within .ensures) ∙ not-false _ (a .if1 .left)) (sym (b .before .is-within2 .ensures) ∙ not-false _ (b .if2 .left))
     (sym (k .before .is-filter .ensures) ∙ not-false _ (k .if3 .left))
     (levels-asked _ _ _ _ _ (d .before .before .most-levels .ensures) (d .before .is-within3 .ensures) (not-false _ (d .if4 .left)))
-    (omega arith) (omega arith) (omega arith) (omega arith) (omega arith)
+    (e .if5 .left) (f .if6 .left) (g .if7 .left) (h .if8 .left) (i .if9 .left)
 
 pub counts-fit-spec : {M : Type 1} → statement M
 counts-fit-spec =

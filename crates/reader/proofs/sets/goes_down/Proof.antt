@@ -2,8 +2,8 @@
 use native.Mathlib.Omega.{arith}
 use Rattle.lifting.specs.Grid.{side}
 use Rattle.wavelet.proofs.StepLaws.{set-there}
-use Rattle.reader.specs.Sets.{ahead}
-use Rattle.reader.proofs.OpenedSets.{last-is}
+use Rattle.reader_steps.specs.Sets.{ahead}
+use Rattle.reader_steps.proofs.OpenedSets.{last-is}
 use Rattle.reader.proofs.SetLaws.{down-none, down-some, none-of, some-of}
 use Rattle.reader.proofs.sets.goes_down.Statement.{statement}
 use Rattle.reader.proofs.sets.goes_down.Tie as tie

@@ -4,8 +4,8 @@ use native.Mathlib.Omega.{arith}
 use lib.Dec.{leb}
 use Rattle.lifting.specs.Grid.{side}
 use Rattle.wavelet.specs.Steps.{setOf}
-use Rattle.reader.specs.Sets.{ahead, makes}
-use Rattle.reader.proofs.OpenedSets.{row-in}
+use Rattle.reader_steps.specs.Sets.{ahead, makes}
+use Rattle.reader_steps.proofs.OpenedSets.{row-in}
 use Rattle.reader.proofs.sets.is_making.Statement.{statement}
 use Rattle.reader.proofs.sets.is_making.Tie as tie
 

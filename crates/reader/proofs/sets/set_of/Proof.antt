@@ -1,8 +1,7 @@
 -- `reader::sets::set_of` meets its contract: the lesser of the definition's two numbers. Assumes nothing.
 use native.Mathlib.Omega.{arith}
-use Prim.Native.Nat.{_+_, _-_, _/_, _%_}
 use Rattle.lifting.specs.Grid.{side}
-use Rattle.reader.proofs.SetLaws.{ahead-fits, set-first, set-later}
+use Rattle.reader.proofs.SetLaws.{set-first, set-places, set-ahead, set-end}
 use Rattle.reader.proofs.sets.set_of.Statement.{statement}
 use Rattle.reader.proofs.sets.set_of.Tie as tie
 
@@ -19,30 +18,27 @@ look-ahead-requires : tie.Need-look-ahead-requires
 look-ahead-requires c κs = tt
 
 add-a : tie.Need-add-a
-add-a c = omega (arith, ahead-fits _ _ (c .look-ahead .ensures))
+add-a c =
+    let start = c .before .before in
+    let a = start .args in
+    set-places (a .filter) (a .y) (a .r) _ (start .pre .1) (c .look-ahead .ensures) .1
 
 last-set-requires : tie.Need-last-set-requires
-last-set-requires c κs = omega arith
+last-set-requires c κs = c .before .before .pre .0
 
 returns-2 : tie.Need-returns-2
 returns-2 c =
     let last = c .before in
-    let a = last .before .before .before .args in
-    omega (
-      arith,
-      set-later (a .filter) (side (a .y) (a .h)) (a .r) ((a .y % 2 + a .r - 1) / 2 + last .before .look-ahead .result) (last .last-set .result) (omega arith)
-          (omega (arith, last .before .look-ahead .ensures)) (last .last-set .ensures),
-    )
+    let late = last .before .before in
+    let a = late .before .args in
+    set-ahead (a .filter) (side (a .y) (a .h)) (a .r) _ _ (late .if1 .left) (last .before .look-ahead .ensures) (last .last-set .ensures) (c .if2 .taken)
 
 returns-3 : tie.Need-returns-3
 returns-3 c =
     let last = c .before in
-    let a = last .before .before .before .args in
-    omega (
-      arith,
-      set-later (a .filter) (side (a .y) (a .h)) (a .r) ((a .y % 2 + a .r - 1) / 2 + last .before .look-ahead .result) (last .last-set .result) (omega arith)
-          (omega (arith, last .before .look-ahead .ensures)) (last .last-set .ensures),
-    )
+    let late = last .before .before in
+    let a = late .before .args in
+    set-end (a .filter) (side (a .y) (a .h)) (a .r) _ _ (late .if1 .left) (last .before .look-ahead .ensures) (last .last-set .ensures) (c .if2 .left)
 
 pub set-of-spec : {M : Type 1} → statement M
 set-of-spec =

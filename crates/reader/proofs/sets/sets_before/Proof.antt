@@ -5,8 +5,8 @@ use mathlib.Core.Path.{_∙_, sym, ap}
 use Rattle.lifting.specs.Grid.{side}
 use Rattle.wavelet.specs.Steps.{setsBefore}
 use Rattle.wavelet.proofs.StepLaws.{before-zero, set-there}
-use Rattle.reader.specs.Sets.{ahead}
-use Rattle.reader.proofs.OpenedSets.{last-is}
+use Rattle.reader_steps.specs.Sets.{ahead}
+use Rattle.reader_steps.proofs.OpenedSets.{last-is}
 use Rattle.reader.proofs.SetLaws.{before-later}
 use Rattle.reader.proofs.sets.sets_before.Statement.{statement}
 use Rattle.reader.proofs.sets.sets_before.Tie as tie

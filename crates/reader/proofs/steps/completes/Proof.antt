@@ -2,7 +2,7 @@
 use mathlib.Core.Path.{ap}
 use native.Mathlib.Omega.{arith}
 use lib.Dec.{leb}
-use Rattle.reader.specs.Machine.{lastOfSet}
+use Rattle.reader_steps.specs.Places.{lastOfSet}
 use Rattle.reader.proofs.QuestionLaws.{counts-small}
 use Rattle.reader.proofs.StepLaws.{spot-in}
 use Rattle.reader.proofs.steps.completes.Statement.{statement}

@@ -18,7 +18,7 @@ use Rattle.reader.proofs.steps.feed_row.Statement.{statement}
 use Rattle.reader.proofs.steps.feed_row.Tie as tie
 
 settle-requires : tie.Need-settle-requires
-settle-requires c κs = let start = c .before in (start .pre .0, start .pre .1, start .pre .4)
+settle-requires c κs = let p = c .before .pre in (p .0, p .1 .spot .level, p .4)
 
 same-length : tie.Need-same-length
 same-length c = let call = c .before .before in call .settle .kept .1 .0

@@ -2,9 +2,9 @@
 use mathlib.Core.Path.{_≡_, _∙_, ap, sym}
 use Prim.Native.Nat.{suc, _-_}
 use native.Mathlib.Omega.{arith}
-use Rattle.reader.specs.Sets.{needed}
+use Rattle.reader_steps.specs.Sets.{needed}
 use Rattle.reader.specs.State.{rows}
-use Rattle.reader.proofs.OpenedSets.{needed-here}
+use Rattle.reader_steps.proofs.OpenedSets.{needed-here}
 use Rattle.reader.proofs.steps.last_of.Statement.{statement}
 use Rattle.reader.proofs.steps.last_of.Tie as tie
 

@@ -2,7 +2,7 @@
 use mathlib.Core.Path.{_≡_, _∙_, ap}
 use Prim.Native.Nat.{ℕ, suc, _-_, _≤_, _^_}
 use native.Mathlib.Omega.{arith}
-use Rattle.reader.specs.Sets.{needed}
+use Rattle.reader_steps.specs.Sets.{needed}
 use Rattle.reader.specs.State.{columns, rows}
 use Rattle.reader.proofs.QuestionLaws.{counts-small}
 use Rattle.reader.proofs.StoreLaws.{set-level}

@@ -11,21 +11,21 @@ use Rattle.reader.proofs.steps.settle.Tie as tie
 
 returns : tie.Need-returns
 returns c =
-    let start = c .before .before .before in
+    let start = c .before .before in
     let s = start .args .s in (
       settle-none _ (columns s) (rows s) (s .levels) _ (s .level) (spotNow s .set) _ (c .if1 .taken)
-          ∙ settles-is s (start .args .n .spot) (start .pre .1 .spot) (spotNow s .set) refl _,
+          ∙ settles-is s (start .args .to) (spotNow s .set) (start .pre .1) refl _,
       kept-none _ _,
     )
 
 own-level-requires : tie.Need-own-level-requires
-own-level-requires c κs = let start = c .before .before .before .before in (start .pre .0, omega arith)
+own-level-requires c κs = let start = c .before .before .before in (start .pre .0, omega arith)
 
 settle-requires : tie.Need-settle-requires
 settle-requires c κs =
-    let start = c .before .before .before .before .before in
+    let start = c .before .before .before .before in
     let counts = start .pre .0 in
-    (counts-small (start .args .s) counts, counts .deep .1, counts .at, λ _. c .own-level .ensures .0, omega arith)
+    (counts-small (start .args .s) counts, counts .deep .1, counts .at, λ _. c .own-level .ensures .0, start .pre .2)
 
 same-length : tie.Need-same-length
 same-length c = c .before .settle .kept .1 .1 .1 .1 .1 .1 .1 .0
@@ -34,10 +34,8 @@ returns-2 : tie.Need-returns-2
 returns-2 c =
     let call = c .before in
     let level = call .before in
-    let start = level .before .before .before .before .before in (
-      call .settle .ensures .0 ∙ settles-is (start .args .s) (start .args .n .spot) (start .pre .1 .spot) _ (level .own-level .ensures .1) _,
-      call .settle .ensures .1,
-    )
+    let start = level .before .before .before .before in
+    (call .settle .ensures .0 ∙ settles-is (start .args .s) (start .args .to) _ (start .pre .1) (level .own-level .ensures .1) _, call .settle .ensures .1)
 
 pub settle-spec : {M : Type 1} → statement M
 settle-spec = tie.close (tie.spec returns own-level-requires settle-requires same-length returns-2)

@@ -3,7 +3,7 @@ use mathlib.Core.Path.{_∙_, ap}
 use Prim.Native.Nat.{ℕ, _-_}
 use native.Mathlib.Omega.{arith}
 use borrow.Author.Tests.{not-true, not-false}
-use Rattle.reader.specs.Machine.{lastOfSet}
+use Rattle.reader_steps.specs.Places.{lastOfSet}
 use Rattle.reader.specs.State.{columns, rows}
 use Rattle.reader.proofs.StepLaws.{spot-in, spot-of, beyond-is}
 use Rattle.reader.proofs.WalkLaws.{is-spot, beyond-more, beyond-set}

@@ -4,7 +4,7 @@ use Prim.Native.Nat.{_+_, _-_}
 use native.Mathlib.Omega.{arith}
 use borrow.Author.Tests.{not-true, not-false}
 use Rattle.lifting.specs.Grid.{Side}
-use Rattle.reader.specs.Sets.{makes}
+use Rattle.reader_steps.specs.Sets.{makes}
 use Rattle.reader.specs.State.{columns, rows}
 use Rattle.reader.proofs.PartLaws.{level-high}
 use Rattle.reader.proofs.QuestionLaws.{counts-small}

@@ -2,7 +2,7 @@
 use mathlib.Core.Path.{_∙_}
 use native.Mathlib.Omega.{arith}
 use Rattle.lifting.specs.Grid.{side}
-use Rattle.reader.proofs.OpenedSets.{low-is}
+use Rattle.reader_steps.proofs.OpenedSets.{low-is}
 use Rattle.reader.proofs.EnterLaws.{begin-alone, begin-on}
 use Rattle.reader.proofs.StepLaws.{spot-of}
 use Rattle.reader.proofs.WalkLaws.{is-spot}

@@ -5,7 +5,7 @@ use native.Mathlib.Omega.{arith}
 use borrow.Author.Tests.{not-true, not-false}
 use Rattle.lifting.specs.Grid.{side}
 use Rattle.wavelet.specs.Limits.{maxLevels}
-use Rattle.reader.specs.Machine.{dive}
+use Rattle.reader_steps.specs.Places.{dive}
 use Rattle.reader.proofs.WalkLaws.{is-spot}
 use Rattle.reader.proofs.EnterLaws.{Down, down-start, down-on, down-out, down-alone, down-end}
 use Rattle.reader.proofs.walk.dive_from.Statement.{statement}

@@ -3,8 +3,8 @@ use mathlib.Core.Path.{_∙_, ap}
 use Prim.Native.Nat.{_+_, _-_, _%_, _≤_, _^_}
 use native.Mathlib.Omega.{arith}
 use Rattle.lifting.specs.Grid.{Side, side}
-use Rattle.reader.specs.Sets.{firstRow}
-use Rattle.reader.proofs.OpenedSets.{row-in}
+use Rattle.reader_steps.specs.Sets.{firstRow}
+use Rattle.reader_steps.proofs.OpenedSets.{row-in}
 use Rattle.reader.proofs.PartLaws.{level-in, level-high}
 use Rattle.reader.proofs.StoreLaws.{set-level, waiting-is}
 use Rattle.reader.proofs.walk.finer.Statement.{statement}

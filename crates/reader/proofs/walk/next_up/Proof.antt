@@ -1,12 +1,13 @@
 -- `reader::walk::next_up` meets its contract: level by level, as the definition goes. Assumes nothing.
 use mathlib.Core.Path.{_≡_, _∙_, refl}
 use Prim.Native.Nat.{_-_, _≤_, _<_}
+use native.Mathlib.Nat.{le-refl, le-trans}
 use native.Mathlib.Omega.{arith}
 use Rattle.lifting.specs.Grid.{side}
 use Rattle.wavelet.specs.Limits.{maxLevels}
-use Rattle.reader.specs.Machine.{nextUp}
+use Rattle.reader_steps.specs.Places.{nextUp}
 use Rattle.reader.specs.Inside.{Small, IsLevel}
-use Rattle.reader.proofs.WalkLaws.{no-next, up-here, up-finer, up-none, up-next}
+use Rattle.reader.proofs.WalkLaws.{step-down, none-left, no-next, up-here, up-finer, up-none, up-next}
 use Rattle.reader.proofs.walk.next_up.Statement.{statement}
 use Rattle.reader.proofs.walk.next_up.Tie as tie
 
@@ -20,13 +21,15 @@ abbrev μ-loop : tie.MeasureT-loop
 μ-loop filter x width y height levels drawn level band k₀ m₀ b₀ k m b = k
 
 loop-holds : tie.Need-loop-holds Inv-loop μ-loop
-loop-holds c = (c .pre .0, omega arith, omega arith, λ _. c .pre .3, refl)
+loop-holds c = let p = c .pre in (p .0, le-refl (c .args .level), p .2, λ _. p .3, refl)
 
 sub-band-at : tie.Need-sub-band-at Inv-loop μ-loop
-sub-band-at c = omega arith
+sub-band-at c = c .loop-test .taken
 
 band-at-requires : tie.Need-band-at-requires Inv-loop μ-loop
-band-at-requires c κs = let inv = c .before .loop .inv in (inv .0, inv .3 (c .loop-test .taken), omega arith)
+band-at-requires c κs = let inv = c .before .loop .inv in
+    let l = c .before .loop in
+    (inv .0, inv .3 (c .loop-test .taken), le-trans (step-down _ (l .k) _ (c .loop-test .taken) (inv .1) .2) (inv .2))
 
 returns : tie.Need-returns Inv-loop μ-loop
 returns c =
@@ -44,8 +47,9 @@ sub-k c = omega arith
 finer-requires : tie.Need-finer-requires Inv-loop μ-loop
 finer-requires c κs =
     let test = c .before .before .before in
-    let inv = test .before .loop .inv in
-    (inv .0, inv .3 (test .loop-test .taken), c .if2 .taken, omega arith)
+    let l = test .before .loop in
+    let inv = l .inv in
+    (inv .0, inv .3 (test .loop-test .taken), c .if2 .taken, le-trans (step-down _ (l .k) _ (test .loop-test .taken) (inv .1) .2) (inv .2))
 
 loop-less : tie.Need-loop-less Inv-loop μ-loop
 loop-less c = omega arith
@@ -57,8 +61,8 @@ loop-again c =
     let test = band .before in
     let l = test .before .loop in
     let goes = up-finer _ _ _ _ (l .k) (l .b) (band .band-at .result) (l .m .set) (c .finer .result .set) (test .loop-test .taken) (band .band-at .ensures)
-    (omega arith) (λ _. c .finer .ensures .1) in
-    (l .inv .0, omega arith, l .inv .2, λ _. c .finer .ensures .0, goes ∙ l .inv .4)
+    (else .if1 .left) (λ _. c .finer .ensures .1) in
+    (l .inv .0, step-down _ (l .k) _ (test .loop-test .taken) (l .inv .1) .2, l .inv .2, λ _. c .finer .ensures .0, goes ∙ l .inv .4)
 
 loop-less-2 : tie.Need-loop-less-2 Inv-loop μ-loop
 loop-less-2 c = omega arith
@@ -70,8 +74,8 @@ loop-again-2 c =
     let test = band .before in
     let l = test .before .loop in
     let goes = up-finer _ _ _ _ (l .k) (l .b) (band .band-at .result) (l .m .set) (l .m .set) (test .loop-test .taken) (band .band-at .ensures)
-    (omega arith) (λ h. absurd (omega (arith, h))) in
-    (l .inv .0, omega arith, l .inv .2, λ h. absurd (omega (arith, h)), goes ∙ l .inv .4)
+    (else .if1 .left) (none-left _ (c .if2 .left)) in
+    (l .inv .0, step-down _ (l .k) _ (test .loop-test .taken) (l .inv .1) .2, l .inv .2, none-left _ (c .if2 .left), goes ∙ l .inv .4)
 
 no-row-requires : tie.Need-no-row-requires Inv-loop μ-loop
 no-row-requires c κs = tt

@@ -1,85 +1,82 @@
 -- `reader::walk::put_row` meets its contract: the run copied to its place. Assumes nothing.
-use mathlib.Core.Path.{_∙_, refl}
 use Prim.Native.Nat.{_+_, _-_}
-use native.Mathlib.Omega.{arith}
 use lib.ListN.{length}
-use borrow.Author.Tests.{le-leb}
-use borrow.Rule.Slice.PartMut.{midOf}
-use Rattle.areas.proofs.AreaLaws.{did}
-use borrow.Author.Needs.{needs}
-use Rattle.numbers.proofs.Parts.{length-mid}
+use borrow.Rule.Slice.PartMut.{same-len-mid}
 use Rattle.lifting.specs.Grid.{side}
-use Rattle.wavelet.specs.Limits.{maxLevels}
-use Rattle.reader.proofs.PartLaws.{level-in, put-room, put-is}
-use Rattle.reader.proofs.StoreLaws.{stretch-is, stretch-small}
+use Rattle.reader.proofs.PartLaws.{level-in, put-places, put-done}
 use Rattle.reader.proofs.walk.put_row.Statement.{statement}
 use Rattle.reader.proofs.walk.put_row.Tie as tie
 
 half-place-requires : tie.Need-half-place-requires
 half-place-requires c κs =
-    let here = level-in _ _ _ _ _ (c .args .l) (c .pre .2) (omega arith) (omega arith) in
-    omega (arith, here .1, here .3)
+    let p = c .pre in
+    let here = level-in _ _ _ _ _ (c .args .l) (p .2) (p .0 .0) (p .0 .2) in
+    (p .3, here .1, here .3)
 
 add-a : tie.Need-add-a
-unfolding maxLevels
 add-a c =
     let half = c .before in
     let start = half .before in
     let a = start .args in
-    omega (
-      arith,
-      put-room _ _ _ _ _ (a .l) (start .pre .2) (a .band) (half .half-place .result) (length (a .run .now)) (half .half-place .ensures) (omega arith),
-      stretch-is (a .filter) (side (a .x) (a .width)) (a .k + 1),
-      stretch-small (a .filter) (side (a .x) (a .width)) (a .k + 1) (omega arith),
-    )
+    let p = start .pre in
+    put-places (a .filter) (side (a .x) (a .width)) (side (a .y) (a .height)) (a .drawn) (a .k) (a .l) (p .2) (a .band) (half .half-place .result)
+    (length (a .run .now)) (length (a .store .now)) (p .0 .0) (p .1) (half .half-place .ensures) (p .5) (p .4) .0
 
 add-e : tie.Need-add-e
-unfolding maxLevels
 add-e c =
     let half = c .before in
     let start = half .before in
     let a = start .args in
-    omega (
-      arith,
-      put-room _ _ _ _ _ (a .l) (start .pre .2) (a .band) (half .half-place .result) (length (a .run .now)) (half .half-place .ensures) (omega arith),
-      stretch-is (a .filter) (side (a .x) (a .width)) (a .k + 1),
-      stretch-small (a .filter) (side (a .x) (a .width)) (a .k + 1) (omega arith),
-    )
+    let p = start .pre in
+    put-places (a .filter) (side (a .x) (a .width)) (side (a .y) (a .height)) (a .drawn) (a .k) (a .l) (p .2) (a .band) (half .half-place .result)
+    (length (a .run .now)) (length (a .store .now)) (p .0 .0) (p .1) (half .half-place .ensures) (p .5) (p .4) .1
 
 mul-copy : tie.Need-mul-copy
-unfolding maxLevels
 mul-copy c =
     let half = c .before in
     let start = half .before in
     let a = start .args in
-    omega (
-      arith,
-      put-room _ _ _ _ _ (a .l) (start .pre .2) (a .band) (half .half-place .result) (length (a .run .now)) (half .half-place .ensures) (omega arith),
-      stretch-is (a .filter) (side (a .x) (a .width)) (a .k + 1),
-      stretch-small (a .filter) (side (a .x) (a .width)) (a .k + 1) (omega arith),
-    )
+    let p = start .pre in
+    put-places (a .filter) (side (a .x) (a .width)) (side (a .y) (a .height)) (a .drawn) (a .k) (a .l) (p .2) (a .band) (half .half-place .result)
+    (length (a .run .now)) (length (a .store .now)) (p .0 .0) (p .1) (half .half-place .ensures) (p .5) (p .4) .2
 
 sub-copy : tie.Need-sub-copy
-sub-copy c = search needs
+sub-copy c =
+    let half = c .before in
+    let start = half .before in
+    let a = start .args in
+    let p = start .pre in
+    put-places (a .filter) (side (a .x) (a .width)) (side (a .y) (a .height)) (a .drawn) (a .k) (a .l) (p .2) (a .band) (half .half-place .result)
+    (length (a .run .now)) (length (a .store .now)) (p .0 .0) (p .1) (half .half-place .ensures) (p .5) (p .4) .3
 
 part-copy-start : tie.Need-part-copy-start
-part-copy-start c = search needs
+part-copy-start c =
+    let half = c .before in
+    let start = half .before in
+    let a = start .args in
+    let p = start .pre in
+    put-places (a .filter) (side (a .x) (a .width)) (side (a .y) (a .height)) (a .drawn) (a .k) (a .l) (p .2) (a .band) (half .half-place .result)
+    (length (a .run .now)) (length (a .store .now)) (p .0 .0) (p .1) (half .half-place .ensures) (p .5) (p .4) .3
 
 part-copy-end : tie.Need-part-copy-end
 part-copy-end c =
     let half = c .before in
     let start = half .before in
     let a = start .args in
-    omega (
-      arith,
-      put-room _ _ _ _ _ (a .l) (start .pre .2) (a .band) (half .half-place .result) (length (a .run .now)) (half .half-place .ensures) (omega arith),
-    )
+    let p = start .pre in
+    put-places (a .filter) (side (a .x) (a .width)) (side (a .y) (a .height)) (a .drawn) (a .k) (a .l) (p .2) (a .band) (half .half-place .result)
+    (length (a .run .now)) (length (a .store .now)) (p .0 .0) (p .1) (half .half-place .ensures) (p .5) (p .4) .4
 
 copy-requires : tie.Need-copy-requires
 copy-requires c κs = tt
 
 same-length : tie.Need-same-length
-same-length c = search needs
+same-length c =
+    let call = c .before in
+    let half = call .before .before .before in
+    let a = half .before .args in
+    let p = a .l .start + half .half-place .result in
+    same-len-mid p (p + length (a .run .now) - p) (a .store .now) (call .copy .last .1 .0) (call .copy .kept .1 .0)
 
 returns : tie.Need-returns
 returns c =
@@ -87,15 +84,10 @@ returns c =
     let half = call .before .before .before in
     let start = half .before in
     let a = start .args in
-    let p = a .l .start + half .half-place .result in
-    let n = length (a .run .now) in
-    let room = put-room _ _ _ _ _ (a .l) (start .pre .2) (a .band) (half .half-place .result) n (half .half-place .ensures) (omega arith) in
-    let long = length-mid p (p + n - p) (a .store .now) (omega arith) in
-    let fits = le-leb n (length (midOf p (p + n - p) (a .store .now))) (omega (arith, long)) in
-    put-is (a .filter) (side (a .x) (a .width)) (side (a .y) (a .height)) (a .drawn) (a .k) (a .band) (a .l) p (half .half-place .result)
-    (p + n - p) (a .run .now) (a .store .now)
-    (call .copy .last .1 .0) (start .pre .2) (half .half-place .ensures) refl (omega arith) (omega arith) (omega arith) (call .copy .kept .1 .0 ∙ long)
-    (did _ _ _ _ fits (call .copy .ensures .1))
+    let is = start .pre in
+    put-done (a .filter) (side (a .x) (a .width)) (side (a .y) (a .height)) (a .drawn) (a .k) (a .l) (is .2) (a .band) (half .half-place .result)
+    (a .run .now) (a .store .now) (call .copy .last .1 .0) (is .0 .0) (is .1) (half .half-place .ensures) (is .5) (is .4) (call .copy .kept .1 .0)
+    (call .copy .ensures .1)
 
 pub put-row-spec : {M : Type 1} → statement M
 put-row-spec =

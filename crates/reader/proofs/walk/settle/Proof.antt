@@ -1,20 +1,21 @@
 -- `reader::walk::settle` meets its contract: level by level, as the definition goes. Assumes nothing.
-use mathlib.Core.Path.{_≡_, _∙_, refl}
+use mathlib.Core.Path.{_≡_, _∙_, refl, sym}
 use Prim.Native.Nat.{_-_, _≤_, _<_}
+use native.Mathlib.Nat.{le-trans, le-of-eq}
 use native.Mathlib.Omega.{arith}
 use lib.ListN.{length}
 use borrow.Author.Tests.{not-true, not-false}
 use Rattle.numbers.specs.Signal.{at}
 use Rattle.lifting.specs.Grid.{side}
 use Rattle.nine_seven.specs.Filters.{filterOf}
-use Rattle.filters.specs.Figures.{storeBy}
-use Rattle.filters.proofs.FigureLaws.{levels-most}
+use Rattle.figures.specs.Figures.{storeBy}
+use Rattle.figures.proofs.FigureLaws.{levels-most}
 use Rattle.level.specs.Rebuilding.{Kept}
 use Rattle.level.proofs.WorkLaws.{told-no, told-yes}
 use Rattle.level.proofs.KeptLaws.{kept-none, kept-both}
 use Rattle.reader.specs.Machine.{settled}
 use Rattle.reader.specs.Inside.{Small, IsLevel}
-use Rattle.reader.proofs.WalkLaws.{settle-none, settle-failed, settle-on}
+use Rattle.reader.proofs.WalkLaws.{step-down, none-left, settle-none, settle-failed, settle-on}
 use Rattle.reader.proofs.walk.settle.Statement.{statement}
 use Rattle.reader.proofs.walk.settle.Tie as tie
 
@@ -31,15 +32,18 @@ abbrev μ-loop : tie.MeasureT-loop
 μ-loop filter x width y height levels drawn store₀ from to k₀ m₀ store k m = k
 
 loop-holds : tie.Need-loop-holds Inv-loop μ-loop
-loop-holds c = (c .pre .0, omega arith, omega arith, omega arith, refl, c .pre .3, refl, kept-none _ _)
+loop-holds c = let p = c .pre in (p .0, p .1, p .2, p .4, refl, p .3, refl, kept-none _ _)
 
 sub-k : tie.Need-sub-k Inv-loop μ-loop
-sub-k c = omega arith
+sub-k c = let l = c .before .loop in step-down _ (l .k) _ (c .loop-test .taken) (l .inv .2) .0
 
 work-at-requires : tie.Need-work-at-requires Inv-loop μ-loop
 work-at-requires c κs =
-    let inv = c .before .before .loop .inv in
-    (inv .0, omega arith, omega arith, inv .5 (omega arith), omega arith)
+    let test = c .before in
+    let l = test .before .loop in
+    let inv = l .inv in
+    let down = step-down _ (l .k) _ (test .loop-test .taken) (inv .2) in
+    (inv .0, inv .1, down .1, inv .5 (down .0), le-trans (inv .3) (le-of-eq (sym (inv .4))))
 
 same-length : tie.Need-same-length Inv-loop μ-loop
 same-length c =
@@ -60,8 +64,10 @@ returns c =
 finer-requires : tie.Need-finer-requires Inv-loop μ-loop
 finer-requires c κs =
     let test = c .before .before .before .before .before in
-    let inv = test .before .loop .inv in
-    (inv .0, inv .5 (omega arith), c .if2 .taken, omega (arith, levels-most (test .before .before .args .filter)))
+    let l = test .before .loop in
+    let inv = l .inv in
+    let down = step-down _ (l .k) _ (test .loop-test .taken) (inv .2) in
+    (inv .0, inv .5 (down .0), c .if2 .taken, le-trans (down .2) (le-trans (inv .1) (levels-most (test .before .before .args .filter))))
 
 loop-less : tie.Need-loop-less Inv-loop μ-loop
 loop-less c = omega arith
@@ -77,7 +83,7 @@ loop-again c =
     let worked = told-yes (call .work-at .result) left _ (call .work-at .ensures .0) (not-false _ (else .if1 .left)) in (
       inv .0,
       inv .1,
-      omega arith,
+      step-down _ (l .k) _ (test .loop-test .taken) (inv .2) .2,
       inv .3,
       call .work-at .kept .1 .1 .1 .1 .1 .1 .1 .0 ∙ inv .4,
       λ _. c .finer .ensures .0,
@@ -99,11 +105,11 @@ loop-again-2 c =
     let worked = told-yes (call .work-at .result) left _ (call .work-at .ensures .0) (not-false _ (else .if1 .left)) in (
       inv .0,
       inv .1,
-      omega arith,
+      step-down _ (l .k) _ (test .loop-test .taken) (inv .2) .2,
       inv .3,
       call .work-at .kept .1 .1 .1 .1 .1 .1 .1 .0 ∙ inv .4,
-      λ h. absurd (omega (arith, h)),
-      settle-on _ _ _ _ _ (l .k) (l .m .set) (l .m .set) (at (l .store)) _ (test .loop-test .taken) (λ h. absurd (omega (arith, h))) worked ∙ inv .6,
+      none-left _ (c .if2 .left),
+      settle-on _ _ _ _ _ (l .k) (l .m .set) (l .m .set) (at (l .store)) _ (test .loop-test .taken) (none-left _ (c .if2 .left)) worked ∙ inv .6,
       kept-both _ _ _ _ (inv .7) (call .work-at .ensures .1),
     )
 
@@ -111,7 +117,7 @@ same-length-2 : tie.Need-same-length-2 Inv-loop μ-loop
 same-length-2 c = c .before .loop .inv .4
 
 returns-2 : tie.Need-returns-2 Inv-loop μ-loop
-returns-2 c = let l = c .before .loop in (settle-none _ _ _ _ _ (l .k) (l .m .set) (at (l .store)) (omega arith) ∙ l .inv .6, l .inv .7)
+returns-2 c = let l = c .before .loop in (settle-none _ _ _ _ _ (l .k) (l .m .set) (at (l .store)) (c .loop-test .left) ∙ l .inv .6, l .inv .7)
 
 pub settle-spec : {M : Type 1} → statement M
 settle-spec =

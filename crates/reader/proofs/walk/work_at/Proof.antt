@@ -1,109 +1,97 @@
 -- `reader::walk::work_at` meets its contract: nothing, or the level's stretch lent on to be worked in. Assumes nothing.
-use mathlib.Core.Path.{_∙_, refl}
-use Prim.Native.Nat.{_+_, _-_, _≤_}
-use native.Mathlib.Omega.{arith}
+use mathlib.Core.Path.{_∙_, sym}
+use Prim.Native.Nat.{_-_}
+use native.Mathlib.Nat.{le-refl}
 use lib.Dec.{eqb}
 use lib.ListN.{length}
-use borrow.Author.Needs.{needs}
-use borrow.Rule.Slice.PartMut.{midOf}
-use Rattle.areas.proofs.AreaLaws.{did}
+use borrow.Author.Tests.{not-true, not-false}
+use borrow.Rule.Slice.PartMut.{same-len-mid}
 use Rattle.lifting.specs.Grid.{side}
-use Rattle.filters.proofs.BackLaws.{workable-of}
-use Rattle.filters.proofs.FigureLaws.{levels-most}
 use Rattle.level.proofs.KeptLaws.{kept-none}
-use Rattle.numbers.proofs.Parts.{length-mid}
-use Rattle.wavelet.specs.Limits.{maxLevels}
-use Rattle.wavelet.specs.Order.{lastSet}
-use Rattle.reader.proofs.PartLaws.{level-in, level-none, work-room, work-empty, work-late, work-is}
-use Rattle.reader.proofs.SetLaws.{some-of}
+use Rattle.reader.proofs.PartLaws.{level-in, work-none, work-places, work-done}
 use Rattle.reader.proofs.KeptLaws.{part-kept}
 use Rattle.reader.proofs.walk.work_at.Statement.{statement}
 use Rattle.reader.proofs.walk.work_at.Tie as tie
 
+is-there-requires : tie.Need-is-there-requires
+is-there-requires c κs = let p = c .pre in level-in _ _ _ _ _ (c .args .l) (p .3) (p .0 .0) (p .0 .2) .2
+
 returns : tie.Need-returns
 returns c =
-    let start = c .before .before .before in
+    let asked = c .before in
+    let start = asked .before in
     let a = start .args in
-    let is = start .pre .3 in
-    (work-empty _ _ _ _ _ _ (a .l) _ is (level-none _ _ _ _ _ (a .l) is (c .if1 .taken)), kept-none _ _)
-
-last-set-requires : tie.Need-last-set-requires
-last-set-requires c κs =
-    let start = c .before .before .before in
-    omega (arith, level-in _ _ _ _ _ (start .args .l) (start .pre .3) (omega arith) (omega arith) .2)
-
-returns-2 : tie.Need-returns-2
-returns-2 c =
-    let last = c .before .before in
-    let start = last .before .before .before .before in
-    let a = start .args in
-    (work-late _ _ _ _ _ _ (a .l) _ (last .last-set .result) (start .pre .3) (last .last-set .ensures) (c .if2 .taken), kept-none _ _)
+    let none = sym (asked .is-there .ensures (a .l .x)) ∙ not-true _ (c .if1 .taken) in
+    (work-none (a .filter) (side (a .x) (a .width)) (side (a .y) (a .height)) (a .levels) (a .drawn) (a .k) (a .l) _ (start .pre .3) none, kept-none _ _)
 
 mul-work-set : tie.Need-mul-work-set
-unfolding maxLevels
 mul-work-set c =
-    let start = c .before .before .before .before .before .before in
-    let here = level-in _ _ _ _ _ (start .args .l) (start .pre .3) (omega arith) (omega arith) in
-    omega (arith, here .0, levels-most (start .args .filter))
+    let start = c .before .before in
+    let a = start .args in
+    let p = start .pre in
+    work-places (a .filter) (side (a .x) (a .width)) (side (a .y) (a .height)) (a .levels) (a .drawn) (a .k) (a .l) (a .store .now) (p .3)
+    (p .0 .0, p .0 .2) (p .1) (p .2) (p .4) .0
 
 sub-work-set : tie.Need-sub-work-set
 sub-work-set c =
-    let start = c .before .before .before .before .before .before in
+    let start = c .before .before in
     let a = start .args in
-    omega (arith, work-room _ _ _ _ _ (a .l) (start .pre .3) (a .levels) (omega arith))
+    let p = start .pre in
+    work-places (a .filter) (side (a .x) (a .width)) (side (a .y) (a .height)) (a .levels) (a .drawn) (a .k) (a .l) (a .store .now) (p .3)
+    (p .0 .0, p .0 .2) (p .1) (p .2) (p .4) .1
 
 part-work-set-start : tie.Need-part-work-set-start
 part-work-set-start c =
-    let start = c .before .before .before .before .before .before in
+    let start = c .before .before in
     let a = start .args in
-    omega (arith, work-room _ _ _ _ _ (a .l) (start .pre .3) (a .levels) (omega arith))
+    let p = start .pre in
+    work-places (a .filter) (side (a .x) (a .width)) (side (a .y) (a .height)) (a .levels) (a .drawn) (a .k) (a .l) (a .store .now) (p .3)
+    (p .0 .0, p .0 .2) (p .1) (p .2) (p .4) .1
 
 part-work-set-end : tie.Need-part-work-set-end
-part-work-set-end c = search needs
+part-work-set-end c = le-refl (length (c .before .before .args .store .now))
 
 add-work-set : tie.Need-add-work-set
-add-work-set c = search needs
+add-work-set c =
+    let start = c .before .before .before in
+    let a = start .args in
+    let p = start .pre in
+    work-places (a .filter) (side (a .x) (a .width)) (side (a .y) (a .height)) (a .levels) (a .drawn) (a .k) (a .l) (a .store .now) (p .3)
+    (p .0 .0, p .0 .2) (p .1) (p .2) (p .4) .2
 
 work-set-requires : tie.Need-work-set-requires
 work-set-requires c κs = tt
 
 same-length : tie.Need-same-length
-same-length c = search needs
-
-returns-3 : tie.Need-returns-3
-returns-3 c =
+same-length c =
     let call = c .before in
-    let there = call .before .before in
-    let last = there .before .before in
-    let cells = last .before in
-    let start = cells .before .before .before in
+    let a = call .before .before .before .before .args in
+    same-len-mid (a .l .start) (length (a .store .now) - a .l .start) (a .store .now) (call .work-set .last .0) (call .work-set .kept .0)
+
+returns-2 : tie.Need-returns-2
+returns-2 c =
+    let call = c .before in
+    let on = call .before .before in
+    let start = on .before .before in
     let a = start .args in
     let l = a .l in
-    let is = start .pre .3 in
-    let some = some-of (side (l .x) (l .width)) (side (l .y) (l .height)) (cells .if1 .left) in
-    let room = work-room _ _ _ _ _ l is (a .levels) (omega arith) in
-    let n = length (a .store .now) - l .start in
-    let long = length-mid (l .start) n (a .store .now) (omega arith) in
-    let here = level-in _ _ _ _ _ l is (omega arith) (omega arith) in
-    let back = call .work-set .kept .0 ∙ long in
-    let in-sets : l .set ≤ lastSet (side (l .y) (l .height)) = omega (arith, last .last-set .ensures) in
-    let can = workable-of (a .filter) (eqb (a .k + 1) (a .levels)) (a .k) (side (l .x) (l .width)) (side (l .y) (l .height)) (l .set)
-    (length (midOf (l .start) n (a .store .now)))
-    (omega arith) (here .1) (omega (arith, here .2)) (some .1) in-sets (omega (arith, room, long)) in (
-      work-is (a .filter) (side (a .x) (a .width)) (side (a .y) (a .height)) (a .levels) (a .drawn) (a .k) l (l .start) n (a .store .now)
-          (call .work-set .last .0) (eqb (call .work-set .result) 0) is (some .0) (some .1) in-sets refl (omega arith) back
-          (did _ _ _ _ can (call .work-set .ensures .1 .0)),
-      part-kept (a .filter) (side (a .x) (a .width)) (side (a .y) (a .height)) (a .drawn) (a .k) (a .levels) l is n (a .store .now)
-          (call .work-set .last .0) (omega arith) (omega arith) back (call .work-set .ensures .1 .1 .0),
+    let p = start .pre in
+    let s = a .store .now in
+    let W = side (a .x) (a .width) in
+    let H = side (a .y) (a .height) in
+    let there = sym (on .before .is-there .ensures (l .x)) ∙ not-false _ (on .if1 .left) in (
+      work-done (a .filter) W H (a .levels) (a .drawn) (a .k) l s (p .3) (p .0 .0, p .0 .2) (p .1) (p .2) (p .4) (call .work-set .last .0)
+          (eqb (call .work-set .result) 0) there (call .work-set .kept .0) (call .work-set .ensures .1 .0),
+      part-kept (a .filter) W H (a .drawn) (a .k) (a .levels) l (p .3) s (call .work-set .last .0) (p .2) (p .4) (call .work-set .kept .0)
+          (call .work-set .ensures .1 .1 .0),
     )
 
 pub work-at-spec : {M : Type 1} → statement M
 work-at-spec =
     tie.close
     (tie.spec
+    is-there-requires
     returns
-    last-set-requires
-    returns-2
     mul-work-set
     sub-work-set
     part-work-set-start
@@ -111,4 +99,4 @@ work-at-spec =
     add-work-set
     work-set-requires
     same-length
-    returns-3)
+    returns-2)

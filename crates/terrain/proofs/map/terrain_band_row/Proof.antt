@@ -1,17 +1,17 @@
 -- `terrain_band_row` meets its contract: what `locate` answers, in its two cases. Assumes nothing.
-use mathlib.Core.Path.{_≡_, refl, sym, ap, _∙_}
+use mathlib.Core.Path.{_≡_, sym, ap, _∙_}
 use mathlib.Core.Bool.{false}
 use Prim.Native.Nat.{ℕ}
 use lib.Dec.{eqb}
 use borrow.Author.Needs.{needs}
 use Rattle.wavelet.specs.Shape.{columns, rows}
 use Rattle.wavelet.proofs.ViewLaws.{span-at, span-refused}
-use Rattle.terrain.proofs.StateLaws.{pick-no}
+use Rattle.terrain.proofs.CallLaws.{pick-no}
 use Rattle.terrain.proofs.map.terrain_band_row.Statement.{statement}
 use Rattle.terrain.proofs.map.terrain_band_row.Tie as tie
 
 locate-requires : tie.Need-locate-requires
-locate-requires c κs = search needs
+locate-requires c κs = tt
 
 enum-known-first : tie.Need-enum-known-first
 enum-known-first c = search needs

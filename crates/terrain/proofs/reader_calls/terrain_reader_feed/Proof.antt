@@ -1,21 +1,20 @@
--- `terrain_reader_feed` meets its contract: what the call on the unpacked reader answers, in its three cases, and 1 where the array is none. Assumes nothing.
+-- `terrain_reader_feed` meets its contract: what the call on the unpacked reader answers, and 1 where the array is none. Assumes nothing.
 use mathlib.Core.Path.{_≡_, sym, ap, _∙_}
 use lib.ListN.{length}
-use borrow.Author.Needs.{needs}
 use Rattle.numbers.specs.Signal.{at}
 use Rattle.reader.specs.declared.Reader.{Reader}
-use Rattle.reader.specs.Answers.{Reply, refused, number, ofFed}
+use Rattle.reader.specs.Answers.{Reply, refused, number}
 use Rattle.reader.specs.Questions.{feedQuestion}
 use Rattle.reader.specs.Calls.{feedReply, feedStore}
 use Rattle.terrain.specs.ReaderCalls.{feeding, stateOf}
-use Rattle.terrain.specs.ReaderState.{isReader, readerOf}
-use Rattle.terrain.proofs.StateLaws.{turned, went}
+use Rattle.states.specs.ReaderState.{isReader, readerOf}
+use Rattle.terrain.proofs.CallLaws.{turned, went}
 use Rattle.terrain.proofs.MovedWords.{fed-words}
 use Rattle.terrain.proofs.reader_calls.terrain_reader_feed.Statement.{statement}
 use Rattle.terrain.proofs.reader_calls.terrain_reader_feed.Tie as tie
 
 is-reader-requires : tie.Need-is-reader-requires
-is-reader-requires c κs = search needs
+is-reader-requires c κs = tt
 
 returns : tie.Need-returns
 returns c =
@@ -31,96 +30,34 @@ returns c =
     )
 
 unpack-reader-requires : tie.Need-unpack-reader-requires
-unpack-reader-requires c κs = search needs
+unpack-reader-requires c κs = tt
 
 feed-requires : tie.Need-feed-requires
-feed-requires c κs = search needs
+feed-requires c κs = tt
 
-enum-known-next : tie.Need-enum-known-next
-enum-known-next c = search needs
-
-pack-moved-requires : tie.Need-pack-moved-requires
-pack-moved-requires c κs = tt
-
-enum-known-next-2 : tie.Need-enum-known-next-2
-enum-known-next-2 c = search needs
-
-pack-reader-requires : tie.Need-pack-reader-requires
-pack-reader-requires c κs = tt
-
-enum-known-no : tie.Need-enum-known-no
-enum-known-no c = search needs
-
-cast-result : tie.Need-cast-result
-cast-result c = search needs
+pack-fed-requires : tie.Need-pack-fed-requires
+pack-fed-requires c κs = tt
 
 same-length : tie.Need-same-length
-same-length c = search needs
+same-length c = c .before .before .before .feed .kept .1 .0
 
 returns-2 : tie.Need-returns-2
 returns-2 c =
-    let o = c .before .before .before .before .before in
-    let u = o .before .before .before in
+    let d = c .before .before .before in
+    let u = d .before .before in
     let i = u .before .before .before in
     let a = i .before .before .args in
     let e = went (isReader (a .state .now)) (i .is-reader .result) (i .is-reader .ensures)
     (λ (r : Reader). feedReply r (feedQuestion r (length (a .store .now)) (at (a .store .now)) (length (a .run .now)) (at (a .run .now))))
     (readerOf (a .state .now)) (u .unpack-reader .result) (refused 1) _ (u .before .before .if1 .left) (u .unpack-reader .ensures)
-    (o .before .feed .ensures .0) ∙ ap ofFed (c .before .before .before .next .given .1) in (
-      sym (ap number e),
+    (d .feed .ensures .0) in (
+      c .pack-fed .ensures .0 ∙ sym (ap number e),
       (
-        c .pack-moved .ensures .0 ∙ fed-words (a .state .now) (c .pack-moved .ensures .1) _ _ _ _ _ e
-            ∙ sym (ap (λ (q : Reply Reader). stateOf q (a .state .now)) e),
+        c .pack-fed .ensures .1 .0 ∙ fed-words (a .state .now) (c .pack-fed .ensures .1 .1) _ _ _ _ _ e,
         sym (went (isReader (a .state .now)) (i .is-reader .result) (i .is-reader .ensures)
             (λ (r : Reader). feedStore r (feedQuestion r (length (a .store .now)) (at (a .store .now)) (length (a .run .now)) (at (a .run .now)))
             (at (a .run .now)) (at (a .store .now))) (readerOf (a .state .now)) (u .unpack-reader .result) (at (a .store .now)) _
-            (u .before .before .if1 .left) (u .unpack-reader .ensures) (o .before .feed .ensures .1 .0)),
-      ),
-    )
-
-same-length-2 : tie.Need-same-length-2
-same-length-2 c = search needs
-
-returns-3 : tie.Need-returns-3
-returns-3 c =
-    let o = c .before .before .before .before .before in
-    let u = o .before .before .before in
-    let i = u .before .before .before in
-    let a = i .before .before .args in
-    let e = went (isReader (a .state .now)) (i .is-reader .result) (i .is-reader .ensures)
-    (λ (r : Reader). feedReply r (feedQuestion r (length (a .store .now)) (at (a .store .now)) (length (a .run .now)) (at (a .run .now))))
-    (readerOf (a .state .now)) (u .unpack-reader .result) (refused 1) _ (u .before .before .if1 .left) (u .unpack-reader .ensures)
-    (o .before .feed .ensures .0) ∙ ap ofFed (c .before .before .before .next2 .given .1) in (
-      sym (ap number e),
-      (
-        c .pack-reader .ensures ∙ sym (ap (λ (q : Reply Reader). stateOf q (a .state .now)) e),
-        sym (went (isReader (a .state .now)) (i .is-reader .result) (i .is-reader .ensures)
-            (λ (r : Reader). feedStore r (feedQuestion r (length (a .store .now)) (at (a .store .now)) (length (a .run .now)) (at (a .run .now)))
-            (at (a .run .now)) (at (a .store .now))) (readerOf (a .state .now)) (u .unpack-reader .result) (at (a .store .now)) _
-            (u .before .before .if1 .left) (u .unpack-reader .ensures) (o .before .feed .ensures .1 .0)),
-      ),
-    )
-
-same-length-3 : tie.Need-same-length-3
-same-length-3 c = search needs
-
-returns-4 : tie.Need-returns-4
-returns-4 c =
-    let o = c .before .before .before in
-    let u = o .before .before .before in
-    let i = u .before .before .before in
-    let a = i .before .before .args in
-    let e = went (isReader (a .state .now)) (i .is-reader .result) (i .is-reader .ensures)
-    (λ (r : Reader). feedReply r (feedQuestion r (length (a .store .now)) (at (a .store .now)) (length (a .run .now)) (at (a .run .now))))
-    (readerOf (a .state .now)) (u .unpack-reader .result) (refused 1) _ (u .before .before .if1 .left) (u .unpack-reader .ensures)
-    (o .before .feed .ensures .0) ∙ ap ofFed (c .before .no .given .1) in (
-      sym (ap number e),
-      (
-        sym (ap (λ (q : Reply Reader). stateOf q (a .state .now)) e),
-        sym (went (isReader (a .state .now)) (i .is-reader .result) (i .is-reader .ensures)
-            (λ (r : Reader). feedStore r (feedQuestion r (length (a .store .now)) (at (a .store .now)) (length (a .run .now)) (at (a .run .now)))
-            (at (a .run .now)) (at (a .store .now))) (readerOf (a .state .now)) (u .unpack-reader .result) (at (a .store .now)) _
-            (u .before .before .if1 .left) (u .unpack-reader .ensures) (o .before .feed .ensures .1 .0)),
+            (u .before .before .if1 .left) (u .unpack-reader .ensures) (d .feed .ensures .1 .0)),
       ),
     )
 
@@ -132,15 +69,6 @@ terrain-reader-feed-spec =
     returns
     unpack-reader-requires
     feed-requires
-    enum-known-next
-    pack-moved-requires
-    enum-known-next-2
-    pack-reader-requires
-    enum-known-no
-    cast-result
+    pack-fed-requires
     same-length
-    returns-2
-    same-length-2
-    returns-3
-    same-length-3
-    returns-4)
+    returns-2)

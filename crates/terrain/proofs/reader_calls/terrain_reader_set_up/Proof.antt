@@ -12,13 +12,13 @@ use Rattle.terrain.proofs.reader_calls.terrain_reader_set_up.Statement.
 use Rattle.terrain.proofs.reader_calls.terrain_reader_set_up.Tie as tie
 
 set-up-requires : tie.Need-set-up-requires
-set-up-requires c κs = search needs
+set-up-requires c κs = tt
 
 enum-known-r : tie.Need-enum-known-r
 enum-known-r c = search needs
 
 pack-reader-requires : tie.Need-pack-reader-requires
-pack-reader-requires c κs = search needs
+pack-reader-requires c κs = tt
 
 enum-known-no : tie.Need-enum-known-no
 enum-known-no c = search needs

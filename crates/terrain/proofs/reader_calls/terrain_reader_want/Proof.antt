@@ -6,13 +6,13 @@ use Rattle.reader.specs.Answers.{Reply, refused, number, Want, ofWanted}
 use Rattle.reader.specs.Questions.{wantQuestion}
 use Rattle.reader.specs.Calls.{wantReply}
 use Rattle.terrain.specs.ReaderCalls.{wanting, wantOf}
-use Rattle.terrain.specs.ReaderState.{isReader, readerOf}
-use Rattle.terrain.proofs.StateLaws.{turned, went}
+use Rattle.states.specs.ReaderState.{isReader, readerOf}
+use Rattle.terrain.proofs.CallLaws.{turned, went}
 use Rattle.terrain.proofs.reader_calls.terrain_reader_want.Statement.{statement}
 use Rattle.terrain.proofs.reader_calls.terrain_reader_want.Tie as tie
 
 is-reader-requires : tie.Need-is-reader-requires
-is-reader-requires c κs = search needs
+is-reader-requires c κs = tt
 
 returns : tie.Need-returns
 returns c =
@@ -24,10 +24,10 @@ returns c =
     )
 
 unpack-reader-requires : tie.Need-unpack-reader-requires
-unpack-reader-requires c κs = search needs
+unpack-reader-requires c κs = tt
 
 want-requires : tie.Need-want-requires
-want-requires c κs = search needs
+want-requires c κs = tt
 
 enum-known-level : tie.Need-enum-known-level
 enum-known-level c = search needs

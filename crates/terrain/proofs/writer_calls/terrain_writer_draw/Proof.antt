@@ -1,22 +1,21 @@
--- `terrain_writer_draw` meets its contract: what the call on the unpacked writer answers, in its three cases, and 1 where the array is none. Assumes nothing.
-use mathlib.Core.Path.{_≡_, refl, sym, ap, _∙_}
-use mathlib.Core.List.{List}
+-- `terrain_writer_draw` meets its contract: what the call on the unpacked writer answers, and 1 where the array is none. Assumes nothing.
+use mathlib.Core.Path.{_≡_, sym, ap, _∙_}
 use lib.ListN.{length}
-use borrow.Author.Needs.{needs}
 use Rattle.numbers.specs.Signal.{at}
 use Rattle.calls.specs.Lists.{Reply, refused}
 use Rattle.writer.specs.declared.Writer.{Writer}
-use Rattle.writer.specs.Answers.{Handed, ofDrawn}
+use Rattle.writer.specs.Answers.{Handed}
 use Rattle.writer.specs.Calls.{drawReply, drawStore, drawArea}
-use Rattle.terrain.specs.WriterState.{isWriter, writerOf}
-use Rattle.terrain.specs.WriterCalls.{number, drawn, stateHanded, rowOf}
-use Rattle.terrain.proofs.StateLaws.{turned, went}
+use Rattle.states.specs.WriterState.{isWriter, writerOf}
+use Rattle.states.specs.WriterAnswers.{number, rowOf}
+use Rattle.terrain.specs.WriterCalls.{drawn, stateHanded}
+use Rattle.terrain.proofs.CallLaws.{turned, went}
 use Rattle.terrain.proofs.WordLaws.{drawn-words}
 use Rattle.terrain.proofs.writer_calls.terrain_writer_draw.Statement.{statement}
 use Rattle.terrain.proofs.writer_calls.terrain_writer_draw.Tie as tie
 
 is-writer-requires : tie.Need-is-writer-requires
-is-writer-requires c κs = search needs
+is-writer-requires c κs = tt
 
 returns : tie.Need-returns
 returns c =
@@ -38,130 +37,42 @@ returns c =
     )
 
 unpack-writer-requires : tie.Need-unpack-writer-requires
-unpack-writer-requires c κs = search needs
+unpack-writer-requires c κs = tt
 
 draw-requires : tie.Need-draw-requires
-draw-requires c κs = search needs
-
-enum-known-r : tie.Need-enum-known-r
-enum-known-r c = search needs
+draw-requires c κs = tt
 
 pack-drawn-requires : tie.Need-pack-drawn-requires
-pack-drawn-requires c κs = search needs
-
-enum-told : tie.Need-enum-told
-enum-told c = search needs
-
-enum-known-no : tie.Need-enum-known-no
-enum-known-no c = search needs
-
-cast-result : tie.Need-cast-result
-cast-result c = search needs
+pack-drawn-requires c κs = tt
 
 same-length : tie.Need-same-length
-same-length c = search needs
+same-length c = c .before .before .before .before .before .draw .kept .1 .0
 
 same-length-2 : tie.Need-same-length-2
-same-length-2 c = search needs
+same-length-2 c = c .before .before .before .before .before .draw .kept .1 .1 .0
 
 returns-2 : tie.Need-returns-2
 returns-2 c =
-    let o = c .before .before .before .before .before .before in
-    let u = o .before .before .before .before .before in
+    let d = c .before .before .before .before .before in
+    let u = d .before .before .before in
     let i = u .before .before .before in
     let a = i .before .before .args in
     let e =
     went (isWriter (a .state .now)) (i .is-writer .result) (i .is-writer .ensures)
     (λ (w : Writer). drawReply w (length (a .store .now)) (length (a .out .now)) (at (a .store .now))) (writerOf (a .state .now)) (u .unpack-writer .result)
-    (refused 1) _ (u .before .before .if1 .left) (u .unpack-writer .ensures) (o .before .before .draw .ensures .0)
-    ∙ ap ofDrawn (c .before .before .before .before .r .given .1) in (
-      sym (ap number e),
+    (refused 1) _ (u .before .before .if1 .left) (u .unpack-writer .ensures) (d .draw .ensures .0) in (
+      c .pack-drawn .ensures .0 ∙ sym (ap number e),
       (
-        c .before .pack-drawn .ensures .0 ∙ drawn-words (a .state .now) (c .before .pack-drawn .ensures .1) _ _ _ _ _ e ∙
-            sym (ap (λ (q : Reply Handed). stateHanded q (a .state .now)) e),
+        c .pack-drawn .ensures .1 .0 .0 ∙ drawn-words (a .state .now) (c .pack-drawn .ensures .1 .0 .1) _ _ _ _ e,
         (
           sym (went (isWriter (a .state .now)) (i .is-writer .result) (i .is-writer .ensures)
               (λ (w : Writer). drawStore w (length (a .store .now)) (length (a .out .now)) (at (a .store .now))) (writerOf (a .state .now))
-              (u .unpack-writer .result) (at (a .store .now)) _ (u .before .before .if1 .left) (u .unpack-writer .ensures)
-              (o .before .before .draw .ensures .1 .0)),
+              (u .unpack-writer .result) (at (a .store .now)) _ (u .before .before .if1 .left) (u .unpack-writer .ensures) (d .draw .ensures .1 .0)),
           (
             sym (went (isWriter (a .state .now)) (i .is-writer .result) (i .is-writer .ensures)
                 (λ (w : Writer). drawArea w (length (a .store .now)) (length (a .out .now)) (at (a .store .now)) (at (a .out .now))) (writerOf (a .state .now))
-                (u .unpack-writer .result) (at (a .out .now)) _ (u .before .before .if1 .left) (u .unpack-writer .ensures)
-                (o .before .before .draw .ensures .1 .1 .0)),
-            sym (ap (λ (q : Reply Handed). rowOf q (a .row .now)) e),
-          ),
-        ),
-      ),
-    )
-
-same-length-3 : tie.Need-same-length-3
-same-length-3 c = search needs
-
-same-length-4 : tie.Need-same-length-4
-same-length-4 c = search needs
-
-returns-3 : tie.Need-returns-3
-returns-3 c =
-    let o = c .before .before .before in
-    let u = o .before .before .before .before .before in
-    let i = u .before .before .before in
-    let a = i .before .before .args in
-    let e =
-    went (isWriter (a .state .now)) (i .is-writer .result) (i .is-writer .ensures)
-    (λ (w : Writer). drawReply w (length (a .store .now)) (length (a .out .now)) (at (a .store .now))) (writerOf (a .state .now)) (u .unpack-writer .result)
-    (refused 1) _ (u .before .before .if1 .left) (u .unpack-writer .ensures) (o .before .before .draw .ensures .0)
-    ∙ ap ofDrawn (c .before .enum-told .given .1) in (
-      sym (ap number e),
-      (
-        sym (ap (λ (q : Reply Handed). stateHanded q (a .state .now)) e),
-        (
-          sym (went (isWriter (a .state .now)) (i .is-writer .result) (i .is-writer .ensures)
-              (λ (w : Writer). drawStore w (length (a .store .now)) (length (a .out .now)) (at (a .store .now))) (writerOf (a .state .now))
-              (u .unpack-writer .result) (at (a .store .now)) _ (u .before .before .if1 .left) (u .unpack-writer .ensures)
-              (o .before .before .draw .ensures .1 .0)),
-          (
-            sym (went (isWriter (a .state .now)) (i .is-writer .result) (i .is-writer .ensures)
-                (λ (w : Writer). drawArea w (length (a .store .now)) (length (a .out .now)) (at (a .store .now)) (at (a .out .now))) (writerOf (a .state .now))
-                (u .unpack-writer .result) (at (a .out .now)) _ (u .before .before .if1 .left) (u .unpack-writer .ensures)
-                (o .before .before .draw .ensures .1 .1 .0)),
-            sym (ap (λ (q : Reply Handed). rowOf q (a .row .now)) e),
-          ),
-        ),
-      ),
-    )
-
-same-length-5 : tie.Need-same-length-5
-same-length-5 c = search needs
-
-same-length-6 : tie.Need-same-length-6
-same-length-6 c = search needs
-
-returns-4 : tie.Need-returns-4
-returns-4 c =
-    let o = c .before .before .before in
-    let u = o .before .before .before .before .before in
-    let i = u .before .before .before in
-    let a = i .before .before .args in
-    let e =
-    went (isWriter (a .state .now)) (i .is-writer .result) (i .is-writer .ensures)
-    (λ (w : Writer). drawReply w (length (a .store .now)) (length (a .out .now)) (at (a .store .now))) (writerOf (a .state .now)) (u .unpack-writer .result)
-    (refused 1) _ (u .before .before .if1 .left) (u .unpack-writer .ensures) (o .before .before .draw .ensures .0)
-    ∙ ap ofDrawn (c .before .no .given .1) in (
-      sym (ap number e),
-      (
-        sym (ap (λ (q : Reply Handed). stateHanded q (a .state .now)) e),
-        (
-          sym (went (isWriter (a .state .now)) (i .is-writer .result) (i .is-writer .ensures)
-              (λ (w : Writer). drawStore w (length (a .store .now)) (length (a .out .now)) (at (a .store .now))) (writerOf (a .state .now))
-              (u .unpack-writer .result) (at (a .store .now)) _ (u .before .before .if1 .left) (u .unpack-writer .ensures)
-              (o .before .before .draw .ensures .1 .0)),
-          (
-            sym (went (isWriter (a .state .now)) (i .is-writer .result) (i .is-writer .ensures)
-                (λ (w : Writer). drawArea w (length (a .store .now)) (length (a .out .now)) (at (a .store .now)) (at (a .out .now))) (writerOf (a .state .now))
-                (u .unpack-writer .result) (at (a .out .now)) _ (u .before .before .if1 .left) (u .unpack-writer .ensures)
-                (o .before .before .draw .ensures .1 .1 .0)),
-            sym (ap (λ (q : Reply Handed). rowOf q (a .row .now)) e),
+                (u .unpack-writer .result) (at (a .out .now)) _ (u .before .before .if1 .left) (u .unpack-writer .ensures) (d .draw .ensures .1 .1 .0)),
+            c .pack-drawn .ensures .1 .1 ∙ sym (ap (λ (q : Reply Handed). rowOf q (a .row .now)) e),
           ),
         ),
       ),
@@ -175,17 +86,7 @@ terrain-writer-draw-spec =
     returns
     unpack-writer-requires
     draw-requires
-    enum-known-r
     pack-drawn-requires
-    enum-told
-    enum-known-no
-    cast-result
     same-length
     same-length-2
-    returns-2
-    same-length-3
-    same-length-4
-    returns-3
-    same-length-5
-    same-length-6
-    returns-4)
+    returns-2)

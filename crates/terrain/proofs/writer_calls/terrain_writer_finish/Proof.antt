@@ -1,6 +1,5 @@
 -- `terrain_writer_finish` meets its contract: what the call on the unpacked writer answers, in its two cases, and 1 where the array is none. Assumes nothing.
-use mathlib.Core.Path.{_≡_, refl, sym, ap, _∙_}
-use mathlib.Core.List.{List}
+use mathlib.Core.Path.{_≡_, sym, ap, _∙_}
 use lib.ListN.{length}
 use borrow.Author.Needs.{needs}
 use Rattle.numbers.specs.Signal.{at}
@@ -8,14 +7,15 @@ use Rattle.calls.specs.Lists.{Reply, refused}
 use Rattle.writer.specs.declared.Writer.{Writer}
 use Rattle.writer.specs.Answers.{ofFinished}
 use Rattle.writer.specs.Calls.{finishReply, finishStore}
-use Rattle.terrain.specs.WriterState.{isWriter, writerOf}
-use Rattle.terrain.specs.WriterCalls.{number, finished, stateOf}
-use Rattle.terrain.proofs.StateLaws.{turned, went}
+use Rattle.states.specs.WriterState.{isWriter, writerOf}
+use Rattle.states.specs.WriterAnswers.{number}
+use Rattle.terrain.specs.WriterCalls.{finished, stateOf}
+use Rattle.terrain.proofs.CallLaws.{turned, went}
 use Rattle.terrain.proofs.writer_calls.terrain_writer_finish.Statement.{statement}
 use Rattle.terrain.proofs.writer_calls.terrain_writer_finish.Tie as tie
 
 is-writer-requires : tie.Need-is-writer-requires
-is-writer-requires c κs = search needs
+is-writer-requires c κs = tt
 
 returns : tie.Need-returns
 returns c =
@@ -31,16 +31,16 @@ returns c =
     )
 
 unpack-writer-requires : tie.Need-unpack-writer-requires
-unpack-writer-requires c κs = search needs
+unpack-writer-requires c κs = tt
 
 finish-requires : tie.Need-finish-requires
-finish-requires c κs = search needs
+finish-requires c κs = tt
 
 enum-known-next : tie.Need-enum-known-next
 enum-known-next c = search needs
 
 pack-writer-requires : tie.Need-pack-writer-requires
-pack-writer-requires c κs = search needs
+pack-writer-requires c κs = tt
 
 enum-known-no : tie.Need-enum-known-no
 enum-known-no c = search needs

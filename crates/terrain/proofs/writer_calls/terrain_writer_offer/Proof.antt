@@ -1,23 +1,21 @@
--- `terrain_writer_offer` meets its contract: what the call on the unpacked writer answers, in its two cases, and 1 where the array is none. Assumes nothing.
-use mathlib.Core.Path.{_≡_, refl, sym, ap, _∙_}
-use mathlib.Core.List.{List}
-use Prim.Native.Nat.{ℕ}
+-- `terrain_writer_offer` meets its contract: what the call on the unpacked writer answers, and 1 where the array is none. Assumes nothing.
+use mathlib.Core.Path.{_≡_, sym, ap, _∙_}
 use lib.ListN.{length}
-use borrow.Author.Needs.{needs}
 use Rattle.numbers.specs.Signal.{at}
 use Rattle.calls.specs.Lists.{Reply, refused}
 use Rattle.writer.specs.declared.Writer.{Writer}
-use Rattle.writer.specs.Answers.{Took, ofOffered}
+use Rattle.writer.specs.Answers.{Took}
 use Rattle.writer.specs.Calls.{offerReply, offerStore}
-use Rattle.terrain.specs.WriterState.{isWriter, writerOf}
-use Rattle.terrain.specs.WriterCalls.{number, offered, stateTook, takenOf}
-use Rattle.terrain.proofs.StateLaws.{turned, went}
+use Rattle.states.specs.WriterState.{isWriter, writerOf}
+use Rattle.states.specs.WriterAnswers.{number, takenOf}
+use Rattle.terrain.specs.WriterCalls.{offered, stateTook}
+use Rattle.terrain.proofs.CallLaws.{turned, went}
 use Rattle.terrain.proofs.WordLaws.{offered-words}
 use Rattle.terrain.proofs.writer_calls.terrain_writer_offer.Statement.{statement}
 use Rattle.terrain.proofs.writer_calls.terrain_writer_offer.Tie as tie
 
 is-writer-requires : tie.Need-is-writer-requires
-is-writer-requires c κs = search needs
+is-writer-requires c κs = tt
 
 returns : tie.Need-returns
 returns c =
@@ -36,72 +34,35 @@ returns c =
     )
 
 unpack-writer-requires : tie.Need-unpack-writer-requires
-unpack-writer-requires c κs = search needs
+unpack-writer-requires c κs = tt
 
 offer-requires : tie.Need-offer-requires
-offer-requires c κs = search needs
-
-enum-known-n : tie.Need-enum-known-n
-enum-known-n c = search needs
+offer-requires c κs = tt
 
 pack-offered-requires : tie.Need-pack-offered-requires
-pack-offered-requires c κs = search needs
-
-enum-known-no : tie.Need-enum-known-no
-enum-known-no c = search needs
-
-cast-result : tie.Need-cast-result
-cast-result c = search needs
+pack-offered-requires c κs = tt
 
 same-length : tie.Need-same-length
-same-length c = search needs
+same-length c = c .before .before .before .before .offer .kept .1 .0
 
 returns-2 : tie.Need-returns-2
 returns-2 c =
-    let o = c .before .before .before .before .before in
-    let u = o .before .before .before in
+    let d = c .before .before .before .before in
+    let u = d .before .before in
     let i = u .before .before .before in
     let a = i .before .before .before .args in
     let e =
     went (isWriter (a .state .now)) (i .is-writer .result) (i .is-writer .ensures)
     (λ (w : Writer). offerReply w (length (a .store .now)) (a .run .now) (at (a .store .now))) (writerOf (a .state .now)) (u .unpack-writer .result)
-    (refused 1) _ (u .before .before .if1 .left) (u .unpack-writer .ensures) (o .before .offer .ensures .0)
-    ∙ ap ofOffered (c .before .before .before .n .given .1) in (
-      sym (ap number e),
+    (refused 1) _ (u .before .before .if1 .left) (u .unpack-writer .ensures) (d .offer .ensures .0) in (
+      c .pack-offered .ensures .0 ∙ sym (ap number e),
       (
-        c .pack-offered .ensures .0 ∙ offered-words (a .state .now) (c .pack-offered .ensures .1) _ _ _ _ e ∙
-            sym (ap (λ (q : Reply Took). stateTook q (a .state .now)) e),
+        c .pack-offered .ensures .1 .0 .0 ∙ offered-words (a .state .now) (c .pack-offered .ensures .1 .0 .1) _ _ _ _ e,
         (
           sym (went (isWriter (a .state .now)) (i .is-writer .result) (i .is-writer .ensures)
               (λ (w : Writer). offerStore w (length (a .store .now)) (a .run .now) (at (a .store .now))) (writerOf (a .state .now)) (u .unpack-writer .result)
-              (at (a .store .now)) _ (u .before .before .if1 .left) (u .unpack-writer .ensures) (o .before .offer .ensures .1 .0)),
-          sym (ap (λ (q : Reply Took). takenOf q (a .taken .now)) e),
-        ),
-      ),
-    )
-
-same-length-2 : tie.Need-same-length-2
-same-length-2 c = search needs
-
-returns-3 : tie.Need-returns-3
-returns-3 c =
-    let o = c .before .before .before in
-    let u = o .before .before .before in
-    let i = u .before .before .before in
-    let a = i .before .before .before .args in
-    let e =
-    went (isWriter (a .state .now)) (i .is-writer .result) (i .is-writer .ensures)
-    (λ (w : Writer). offerReply w (length (a .store .now)) (a .run .now) (at (a .store .now))) (writerOf (a .state .now)) (u .unpack-writer .result)
-    (refused 1) _ (u .before .before .if1 .left) (u .unpack-writer .ensures) (o .before .offer .ensures .0)
-    ∙ ap ofOffered (c .before .no .given .1) in (
-      sym (ap number e),
-      (
-        sym (ap (λ (q : Reply Took). stateTook q (a .state .now)) e),
-        (
-          sym (went (isWriter (a .state .now)) (i .is-writer .result) (i .is-writer .ensures)
-              (λ (w : Writer). offerStore w (length (a .store .now)) (a .run .now) (at (a .store .now))) (writerOf (a .state .now)) (u .unpack-writer .result)
-              (at (a .store .now)) _ (u .before .before .if1 .left) (u .unpack-writer .ensures) (o .before .offer .ensures .1 .0)),
-          sym (ap (λ (q : Reply Took). takenOf q (a .taken .now)) e),
+              (at (a .store .now)) _ (u .before .before .if1 .left) (u .unpack-writer .ensures) (d .offer .ensures .1 .0)),
+          c .pack-offered .ensures .1 .1 ∙ sym (ap (λ (q : Reply Took). takenOf q (a .taken .now)) e),
         ),
       ),
     )
@@ -114,11 +75,6 @@ terrain-writer-offer-spec =
     returns
     unpack-writer-requires
     offer-requires
-    enum-known-n
     pack-offered-requires
-    enum-known-no
-    cast-result
     same-length
-    returns-2
-    same-length-2
-    returns-3)
+    returns-2)

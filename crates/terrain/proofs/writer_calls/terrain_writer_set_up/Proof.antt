@@ -1,26 +1,25 @@
 -- `terrain_writer_set_up` meets its contract: what the set-up answers, in its two cases. Assumes nothing.
-use mathlib.Core.Path.{_≡_, refl, sym, ap, _∙_}
-use mathlib.Core.List.{List}
+use mathlib.Core.Path.{_≡_, sym, ap, _∙_}
 use lib.ListN.{length}
 use borrow.Author.Needs.{needs}
-use Rattle.numbers.specs.Signal.{at}
 use Rattle.calls.specs.Lists.{Reply}
 use Rattle.wavelet.specs.Shape.{columns}
 use Rattle.writer.specs.declared.Writer.{Writer}
 use Rattle.writer.specs.Answers.{ofSetUp}
 use Rattle.writer.specs.Calls.{setUpReply}
-use Rattle.terrain.specs.WriterCalls.{number, stateOf}
+use Rattle.states.specs.WriterAnswers.{number}
+use Rattle.terrain.specs.WriterCalls.{stateOf}
 use Rattle.terrain.proofs.writer_calls.terrain_writer_set_up.Statement.{statement}
 use Rattle.terrain.proofs.writer_calls.terrain_writer_set_up.Tie as tie
 
 set-up-requires : tie.Need-set-up-requires
-set-up-requires c κs = search needs
+set-up-requires c κs = tt
 
 enum-known-w : tie.Need-enum-known-w
 enum-known-w c = search needs
 
 pack-writer-requires : tie.Need-pack-writer-requires
-pack-writer-requires c κs = search needs
+pack-writer-requires c κs = tt
 
 enum-known-no : tie.Need-enum-known-no
 enum-known-no c = search needs

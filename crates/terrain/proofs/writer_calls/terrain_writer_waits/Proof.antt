@@ -2,18 +2,18 @@
 use mathlib.Core.Path.{_≡_, sym, ap, _∙_}
 use borrow.Author.Needs.{needs}
 use Rattle.calls.specs.Lists.{Reply, refused}
-use Rattle.writer.specs.declared.Writer.{Writer}
 use Rattle.writer.specs.declared.BandRow.{BandRow}
 use Rattle.writer.specs.Answers.{ofLook}
 use Rattle.writer.specs.Calls.{waitsReply}
-use Rattle.terrain.specs.WriterState.{isWriter, writerOf}
-use Rattle.terrain.specs.WriterCalls.{number, waiting, lookOf}
-use Rattle.terrain.proofs.StateLaws.{turned, went}
+use Rattle.states.specs.WriterState.{isWriter, writerOf}
+use Rattle.states.specs.WriterAnswers.{number}
+use Rattle.terrain.specs.WriterCalls.{waiting, lookOf}
+use Rattle.terrain.proofs.CallLaws.{turned, went}
 use Rattle.terrain.proofs.writer_calls.terrain_writer_waits.Statement.{statement}
 use Rattle.terrain.proofs.writer_calls.terrain_writer_waits.Tie as tie
 
 is-writer-requires : tie.Need-is-writer-requires
-is-writer-requires c κs = search needs
+is-writer-requires c κs = tt
 
 returns : tie.Need-returns
 returns c =
@@ -23,10 +23,10 @@ returns c =
     (sym (ap number e), sym (ap (λ (q : Reply BandRow). lookOf q (a .row .now)) e))
 
 unpack-writer-requires : tie.Need-unpack-writer-requires
-unpack-writer-requires c κs = search needs
+unpack-writer-requires c κs = tt
 
 waits-requires : tie.Need-waits-requires
-waits-requires c κs = search needs
+waits-requires c κs = tt
 
 enum-known-r : tie.Need-enum-known-r
 enum-known-r c = search needs

@@ -1,7 +1,7 @@
 -- `store::added` meets its contract. The loop's invariant: `sum` is that of the first k levels, and `from` and `length` are the side of level k. Assumes
 -- nothing.
 use mathlib.Core.Path.{_≡_, sym, ap, ap₂, _∙_}
-use Prim.Native.Nat.{ℕ, _≤_, _<_, _+_, _-_, _*_, _^_}
+use Prim.Native.Nat.{ℕ, _≤_, _<_, _+_, _-_, _^_}
 use native.Mathlib.Omega.{arith}
 use native.Mathlib.Numerals.{add-one}
 use Rattle.lifting.specs.Grid.{Side, side}

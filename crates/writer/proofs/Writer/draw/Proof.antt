@@ -1,14 +1,13 @@
 -- `Writer::draw` meets its contract. Assumes nothing.
 use mathlib.Core.Path.{_≡_}
 use native.Mathlib.Omega.{arith}
-use borrow.Author.Needs.{needs}
 use lib.ListN.{length}
 use Rattle.numbers.specs.Signal.{at}
-use Rattle.wavelet.proofs.LimitLaws.{width-small, height-small}
 use Rattle.level.specs.Level.{rest}
 use Rattle.writer.specs.Gate.{stateQuestion}
 use Rattle.writer.proofs.GateLaws.{sound}
-use Rattle.writer.proofs.CallLaws.{draw-refused, draw-nothing, draw-no-room, draw-row}
+use Rattle.writer.proofs.DrawLaws.{reached}
+use Rattle.writer.proofs.CallLaws.{sound-walk, sound-drawable, draw-refused, draw-nothing, draw-no-room, draw-row}
 use Rattle.writer.proofs.CallsKeep.{draw-kept}
 use Rattle.writer.proofs.Writer.draw.Statement.{statement}
 use Rattle.writer.proofs.Writer.draw.Tie as tie
@@ -28,18 +27,15 @@ returns-2 c = let t = draw-nothing _ _ _ _ _ _ (c .before .before .before .state
     (t .0, (t .1, (t .2, draw-kept _ _ _ _ _ _ _ _ (t .0) (t .1) (t .2))))
 
 level-of-requires : tie.Need-level-of-requires
-level-of-requires c κs =
-    let a = c .before .before .before .before .before .args in
-    let q : stateQuestion (a .self) (length (a .store .now)) ≡ 0 = omega arith in
-    let f = sound (a .self) (length (a .store .now)) q in
-    omega (arith, width-small, height-small)
+level-of-requires c κs = tt
 
 waiting-requires : tie.Need-waiting-requires
 waiting-requires c κs =
     let a = c .before .before .before .before .before .before .args in
     let q : stateQuestion (a .self) (length (a .store .now)) ≡ 0 = omega arith in
     let f = sound (a .self) (length (a .store .now)) q in
-    (omega (arith, width-small, height-small), f .placed, c .level-of .ensures)
+    let walk = sound-walk (a .self) (length (a .store .now)) f (omega arith) in
+    (walk, f .placed, reached (a .self .filter) _ _ _ _ _ _ _ walk (c .level-of .ensures))
 
 returns-3 : tie.Need-returns-3
 returns-3 c =
@@ -61,13 +57,14 @@ draw-on-requires c κs =
     let a = c .before .before .before .before .before .before .before .before .before .before .before .before .before .before .args in
     let q : stateQuestion (a .self) (length (a .store .now)) ≡ 0 = omega arith in
     let f = sound (a .self) (length (a .store .now)) q in
-    (omega (arith, width-small, height-small), c .before .before .before .before .before .before .before .before .level-of .ensures)
+    let d = sound-drawable (a .self) (length (a .store .now)) f (omega arith) in
+    (d, reached (a .self .filter) _ _ _ _ _ _ _ (d .walk) (c .before .before .before .before .before .before .before .before .level-of .ensures))
 
 same-length : tie.Need-same-length
-same-length c = search needs
+same-length c = c .before .draw-on .kept .1 .1 .0
 
 same-length-2 : tie.Need-same-length-2
-same-length-2 c = search needs
+same-length-2 c = c .before .before .before .before .hand-out .kept .1 .1 .1 .0
 
 returns-4 : tie.Need-returns-4
 unfolding rest

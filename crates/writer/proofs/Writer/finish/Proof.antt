@@ -1,17 +1,15 @@
 -- `Writer::finish` meets its contract. Assumes nothing.
 use mathlib.Core.Path.{_≡_}
 use native.Mathlib.Omega.{arith}
-use borrow.Author.Needs.{needs}
 use lib.ListN.{length}
-use Rattle.wavelet.proofs.LimitLaws.{width-small, height-small}
 use Rattle.writer.specs.Questions.{finishQuestion}
-use Rattle.writer.proofs.CallLaws.{finish-sound, finish-no, finish-yes}
+use Rattle.writer.proofs.CallLaws.{sound-room, finish-sound, finish-no, finish-yes}
 use Rattle.writer.proofs.CallsKeep.{finish-kept}
 use Rattle.writer.proofs.Writer.finish.Statement.{statement}
 use Rattle.writer.proofs.Writer.finish.Tie as tie
 
 finish-question-requires : tie.Need-finish-question-requires
-finish-question-requires c κs = search needs
+finish-question-requires c κs = tt
 
 returns : tie.Need-returns
 returns c = let t = finish-no _ _ _ _ (c .before .finish-question .ensures) (omega arith) in (t .0, (t .1, finish-kept _ _ _ _ _ (t .0) (t .1)))
@@ -20,11 +18,10 @@ shut-requires : tie.Need-shut-requires
 shut-requires c κs =
     let a = c .before .before .before .args in
     let q : finishQuestion (a .self) (length (a .store .now)) ≡ 0 = omega arith in
-    let f = finish-sound (a .self) (length (a .store .now)) q in
-    omega (arith, width-small, height-small)
+    (sound-room (a .self) (length (a .store .now)) (finish-sound (a .self) (length (a .store .now)) q), omega arith)
 
 same-length : tie.Need-same-length
-same-length c = search needs
+same-length c = c .before .shut .kept .1 .0
 
 returns-2 : tie.Need-returns-2
 returns-2 c =

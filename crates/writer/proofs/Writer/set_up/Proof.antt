@@ -30,7 +30,7 @@ cast-t7 : tie.Need-cast-t7
 cast-t7 c = search needs
 
 same-length : tie.Need-same-length
-same-length c = search needs
+same-length c = c .before .before .clear .kept .0
 
 returns-2 : tie.Need-returns-2
 returns-2 c =

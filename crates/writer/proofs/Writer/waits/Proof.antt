@@ -1,6 +1,7 @@
 -- `Writer::waits` meets its contract. Assumes nothing.
 use native.Mathlib.Omega.{arith}
-use Rattle.wavelet.proofs.LimitLaws.{width-small, height-small}
+use Rattle.writer.proofs.CallLaws.{sound-walk}
+use Rattle.writer.proofs.DrawLaws.{reached}
 use Rattle.writer.proofs.LookLaws.{look-no, look-none, look-sound, look-row}
 use Rattle.writer.proofs.Writer.waits.Statement.{statement}
 use Rattle.writer.proofs.Writer.waits.Tie as tie
@@ -12,14 +13,14 @@ returns : tie.Need-returns
 returns c = look-no _ _ (c .before .in-ranges .ensures) (c .if1 .taken)
 
 level-of-requires : tie.Need-level-of-requires
-level-of-requires c κs =
-    let f = look-sound _ _ (c .before .before .before .in-ranges .ensures) (c .before .before .if1 .left) in
-    omega (arith, width-small, height-small)
+level-of-requires c κs = tt
 
 looked-requires : tie.Need-looked-requires
 looked-requires c κs =
     let f = look-sound _ _ (c .before .before .before .before .in-ranges .ensures) (c .before .before .before .if1 .left) in
-    (omega (arith, width-small, height-small), f .placed, c .level-of .ensures)
+    let s = c .before .before .before .before .before .args .self in
+    let walk = sound-walk s _ f (omega arith) in
+    (walk, f .placed, reached (s .filter) _ _ _ _ _ _ _ walk (c .level-of .ensures))
 
 returns-2 : tie.Need-returns-2
 returns-2 c =

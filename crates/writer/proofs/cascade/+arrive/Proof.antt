@@ -8,34 +8,32 @@ use borrow.Author.Tests.{not-true}
 use borrow.Fn.Kinds.{In}
 use borrow.Fn.PlainCycle.{Measures, is, falls, and}
 use Rattle.numbers.specs.Signal.{at}
-use Rattle.lifting.specs.Grid.{Side, side}
+use Rattle.lifting.specs.Grid.{side}
 use Rattle.wavelet.specs.Levels.{next}
-use Rattle.wavelet.proofs.SideLaws.{count-lo, next-length}
+use Rattle.wavelet.proofs.SideLaws.{next-length}
 use Rattle.wavelet.proofs.StoreLaws.{store-back}
 use Rattle.nine_seven.specs.Filters.{filterOf}
 use Rattle.level.proofs.RestLaws.{at-rest, at-join}
-use Rattle.filters.proofs.FigureLaws.{row-few}
+use Rattle.figures.proofs.FigureLaws.{row-few}
 use Rattle.filters.proofs.ForwardLaws.{level-done, next-done}
-use Rattle.filters.specs.Figures.{storeBy}
-use Rattle.writer.specs.Counts.{skip}
-use Rattle.writer.proofs.CountLaws.{completes-set, next-is, start-is}
-use Rattle.writer.proofs.CascadeLaws.{left-still, left-small, goes, arrive-still, sets-off, came-waits, came-last, came-goes}
+use Rattle.progress.specs.Counts.{skip}
+use Rattle.progress.proofs.CountLaws.{completes-set, next-is, start-is}
+use Rattle.writer.proofs.CascadeLaws.{room-below, left-still, goes, arrive-still, sets-off, came-waits, came-last, came-goes}
 use Rattle.writer.proofs.cascade.arrive.Reads as arrive
 use Rattle.writer.proofs.cascade.arrive.Kinds as arrive-kinds
 use Rattle.writer.proofs.cascade.+arrive.Lts-arrive as arrive-lts
 use Rattle.wavelet.proofs.sizes.low_count.Reads as low-count-reads
 use Rattle.wavelet.proofs.sizes.next_start.Reads as next-start-reads
-use Rattle.filters.proofs.figures.look_ahead.Reads as look-ahead-reads
+use Rattle.figures.proofs.look_ahead.Reads as look-ahead-reads
 use Rattle.filters.proofs.forward.deliver.Reads as deliver-reads
 use Rattle.filters.proofs.forward.make.Reads as make-reads
-use Rattle.writer.proofs.cascade.nothing.Reads as nothing-reads
-use Rattle.writer.proofs.counts.deeper.Reads as deeper-reads
-use Rattle.writer.proofs.counts.further.Reads as further-reads
-use Rattle.writer.proofs.counts.goes_on.Reads as goes-on-reads
-use Rattle.writer.proofs.counts.most.Reads as most-reads
-use Rattle.writer.proofs.counts.next_band.Reads as next-band-reads
-use Rattle.writer.proofs.counts.sets_off.Reads as sets-off-reads
-use Rattle.writer.proofs.counts.stretch.Reads as stretch-reads
+use Rattle.progress.proofs.counts.goes_on.Reads as goes-on-reads
+use Rattle.progress.proofs.counts.most.Reads as most-reads
+use Rattle.progress.proofs.counts.next_band.Reads as next-band-reads
+use Rattle.progress.proofs.counts.sets_off.Reads as sets-off-reads
+use Rattle.progress.proofs.waits.nothing.Reads as nothing-reads
+use Rattle.progress.proofs.waits.seen_from.Reads as seen-from-reads
+use Rattle.writer.proofs.cascade.stretch.Reads as stretch-reads
 use Rattle.writer.proofs.cascade.+arrive.{statement}
 use Rattle.writer.proofs.cascade.+arrive.Tie.{close}
 
@@ -75,14 +73,12 @@ claims t = (
   low-count-reads.Learnt,
   arrive-below t,
   arrive.Post,
-  deeper-reads.Asked,
-  deeper-reads.Learnt,
-  further-reads.Asked,
-  further-reads.Learnt,
+  seen-from-reads.Asked,
+  seen-from-reads.Learnt,
 )
 
 arrive-sets-off-requires : (t : ℕ) → arrive-lts.Need-sets-off-requires (claims t) (arrive-at t) arrive.Post
-arrive-sets-off-requires t c κs = omega arith
+arrive-sets-off-requires t c κs = tt
 
 arrive-nothing-requires : (t : ℕ) → arrive-lts.Need-nothing-requires (claims t) (arrive-at t) arrive.Post
 arrive-nothing-requires t c κs = tt
@@ -126,7 +122,7 @@ arrive-next-band-requires : (t : ℕ) → arrive-lts.Need-next-band-requires (cl
 arrive-next-band-requires t c κs = tt
 
 arrive-same-length : (t : ℕ) → arrive-lts.Need-same-length (claims t) (arrive-at t) arrive.Post
-arrive-same-length t c = search needs
+arrive-same-length t c = c .before .before .before .before .make .kept .1 .0
 
 arrive-returns-2 : (t : ℕ) → arrive-lts.Need-returns-2 (claims t) (arrive-at t) arrive.Post
 arrive-returns-2 t c =
@@ -157,7 +153,7 @@ arrive-nothing-requires-2 : (t : ℕ) → arrive-lts.Need-nothing-requires-2 (cl
 arrive-nothing-requires-2 t c κs = tt
 
 arrive-same-length-2 : (t : ℕ) → arrive-lts.Need-same-length-2 (claims t) (arrive-at t) arrive.Post
-arrive-same-length-2 t c = search needs
+arrive-same-length-2 t c = c .before .before .before .before .before .before .before .make .kept .1 .0
 
 arrive-returns-3 : (t : ℕ) → arrive-lts.Need-returns-3 (claims t) (arrive-at t) arrive.Post
 arrive-returns-3 t c =
@@ -219,7 +215,7 @@ arrive-part-arrive-start t c =
     omega (arith, e, store-back (filterOf (a .filter) .rows) (side (a .x) (a .w)) (a .l) (off .0))
 
 arrive-part-arrive-end : (t : ℕ) → arrive-lts.Need-part-arrive-end (claims t) (arrive-at t) arrive.Post
-arrive-part-arrive-end t c = search needs
+arrive-part-arrive-end t c = omega arith
 
 arrive-sub-arrive-2 : (t : ℕ) → arrive-lts.Need-sub-arrive-2 (claims t) (arrive-at t) arrive.Post
 arrive-sub-arrive-2 t c =
@@ -239,48 +235,23 @@ arrive-arrive-requires t c κs =
     let start = st .before .before .before .before .before .before .before .before .before .before .before .before .before .before .before .before in
     let sure = st .before .before .before .before .before .before .before .before .before .before .before .before .before .before in
     let a = start .args in
-    let off = sets-off (a .filter) (a .l) (a .y) (a .m) _ (sure .before .sets-off .ensures) (sure .if1 .left) in
-    let e : st .stretch .result ≡ filterOf (a .filter) .rows * a .w = st .stretch .ensures in
-    let v = next-is (a .x) (a .w) _ _ (c .next-start2 .ensures) (c .before .low-count .ensures) in
-    omega (
-      arith,
-      start .pre,
-      off .0,
-      st .before .before .deliver,
-      st .before .before .before .before .before .before .before .before .before .before .before .make,
-      e,
-      store-back (filterOf (a .filter) .rows) (side (a .x) (a .w)) (a .l) (off .0),
-      count-lo (side (a .x) (a .w)),
-      c .before .low-count .ensures,
-      ap (λ (S : Side). storeBy (a .filter) S (a .l - 1)) v,
+    let off = sets-off (a .filter) (a .l) (a .y) (a .m) _ (sure .before .sets-off .ensures) (sure .if1 .left) in (
+      omega (arith, start .pre .0, off .0),
+      room-below (a .filter) (a .l) (a .l - 1) (side (a .x) (a .w)) _ (a .m) _ (length (a .store .now)) (st .stretch .result) _ (omega (arith, off .0))
+          (start .pre .1) (st .stretch .ensures) (next-is (a .x) (a .w) _ _ (c .next-start2 .ensures) (c .before .low-count .ensures))
+          (omega (arith, start .pre .1 .rows))
+          (omega (arith, st .before .before .deliver, st .before .before .before .before .before .before .before .before .before .before .before .make)),
     )
 
-arrive-deeper-requires : (t : ℕ) → arrive-lts.Need-deeper-requires (claims t) (arrive-at t) arrive.Post
-arrive-deeper-requires t c κs =
-    let st = c .before .before .before .before .before in
-    let start = st .before .before .before .before .before .before .before .before .before .before .before .before .before .before .before .before in
-    omega (arith, c .before .arrive .ensures .within, start .pre)
-
-arrive-further-requires : (t : ℕ) → arrive-lts.Need-further-requires (claims t) (arrive-at t) arrive.Post
-arrive-further-requires t c κs =
-    let st = c .before .before .before .before .before .before in
-    let start = st .before .before .before .before .before .before .before .before .before .before .before .before .before .before .before .before in
-    let a = start .args in
-    let v = c .before .before .before .before .low-count in
-    let e : st .stretch .result ≡ filterOf (a .filter) .rows * a .w = st .stretch .ensures in
-    let b =
-    left-small (a .filter) (a .l - 1) (side _ (v .result)) _ _ _ (omega (arith, start .pre, v .ensures, count-lo (side (a .x) (a .w))))
-    (omega (arith, start .pre))
-    (c .before .before .arrive .ensures) in
-    omega (arith, e, start .pre, row-few (a .filter) (a .w))
+arrive-seen-from-requires : (t : ℕ) → arrive-lts.Need-seen-from-requires (claims t) (arrive-at t) arrive.Post
+arrive-seen-from-requires t c κs = tt
 
 arrive-same-length-3 : (t : ℕ) → arrive-lts.Need-same-length-3 (claims t) (arrive-at t) arrive.Post
 arrive-same-length-3 t c = search needs
 
 arrive-returns-4 : (t : ℕ) → arrive-lts.Need-returns-4 (claims t) (arrive-at t) arrive.Post
 arrive-returns-4 t c =
-    let e = c .before in
-    let below = e .before .before in
+    let below = c .before .before in
     let st = below .before .before .before .before in
     let sent = st .before .before in
     let first = sent .before .before in
@@ -303,8 +274,8 @@ arrive-returns-4 t c =
     (ap (λ (i : ℕ). (a .y % 2 + a .m) / 2 - i) (ah .look-ahead .ensures))
     (level-done (a .filter) (length (a .store .now)) (side (a .x) (a .w)) _ _ _ (omega (arith, start .pre)) (made .make .ensures .1))
     (band .next-band .ensures ∙ ap (skip (side (a .x) (a .w)) (side (a .y) (a .m + 1)) n) (band .before .most .ensures))
-    (omega (arith, e .before)) _ (on .before .goes-on .ensures) (on .if3 .left)
-    _ _ _ _ _ _ _ _ (at l) (at (below .arrive .last .1 .0)) _ _
+    (omega (arith, c .before)) _ (on .before .goes-on .ensures) (on .if3 .left)
+    _ _ _ _ _ _ (at l) (at (below .arrive .last .1 .0)) _ _ _ (start .pre .1 .wide) (start .pre .1 .deep)
     (record {
       columns = next-is (a .x) (a .w) _ _ (below .before .next-start2 .ensures) (below .before .before .low-count .ensures);
       start = start-is (a .y) _ (first .next-start .ensures);
@@ -312,7 +283,7 @@ arrive-returns-4 t c =
     }) refl (st .stretch .ensures)
     (next-done (a .filter) (length (made .make .last .1 .0)) (side (a .x) (a .w)) _ _ _ (omega (arith, start .pre, made .make)) (sent .deliver .ensures .1))
     (rw (at-rest (st .stretch .result) l) at (below .arrive .ensures)) (at-join (st .stretch .result) l (below .arrive .last .1 .0)
-    (omega (arith, e .before, j))) (e .deeper .ensures) (c .further .ensures)
+    (omega (arith, c .before, j))) (c .seen-from .ensures)
 
 pub +arrive-spec : {M : Type 1} → statement M
 +arrive-spec =
@@ -353,7 +324,6 @@ pub +arrive-spec : {M : Type 1} → statement M
     (arrive-low-count-requires t)
     (arrive-next-start-requires-2 t)
     (arrive-arrive-requires t)
-    (arrive-deeper-requires t)
-    (arrive-further-requires t)
+    (arrive-seen-from-requires t)
     (arrive-same-length-3 t)
     (arrive-returns-4 t)

@@ -1,21 +1,20 @@
 -- `cascade::pass_on` meets its contract: the LL row delivered, and what it makes below. Assumes nothing.
-use mathlib.Core.Path.{_≡_, sym, ap, refl, _∙_}
-use Prim.Native.Nat.{_+_, _-_, _*_}
+use mathlib.Core.Path.{_≡_, sym, refl, _∙_}
+use Prim.Native.Nat.{_+_, _*_}
 use native.Mathlib.Omega.{arith}
 use lib.ListN.{length}
 use borrow.Author.Tests.{not-true}
 use Rattle.numbers.specs.Signal.{at}
-use Rattle.lifting.specs.Grid.{Side, side}
+use Rattle.lifting.specs.Grid.{side}
 use Rattle.wavelet.specs.Levels.{next}
-use Rattle.wavelet.proofs.SideLaws.{count-lo, next-length}
+use Rattle.wavelet.proofs.SideLaws.{next-length}
 use Rattle.wavelet.proofs.StoreLaws.{store-next, store-back}
 use Rattle.nine_seven.specs.Filters.{filterOf}
-use Rattle.filters.specs.Figures.{storeBy}
-use Rattle.filters.proofs.FigureLaws.{row-few}
+use Rattle.figures.proofs.FigureLaws.{row-few}
 use Rattle.filters.proofs.ForwardLaws.{next-done}
 use Rattle.level.proofs.RestLaws.{at-rest, at-join}
-use Rattle.writer.proofs.CountLaws.{next-is, start-is}
-use Rattle.writer.proofs.CascadeLaws.{left-still, left-small, goes, pass-none, passed-goes}
+use Rattle.progress.proofs.CountLaws.{next-is, start-is}
+use Rattle.writer.proofs.CascadeLaws.{room-below, left-still, goes, pass-none, passed-goes}
 use borrow.Author.Needs.{needs}
 use Rattle.writer.proofs.cascade.pass_on.Statement.{statement}
 use Rattle.writer.proofs.cascade.pass_on.Tie as tie
@@ -68,7 +67,7 @@ part-arrive-start c =
     omega (arith, e, store-next (filterOf (a .filter) .rows) (side (a .x) (a .w)) (a .l))
 
 part-arrive-end : tie.Need-part-arrive-end
-part-arrive-end c = search needs
+part-arrive-end c = omega arith
 
 low-count-requires : tie.Need-low-count-requires
 low-count-requires c κs = tt
@@ -79,42 +78,21 @@ next-start-requires-2 c κs = tt
 arrive-requires : tie.Need-arrive-requires
 arrive-requires c κs =
     let st = c .before .before .before in
-    let a = st .before .before .before .before .before .before .before .args in
-    let e : st .stretch .result ≡ filterOf (a .filter) .rows * a .w = st .stretch .ensures in
-    let v = next-is (a .x) (a .w) _ _ (c .next-start2 .ensures) (c .before .low-count .ensures) in
-    omega (
-      arith,
-      e,
-      store-next (filterOf (a .filter) .rows) (side (a .x) (a .w)) (a .l),
-      count-lo (side (a .x) (a .w)),
-      c .before .low-count .ensures,
-      ap
-          (λ (S : Side). storeBy (a .filter) S (a .l)) v,
-    )
-
-deeper-requires : tie.Need-deeper-requires
-deeper-requires c κs =
-    omega (arith, c .before .arrive .ensures .within, c .before .before .before .before .before .before .before .before .before .before .before .before .pre)
-
-further-requires : tie.Need-further-requires
-further-requires c κs =
-    let st = c .before .before .before .before .before .before in
     let start = st .before .before .before .before .before .before .before in
     let a = start .args in
-    let e : st .stretch .result ≡ filterOf (a .filter) .rows * a .w = st .stretch .ensures in
-    let v = c .before .before .before .before .low-count in
-    let o =
-    left-small (a .filter) (a .l) (side _ (v .result)) _ _ _ (omega (arith, start .pre, v .ensures, count-lo (side (a .x) (a .w)))) (omega (arith, start .pre))
-    (c .before .before .arrive .ensures) in
-    omega (arith, e, start .pre, row-few (a .filter) (a .w))
+    room-below (a .filter) (a .l + 1) (a .l) (side (a .x) (a .w)) _ (a .n) _ (length (a .store .now)) (st .stretch .result) _ refl (start .pre)
+    (st .stretch .ensures) (next-is (a .x) (a .w) _ _ (c .next-start2 .ensures) (c .before .low-count .ensures)) (omega (arith, start .pre .rows))
+    (omega (arith, st .before .before .deliver))
+
+seen-from-requires : tie.Need-seen-from-requires
+seen-from-requires c κs = tt
 
 same-length : tie.Need-same-length
 same-length c = search needs
 
 returns-2 : tie.Need-returns-2
 returns-2 c =
-    let e = c .before in
-    let below = e .before .before in
+    let below = c .before .before in
     let st = below .before .before .before .before in
     let sent = st .before .before in
     let first = sent .before .before in
@@ -127,7 +105,8 @@ returns-2 c =
     let q = store-back (filterOf (a .filter) .rows) (next (side (a .x) (a .w))) (a .l) (g .0) in
     let h = next-length (side (a .x) (a .w)) in
     let j : st .stretch .result ≡ filterOf (a .filter) .rows * a .w = st .stretch .ensures in
-    passed-goes (a .filter) (a .l) (side (a .x) (a .w)) (a .y) (a .n) _ _ _ _ _ _ _ _ _ (at l) (at (below .arrive .last .1 .0)) _ _ (g .0) (g .1)
+    passed-goes (a .filter) (a .l) (side (a .x) (a .w)) (a .y) (a .n) _ _ _ _ _ _ _ (at l) (at (below .arrive .last .1 .0)) _ _ _ (start .pre .wide)
+    (omega (arith, start .pre .deep)) (g .0) (g .1)
     (record {
       columns = next-is (a .x) (a .w) _ _ (below .before .next-start2 .ensures) (below .before .before .low-count .ensures);
       start = start-is (a .y) _ (first .next-start .ensures);
@@ -136,7 +115,7 @@ returns-2 c =
     (next-done (a .filter) (length (a .store .now)) (side (a .x) (a .w)) _ _ _ (omega (arith, start .pre)) (sent .deliver .ensures .1))
     (rw (at-rest (st .stretch .result) l) at (below .arrive .ensures))
     (at-join (st .stretch .result) l (below .arrive .last .1 .0) (omega (arith, start .pre, sent .deliver, j)))
-    (e .deeper .ensures) (c .further .ensures)
+    (c .seen-from .ensures)
 
 pub pass-on-spec : {M : Type 1} → statement M
 pass-on-spec =
@@ -157,7 +136,6 @@ pass-on-spec =
     low-count-requires
     next-start-requires-2
     arrive-requires
-    deeper-requires
-    further-requires
+    seen-from-requires
     same-length
     returns-2)

@@ -1,32 +1,33 @@
 -- `closing::shut` meets its contract, by induction on the levels. Assumes nothing.
-use mathlib.Core.Path.{_≡_, ap}
+use mathlib.Core.Path.{_≡_, ap, _∙_}
 use Prim.Native.Nat.{ℕ, _+_, _-_, _*_, _<_}
 use native.Mathlib.Omega.{arith}
+use lib.ListN.{length}
 use borrow.Author.Needs.{needs}
 use borrow.Fn.Kinds.{In}
 use borrow.Fn.PlainCycle.{Measures, is, falls, and}
 use Rattle.numbers.specs.Signal.{at}
-use Rattle.lifting.specs.Grid.{Side, side}
+use Rattle.lifting.specs.Grid.{side}
 use Rattle.wavelet.proofs.SideLaws.{count-lo}
 use Rattle.wavelet.proofs.StoreLaws.{store-back}
 use Rattle.nine_seven.specs.Filters.{filterOf}
-use Rattle.filters.specs.Figures.{storeBy}
-use Rattle.filters.proofs.FigureLaws.{steps-few, row-few}
+use Rattle.figures.specs.Figures.{storeBy}
+use Rattle.figures.proofs.FigureLaws.{steps-few, row-few}
 use Rattle.level.proofs.RestLaws.{at-rest, at-join}
-use Rattle.writer.proofs.CountLaws.{steps-more, next-is, start-is}
-use Rattle.writer.proofs.ClosingLaws.{closed-small, shut-none, shut-waits, shut-goes}
+use Rattle.progress.proofs.CountLaws.{steps-more, next-is, start-is}
+use Rattle.writer.proofs.CascadeLaws.{room-below}
+use Rattle.writer.proofs.ClosingLaws.{shut-none, shut-waits, shut-goes}
 use Rattle.writer.proofs.closing.shut.Reads as shut
 use Rattle.writer.proofs.closing.shut.Kinds as shut-kinds
 use Rattle.writer.proofs.closing.+shut.Lts-shut as shut-lts
-use Rattle.filters.proofs.figures.look_ahead.Reads as look-ahead-reads
+use Rattle.figures.proofs.look_ahead.Reads as look-ahead-reads
+use Rattle.progress.proofs.counts.minus.Reads as minus-reads
+use Rattle.progress.proofs.waits.nothing.Reads as nothing-reads
+use Rattle.progress.proofs.waits.seen_from.Reads as seen-from-reads
 use Rattle.wavelet.proofs.sizes.low_count.Reads as low-count-reads
 use Rattle.wavelet.proofs.sizes.next_start.Reads as next-start-reads
 use Rattle.writer.proofs.closing.close_level.Reads as close-level-reads
-use Rattle.writer.proofs.closing.idle.Reads as idle-reads
-use Rattle.writer.proofs.counts.closed_below.Reads as closed-below-reads
-use Rattle.writer.proofs.counts.deeper.Reads as deeper-reads
-use Rattle.writer.proofs.counts.further.Reads as further-reads
-use Rattle.writer.proofs.counts.stretch.Reads as stretch-reads
+use Rattle.writer.proofs.cascade.stretch.Reads as stretch-reads
 use Rattle.writer.proofs.closing.+shut.{statement}
 use Rattle.writer.proofs.closing.+shut.Tie.{close}
 
@@ -42,35 +43,33 @@ shut-below t = and 1 shut-kinds.ps (falls 1 shut-kinds.ps _<_ μ-shut t) shut.Pr
 -- what is known of the calls, those of `shut` itself at fewer levels
 abbrev claims : ℕ → shut-lts.Claims
 claims t = (
-  idle-reads.Asked,
-  idle-reads.Learnt,
+  nothing-reads.Asked,
+  nothing-reads.Learnt,
   close-level-reads.Asked,
   close-level-reads.Learnt,
   stretch-reads.Asked,
   stretch-reads.Learnt,
+  look-ahead-reads.Asked,
+  look-ahead-reads.Learnt,
   low-count-reads.Asked,
   low-count-reads.Learnt,
   next-start-reads.Asked,
   next-start-reads.Learnt,
-  closed-below-reads.Asked,
-  closed-below-reads.Learnt,
+  minus-reads.Asked,
+  minus-reads.Learnt,
   shut-below t,
   shut.Post,
-  look-ahead-reads.Asked,
-  look-ahead-reads.Learnt,
-  deeper-reads.Asked,
-  deeper-reads.Learnt,
-  further-reads.Asked,
-  further-reads.Learnt,
+  seen-from-reads.Asked,
+  seen-from-reads.Learnt,
 )
 
-shut-idle-requires : (t : ℕ) → shut-lts.Need-idle-requires (claims t) (shut-at t) shut.Post
-shut-idle-requires t c κs = tt
+shut-nothing-requires : (t : ℕ) → shut-lts.Need-nothing-requires (claims t) (shut-at t) shut.Post
+shut-nothing-requires t c κs = tt
 
 shut-returns : (t : ℕ) → shut-lts.Need-returns (claims t) (shut-at t) shut.Post
 shut-returns t c =
     let a = c .before .before .args in
-    shut-none (a .filter) (a .l) (side (a .x) (a .w)) (a .y) (a .c) (a .m) _ _ (c .idle .ensures) (omega arith) (omega arith)
+    shut-none (a .filter) (a .l) (side (a .x) (a .w)) (a .y) (a .c) (a .m) _ _ (c .nothing .ensures) (omega arith) (omega arith)
 
 shut-sub-close-level : (t : ℕ) → shut-lts.Need-sub-close-level (claims t) (shut-at t) shut.Post
 shut-sub-close-level t c = omega arith
@@ -82,7 +81,7 @@ shut-close-level-requires t c κs =
     omega (arith, ap (storeBy (a .filter) (side (a .x) (a .w))) k)
 
 shut-same-length : (t : ℕ) → shut-lts.Need-same-length (claims t) (shut-at t) shut.Post
-shut-same-length t c = search needs
+shut-same-length t c = c .before .before .before .close-level .kept .1 .0
 
 shut-returns-2 : (t : ℕ) → shut-lts.Need-returns-2 (claims t) (shut-at t) shut.Post
 shut-returns-2 t c =
@@ -92,27 +91,33 @@ shut-returns-2 t c =
 shut-stretch-requires : (t : ℕ) → shut-lts.Need-stretch-requires (claims t) (shut-at t) shut.Post
 shut-stretch-requires t c κs = omega arith
 
+shut-look-ahead-requires : (t : ℕ) → shut-lts.Need-look-ahead-requires (claims t) (shut-at t) shut.Post
+shut-look-ahead-requires t c κs = tt
+
 shut-mul-shut : (t : ℕ) → shut-lts.Need-mul-shut (claims t) (shut-at t) shut.Post
 shut-mul-shut t c =
-    let start = c .before .before .before .before .before .before .before in
+    let st = c .before in
+    let start = st .before .before .before .before .before .before .before in
     let a = start .args in
-    let e : c .stretch .result ≡ filterOf (a .filter) .rows * a .w = c .stretch .ensures in
+    let e : st .stretch .result ≡ filterOf (a .filter) .rows * a .w = st .stretch .ensures in
     omega (arith, e, start .pre, row-few (a .filter) (a .w))
 
 shut-sub-shut : (t : ℕ) → shut-lts.Need-sub-shut (claims t) (shut-at t) shut.Post
 shut-sub-shut t c =
-    let a = c .before .before .before .before .before .before .before .args in
-    let e : c .stretch .result ≡ filterOf (a .filter) .rows * a .w = c .stretch .ensures in
+    let st = c .before in
+    let a = st .before .before .before .before .before .before .before .args in
+    let e : st .stretch .result ≡ filterOf (a .filter) .rows * a .w = st .stretch .ensures in
     omega (arith, e, store-back (filterOf (a .filter) .rows) (side (a .x) (a .w)) (a .l) (omega arith))
 
 shut-part-shut-start : (t : ℕ) → shut-lts.Need-part-shut-start (claims t) (shut-at t) shut.Post
 shut-part-shut-start t c =
-    let a = c .before .before .before .before .before .before .before .args in
-    let e : c .stretch .result ≡ filterOf (a .filter) .rows * a .w = c .stretch .ensures in
+    let st = c .before in
+    let a = st .before .before .before .before .before .before .before .args in
+    let e : st .stretch .result ≡ filterOf (a .filter) .rows * a .w = st .stretch .ensures in
     omega (arith, e, store-back (filterOf (a .filter) .rows) (side (a .x) (a .w)) (a .l) (omega arith))
 
 shut-part-shut-end : (t : ℕ) → shut-lts.Need-part-shut-end (claims t) (shut-at t) shut.Post
-shut-part-shut-end t c = search needs
+shut-part-shut-end t c = omega arith
 
 shut-sub-shut-2 : (t : ℕ) → shut-lts.Need-sub-shut-2 (claims t) (shut-at t) shut.Post
 shut-sub-shut-2 t c = omega arith
@@ -126,95 +131,75 @@ shut-next-start-requires t c κs = tt
 shut-next-start-requires-2 : (t : ℕ) → shut-lts.Need-next-start-requires-2 (claims t) (shut-at t) shut.Post
 shut-next-start-requires-2 t c κs = tt
 
-shut-closed-below-requires : (t : ℕ) → shut-lts.Need-closed-below-requires (claims t) (shut-at t) shut.Post
-shut-closed-below-requires t c κs = tt
+shut-minus-requires : (t : ℕ) → shut-lts.Need-minus-requires (claims t) (shut-at t) shut.Post
+shut-minus-requires t c κs = tt
 
 shut-low-count-requires-2 : (t : ℕ) → shut-lts.Need-low-count-requires-2 (claims t) (shut-at t) shut.Post
 shut-low-count-requires-2 t c κs = tt
 
 shut-shut-requires : (t : ℕ) → shut-lts.Need-shut-requires (claims t) (shut-at t) shut.Post
 shut-shut-requires t c κs =
-    let st = c .before .before .before .before .before .before in
-    let start = st .before .before .before .before .before .before .before in
+    let ah = c .before .before .before .before .before .before in
+    let st = ah .before in
+    let some = st .before .before .before .before .before .before in
+    let start = some .before in
     let a = start .args in
-    let width = c .before .before .before .before .low-count in
-    let v = next-is (a .x) (a .w) _ _ (c .before .before .before .next-start .ensures) (width .ensures) in
-    let e : st .stretch .result ≡ filterOf (a .filter) .rows * a .w = st .stretch .ensures in
-    omega (
-      arith,
-      start .pre,
-      e,
-      store-back (filterOf (a .filter) .rows) (side (a .x) (a .w)) (a .l) (omega arith),
-      count-lo (side (a .x) (a .w)),
-      width .ensures,
-      count-lo (side (a .y) (a .m)),
-      c .low-count2 .ensures,
-      c .before .closed-below .ensures,
-      steps-more (filterOf (a .filter) .ahead) (a .l) (omega arith),
-      ap (λ (S : Side). storeBy (a .filter) S (a .l - 1)) v,
+    let h : 0 < a .l = omega (arith, some .if1 .left) in
+    let few = count-lo (side (a .y) (a .m)) in (
+      omega (arith, start .pre .0, h),
+      (
+        room-below (a .filter) (a .l) (a .l - 1) (side (a .x) (a .w)) _ (a .m) _ (length (a .store .now)) (st .stretch .result) _ (omega (arith, h))
+            (start .pre .1 .0) (st .stretch .ensures)
+            (next-is (a .x) (a .w) _ _ (c .before .before .before .next-start .ensures) (c .before .before .before .before .low-count .ensures))
+            (omega (arith, few, c .low-count2 .ensures, start .pre .1 .0 .rows))
+            (omega (arith, c .before .before .before .before .before, st .before .before .before .before .close-level .kept .1 .0)),
+        omega (arith, c .before .minus .ensures, ah .look-ahead .ensures, steps-more (filterOf (a .filter) .ahead) (a .l) h, start .pre .1 .1),
+      ),
     )
 
-shut-look-ahead-requires : (t : ℕ) → shut-lts.Need-look-ahead-requires (claims t) (shut-at t) shut.Post
-shut-look-ahead-requires t c κs = tt
-
-shut-add-t25 : (t : ℕ) → shut-lts.Need-add-t25 (claims t) (shut-at t) shut.Post
-shut-add-t25 t c =
-    let below = c .before .before .before in
-    let some = below .before .before .before .before .before .before .before .before .before .before .before .before .before in
+shut-add-t17 : (t : ℕ) → shut-lts.Need-add-t17 (claims t) (shut-at t) shut.Post
+shut-add-t17 t c =
+    let below = c .before .before in
+    let ah = below .before .before .before .before .before .before .before in
+    let some = ah .before .before .before .before .before .before .before in
     let start = some .before in
     let a = start .args in
     omega (
       arith,
-      c .before .look-ahead .ensures,
+      ah .look-ahead .ensures,
       below .shut .ensures .all,
       steps-more (filterOf (a .filter) .ahead) (a .l) (omega (arith, some .if1 .left)),
       start .pre,
       steps-few (a .filter) (a .l),
     )
 
-shut-deeper-requires : (t : ℕ) → shut-lts.Need-deeper-requires (claims t) (shut-at t) shut.Post
-shut-deeper-requires t c κs =
-    let below = c .before .before .before in
-    let start = below .before .before .before .before .before .before .before .before .before .before .before .before .before .before in
-    omega (arith, below .shut .ensures .within, start .pre)
-
-shut-further-requires : (t : ℕ) → shut-lts.Need-further-requires (claims t) (shut-at t) shut.Post
-shut-further-requires t c κs =
-    let below = c .before .before .before .before in
-    let st = below .before .before .before .before .before .before .before in
-    let start = st .before .before .before .before .before .before .before in
-    let a = start .args in
-    let v = below .before .before .before .before .before .low-count in
-    let e : st .stretch .result ≡ filterOf (a .filter) .rows * a .w = st .stretch .ensures in
-    let o =
-    closed-small (a .filter) (a .l - 1) (side _ (v .result)) _ _ _ (omega (arith, start .pre, v .ensures, count-lo (side (a .x) (a .w))))
-    (omega (arith, start .pre))
-    (below .shut .ensures) in
-    omega (arith, e, start .pre, row-few (a .filter) (a .w))
+shut-seen-from-requires : (t : ℕ) → shut-lts.Need-seen-from-requires (claims t) (shut-at t) shut.Post
+shut-seen-from-requires t c κs = tt
 
 shut-same-length-2 : (t : ℕ) → shut-lts.Need-same-length-2 (claims t) (shut-at t) shut.Post
 shut-same-length-2 t c = search needs
 
 shut-returns-3 : (t : ℕ) → shut-lts.Need-returns-3 (claims t) (shut-at t) shut.Post
 shut-returns-3 t c =
-    let e = c .before in
-    let ah = e .before .before in
-    let below = ah .before .before in
+    let below = c .before .before .before in
     let prev = below .before .before in
     let from = prev .before .before in
-    let st = from .before .before .before in
+    let ah = from .before .before .before in
+    let st = ah .before in
     let level = st .before .before .before .before in
-    let start = level .before .before .before in
+    let some = level .before .before in
+    let start = some .before in
     let a = start .args in
     let l = level .close-level .last .1 .0 in
-    let s = store-back (filterOf (a .filter) .rows) (side (a .x) (a .w)) (a .l) (omega (arith, e .before)) in
+    let h : 0 < a .l = omega (arith, some .if1 .left) in
+    let s = store-back (filterOf (a .filter) .rows) (side (a .x) (a .w)) (a .l) h in
     let j : st .stretch .result ≡ filterOf (a .filter) .rows * a .w = st .stretch .ensures in
-    shut-goes (a .filter) (a .l) (side (a .x) (a .w)) (a .y) (a .c) (a .m) _ (at l) _ (omega (arith, e .before)) (level .close-level .ensures) _ _ _ _ _ _ _ _
-    (at (below .shut .last .1 .0)) _ _ (omega (arith, e .before)) (st .stretch .ensures)
+    shut-goes (a .filter) (a .l) (side (a .x) (a .w)) (a .y) (a .c) (a .m) _ (at l) _ h (level .close-level .ensures) _ _ _ _ _ _
+    (at (below .shut .last .1 .0)) _ _ _ (start .pre .1 .0 .wide) (start .pre .1 .0 .deep) (omega (arith, c .before)) (st .stretch .ensures)
     (next-is (a .x) (a .w) _ _ (from .next-start .ensures) (from .before .low-count .ensures)) (start-is (a .y) _ (prev .before .next-start2 .ensures))
-    (prev .closed-below .ensures) (below .before .low-count2 .ensures)
-    (rw (at-rest (st .stretch .result) l) at (below .shut .ensures)) (at-join (st .stretch .result) l (below .shut .last .1 .0) (omega (arith, e .before, j)))
-    (ah .look-ahead .ensures) (e .deeper .ensures) (c .further .ensures)
+    (prev .minus .ensures ∙ ap (λ (i : ℕ). a .c - i) (ah .look-ahead .ensures)) (below .before .low-count2 .ensures)
+    (rw (at-rest (st .stretch .result) l) at (below .shut .ensures)) (at-join (st .stretch .result) l (below .shut .last .1 .0) (omega (arith, c .before, j)))
+    (ah .look-ahead .ensures) (c .seen-from .ensures)
 
 pub +shut-spec : {M : Type 1} → statement M
 +shut-spec =
@@ -224,13 +209,14 @@ pub +shut-spec : {M : Type 1} → statement M
     (claims t)
     (shut-at t)
     shut.Post
-    (shut-idle-requires t)
+    (shut-nothing-requires t)
     (shut-returns t)
     (shut-sub-close-level t)
     (shut-close-level-requires t)
     (shut-same-length t)
     (shut-returns-2 t)
     (shut-stretch-requires t)
+    (shut-look-ahead-requires t)
     (shut-mul-shut t)
     (shut-sub-shut t)
     (shut-part-shut-start t)
@@ -239,12 +225,10 @@ pub +shut-spec : {M : Type 1} → statement M
     (shut-low-count-requires t)
     (shut-next-start-requires t)
     (shut-next-start-requires-2 t)
-    (shut-closed-below-requires t)
+    (shut-minus-requires t)
     (shut-low-count-requires-2 t)
     (shut-shut-requires t)
-    (shut-look-ahead-requires t)
-    (shut-add-t25 t)
-    (shut-deeper-requires t)
-    (shut-further-requires t)
+    (shut-add-t17 t)
+    (shut-seen-from-requires t)
     (shut-same-length-2 t)
     (shut-returns-3 t)

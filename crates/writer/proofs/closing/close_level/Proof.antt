@@ -1,9 +1,8 @@
 -- `closing::close_level` meets its contract. The loop's invariant: what the steps from step k on come to is what all of them do. Assumes nothing.
-use mathlib.Core.Path.{_≡_, refl}
+use mathlib.Core.Path.{_≡_, refl, _∙_}
 use Prim.Native.Nat.{_-_}
 use native.Mathlib.Omega.{arith}
 use lib.ListN.{length}
-use borrow.Author.Needs.{needs}
 use Rattle.numbers.specs.Signal.{at}
 use Rattle.lifting.specs.Grid.{side}
 use Rattle.nine_seven.specs.Filters.{filterOf}
@@ -31,7 +30,7 @@ add-k : tie.Need-add-k Inv-loop μ-loop
 add-k c = omega arith
 
 same-length : tie.Need-same-length Inv-loop μ-loop
-same-length c = search needs
+same-length c = c .before .before .before .close-step .kept .1 .0 ∙ c .before .before .before .before .before .before .loop .inv .0
 
 returns : tie.Need-returns Inv-loop μ-loop
 returns c =
@@ -55,17 +54,17 @@ loop-again c =
           (step .close-step .ensures) _ refl (omega arith),
     )
 
-idle-requires : tie.Need-idle-requires Inv-loop μ-loop
-idle-requires c κs = tt
+nothing-requires : tie.Need-nothing-requires Inv-loop μ-loop
+nothing-requires c κs = tt
 
 same-length-2 : tie.Need-same-length-2 Inv-loop μ-loop
-same-length-2 c = search needs
+same-length-2 c = c .before .before .loop .inv .0
 
 returns-2 : tie.Need-returns-2 Inv-loop μ-loop
 returns-2 c =
     let loop = c .before .before .loop in
     let a = c .before .before .before .before .args in
-    level-done (a .filter) (a .l) (side (a .x) (a .w)) (a .y) (a .m) (a .c) (loop .k) _ (at (loop .store)) (loop .inv .2) _ (c .idle .ensures)
+    level-done (a .filter) (a .l) (side (a .x) (a .w)) (a .y) (a .m) (a .c) (loop .k) _ (at (loop .store)) (loop .inv .2) _ (c .nothing .ensures)
     (omega (arith, loop .inv .1))
 
 pub close-level-spec : {M : Type 1} → statement M
@@ -82,6 +81,6 @@ close-level-spec =
     returns
     loop-less
     loop-again
-    idle-requires
+    nothing-requires
     same-length-2
     returns-2)

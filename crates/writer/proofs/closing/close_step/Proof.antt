@@ -1,4 +1,5 @@
 -- `closing::close_step` meets its contract: each way out is the machine's step. Assumes nothing.
+use mathlib.Core.Path.{_∙_}
 use Prim.Native.Nat.{_+_}
 use native.Mathlib.Omega.{arith}
 use lib.ListN.{length}
@@ -6,15 +7,14 @@ use Rattle.lifting.specs.Grid.{side}
 use Rattle.wavelet.proofs.StoreLaws.{store-next}
 use Rattle.nine_seven.specs.Filters.{filterOf}
 use Rattle.filters.proofs.ForwardLaws.{level-done}
-use Rattle.writer.proofs.CountLaws.{made-most}
+use Rattle.progress.proofs.CountLaws.{made-most}
 use Rattle.writer.proofs.CascadeLaws.{left-still}
 use Rattle.writer.proofs.ClosingLaws.{step-none, step-waits, step-goes}
-use borrow.Author.Needs.{needs}
 use Rattle.writer.proofs.closing.close_step.Statement.{statement}
 use Rattle.writer.proofs.closing.close_step.Tie as tie
 
 made-requires : tie.Need-made-requires
-made-requires c κs = omega arith
+made-requires c κs = tt
 
 is-left-requires : tie.Need-is-left-requires
 is-left-requires c κs = tt
@@ -40,7 +40,7 @@ next-band-requires : tie.Need-next-band-requires
 next-band-requires c κs = tt
 
 same-length : tie.Need-same-length
-same-length c = search needs
+same-length c = c .before .before .before .before .close .kept .1 .0
 
 returns-2 : tie.Need-returns-2
 returns-2 c =
@@ -61,7 +61,7 @@ pass-on-requires c κs =
     omega (arith, made .made .ensures, made-most (filterOf (a .filter) .ahead) (a .c) (a .y) (a .m))
 
 same-length-2 : tie.Need-same-length-2
-same-length-2 c = search needs
+same-length-2 c = c .before .pass-on .kept .1 .0 ∙ c .before .before .before .before .before .before .before .close .kept .1 .0
 
 returns-3 : tie.Need-returns-3
 returns-3 c =

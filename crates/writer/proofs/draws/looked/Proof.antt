@@ -1,10 +1,12 @@
 -- `draws::looked` meets its contract. Assumes nothing.
+use mathlib.Core.Path.{sym, _∙_}
+use Rattle.level.proofs.Places.{prev-is}
 use Rattle.writer.proofs.DrawLaws.{told}
 use Rattle.writer.proofs.draws.looked.Statement.{statement}
 use Rattle.writer.proofs.draws.looked.Tie as tie
 
-prev-requires : tie.Need-prev-requires
-prev-requires c κs = tt
+minus-requires : tie.Need-minus-requires
+minus-requires c κs = tt
 
 code-requires : tie.Need-code-requires
 code-requires c κs = tt
@@ -20,7 +22,8 @@ returns c =
     let b = c .before .before in
     let d = b .before .before in
     let a = d .args in
-    told (a .s) (a .q) (d .pre .2) (d .pre .1) _ _ _ _ (b .before .prev .ensures) (b .code .ensures) (c .before .set-row .ensures) (c .columns .ensures)
+    told (a .s) (a .q) (d .pre .2) (d .pre .1) _ _ _ _ (b .before .minus .ensures ∙ sym (prev-is _)) (b .code .ensures)
+    (c .before .set-row .ensures) (c .columns .ensures)
 
 pub looked-spec : {M : Type 1} → statement M
-looked-spec = tie.close (tie.spec prev-requires code-requires set-row-requires columns-requires returns)
+looked-spec = tie.close (tie.spec minus-requires code-requires set-row-requires columns-requires returns)

@@ -1,19 +1,16 @@
 -- `draws::pull` meets its contract: from the offset on, the next band of the set, or its LL row gone on. Assumes nothing.
-use Prim.Native.Nat.{_+_, _-_}
+use mathlib.Core.Path.{sym, _∙_}
 use native.Mathlib.Omega.{arith}
 use Rattle.numbers.specs.Signal.{at}
-use Rattle.filters.proofs.FigureLaws.{store-few}
 use Rattle.level.proofs.RestLaws.{at-rest, at-join}
-use Rattle.writer.specs.Taking.{columnsOf}
-use Rattle.writer.specs.Steps.{columns}
-use Rattle.writer.proofs.CascadeLaws.{left-small}
+use Rattle.level.proofs.Places.{prev-is}
 use Rattle.writer.proofs.DrawLaws.{pull-waits, pull-goes}
 use borrow.Author.Needs.{needs}
 use Rattle.writer.proofs.draws.pull.Statement.{statement}
 use Rattle.writer.proofs.draws.pull.Tie as tie
 
-prev-requires : tie.Need-prev-requires
-prev-requires c κs = tt
+minus-requires : tie.Need-minus-requires
+minus-requires c κs = tt
 
 next-band-requires : tie.Need-next-band-requires
 next-band-requires c κs = tt
@@ -23,8 +20,11 @@ returns c =
     let b = c .before in
     let d = b .before .before in
     let a = d .args in
-    pull-waits (a .s) (a .q) (d .pre .1) (d .pre .0 .placed) (at (a .store .now)) _ _ (b .before .prev .ensures) (b .next-band .ensures) (omega arith)
-    (omega arith)
+    pull-waits (a .s) (a .q) (d .pre .1) (d .pre .0 .placed) (at (a .store .now)) _ _ (b .before .minus .ensures ∙ sym (prev-is _))
+    (b .next-band .ensures) (omega arith) (omega arith)
+
+sub-below : tie.Need-sub-below
+sub-below c = omega (arith, c .before .before .before .before .pre .0 .walk)
 
 mul-pass-on : tie.Need-mul-pass-on
 mul-pass-on c = search needs
@@ -40,56 +40,45 @@ part-pass-on-end c = search needs
 
 pass-on-requires : tie.Need-pass-on-requires
 pass-on-requires c κs =
-    let b = c .before .before in
+    let b = c .before .before .before in
     let d = b .before .before in
-    omega (arith, d .pre .1 .room, d .pre .1 .deep, d .pre .1 .sets, d .pre .0 .placed)
+    omega (arith, d .pre .1 .room, d .pre .1 .wide, d .pre .1 .sets, d .pre .0 .walk, d .pre .0 .placed)
 
-sub-deeper-by : tie.Need-sub-deeper-by
-sub-deeper-by c = search needs
+sub-seen-from : tie.Need-sub-seen-from
+sub-seen-from c = search needs
 
-deeper-by-requires : tie.Need-deeper-by-requires
-deeper-by-requires c κs = search needs
-
-further-requires : tie.Need-further-requires
-further-requires c κs =
-    let p = c .before .before .before in
-    let e = p .before .before .before .before .before in
-    let q = e .args .q in
-    let s = e .args .s in
-    let d = e .pre .0 in
-    let f = e .pre .1 in
-    let o = left-small (s .filter) (q .below + 1) (columns q) _ _ _ (f .wide) (omega (arith, f .deep, d .walk)) (p .pass-on .ensures) in
-    omega (arith, store-few (s .filter) (columnsOf s) (s .levels), f .room, d .placed, d .walk .wide, d .walk .deep)
+seen-from-requires : tie.Need-seen-from-requires
+seen-from-requires c κs = tt
 
 same-length : tie.Need-same-length
 same-length c = search needs
 
 returns-2 : tie.Need-returns-2
 returns-2 c =
-    let p = c .before .before .before .before in
-    let b = p .before .before .before in
+    let p = c .before .before .before in
+    let b = p .before .before .before .before in
     let d = b .before .before in
     let a = d .args in
     let l = a .store .now in
     let e = d .pre in
-    pull-goes (a .s) (a .q) (e .1) (e .0 .placed) (at l) _ _ (b .before .prev .ensures) (b .next-band .ensures)
-    _ (at (p .pass-on .last .1 .0)) _ _ _ (omega arith) (omega arith) (rw (at-rest (a .s .offset) l) at (p .pass-on .ensures))
-    (at-join (a .s .offset) l (p .pass-on .last .1 .0) (omega (arith, e .1 .room, e .0 .placed))) (c .before .deeper-by .ensures) (c .further .ensures)
+    pull-goes (a .s) (a .q) (e .1) (e .0 .placed) (at l) _ _ (b .before .minus .ensures ∙ sym (prev-is _)) (b .next-band .ensures)
+    _ _ (at (p .pass-on .last .1 .0)) _ (e .0 .walk) (omega arith) (rw (at-rest (a .s .offset) l) at (p .pass-on .ensures))
+    (at-join (a .s .offset) l (p .pass-on .last .1 .0) (omega (arith, e .1 .room, e .0 .placed))) (c .seen-from .ensures)
 
 pub pull-spec : {M : Type 1} → statement M
 pull-spec =
     tie.close
     (tie.spec
-    prev-requires
+    minus-requires
     next-band-requires
     returns
+    sub-below
     mul-pass-on
     sub-pass-on
     part-pass-on-start
     part-pass-on-end
     pass-on-requires
-    sub-deeper-by
-    deeper-by-requires
-    further-requires
+    sub-seen-from
+    seen-from-requires
     same-length
     returns-2)

@@ -5,8 +5,8 @@ use native.Mathlib.Omega.{arith}
 use lib.Dec.{eqb}
 use Rattle.lifting.specs.Grid.{side}
 use Rattle.wavelet.proofs.SideLaws.{count-lo}
-use Rattle.writer.specs.Counts.{startOf}
-use Rattle.writer.proofs.CountLaws.{next-is}
+use Rattle.progress.specs.Counts.{startOf}
+use Rattle.progress.proofs.CountLaws.{next-is}
 use Rattle.writer.proofs.GateLaws.{begins-short, begins-on, begins-first}
 use Rattle.writer.proofs.gate.begins.Statement.{statement}
 use Rattle.writer.proofs.gate.begins.Tie as tie

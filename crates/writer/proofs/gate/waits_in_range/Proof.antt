@@ -3,7 +3,7 @@ use mathlib.Core.Path.{sym, ap, _∙_}
 use native.Mathlib.Omega.{arith}
 use lib.Dec.{eqb}
 use Rattle.writer.specs.Taking.{columnsOf}
-use Rattle.writer.proofs.CountLaws.{left-none, left-some, start-first}
+use Rattle.progress.proofs.CountLaws.{left-none, left-some, start-first}
 use Rattle.writer.proofs.GateLaws.{left-no, left-yes}
 use Rattle.writer.proofs.gate.waits_in_range.Statement.{statement}
 use Rattle.writer.proofs.gate.waits_in_range.Tie as tie

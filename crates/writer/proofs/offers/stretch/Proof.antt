@@ -1,5 +1,5 @@
 -- `offers::stretch` meets its contract: the heights put, and where they complete the row, what that makes. Assumes nothing.
-use mathlib.Core.Path.{_≡_}
+use mathlib.Core.Path.{_≡_, _∙_}
 use mathlib.Core.List.{List}
 use Prim.Native.Nat.{ℕ, _+_, _%_, _≤_}
 use native.Mathlib.Omega.{arith}
@@ -7,7 +7,7 @@ use lib.IntN.{ℤ}
 use lib.ListN.{length}
 use Rattle.numbers.specs.Signal.{pick}
 use Rattle.wavelet.proofs.LimitLaws.{height-small}
-use Rattle.wavelet.proofs.StoreLaws.{store-in, store-back}
+use Rattle.wavelet.proofs.StoreLaws.{store-back}
 use Rattle.nine_seven.specs.Filters.{filterOf}
 use Rattle.level.specs.Heights.{heightAt}
 use Rattle.filters.specs.Forward.{heightsPut, heightsFit}
@@ -39,7 +39,7 @@ add-column : tie.Need-add-column
 add-column c = search needs
 
 same-length : tie.Need-same-length
-same-length c = search needs
+same-length c = c .before .before .before .before .put .kept .1 .0
 
 returns : tie.Need-returns
 returns c =
@@ -52,14 +52,15 @@ returns c =
 
 arrive-requires : tie.Need-arrive-requires
 arrive-requires c κs =
-    let s = c .before .before .before .before .before .before .before .before .before .before .args .s in
-    omega (arith, store-in (filterOf (s .filter) .rows) (columnsOf s) 1 (s .levels) (omega arith))
+    let put = c .before .before .before .before .before in
+    let room = put .before .before .before .before .before .pre .0 .room in
+    record { room = omega (arith, room .room, put .put .kept .1 .0); wide = room .wide; rows = room .rows; deep = room .deep }
 
 add-t9 : tie.Need-add-t9
 add-t9 c = omega (arith, height-small)
 
 same-length-2 : tie.Need-same-length-2
-same-length-2 c = search needs
+same-length-2 c = c .before .before .arrive .kept .1 .0 ∙ c .before .before .before .before .before .before .before .before .put .kept .1 .0
 
 returns-2 : tie.Need-returns-2
 returns-2 c =

@@ -1,0 +1,4 @@
+pub mod PlaceLaws
+pub mod AreaLaws
+pub mod LiftLaws
+pub mod BackLaws

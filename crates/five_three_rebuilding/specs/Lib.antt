@@ -1,0 +1,5 @@
+pub mod Slots
+pub mod Work
+pub mod Rebuilding
+pub mod Stands
+pub mod FiveThreeBack

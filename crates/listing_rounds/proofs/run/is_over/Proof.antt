@@ -1,0 +1,16 @@
+-- `listing_rounds::run::is_over` is the test of the definition. Assumes nothing.
+use borrow.Author.Tests.{eq-eqb, ne-eqb}
+use Rattle.listing_rounds.specs.Rounds.{over}
+use Rattle.listing_rounds.proofs.run.is_over.Statement.{statement}
+use Rattle.listing_rounds.proofs.run.is_over.Tie as tie
+
+returns : tie.Need-returns
+unfolding over
+returns c = simp (eq-eqb _ _ (c .before .if1 .taken))
+
+returns-2 : tie.Need-returns-2
+unfolding over
+returns-2 c = simp (ne-eqb _ _ (c .if1 .left))
+
+pub is-over-spec : {M : Type 1} → statement M
+is-over-spec = tie.close (tie.spec returns returns-2)

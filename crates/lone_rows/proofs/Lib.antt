@@ -1,0 +1,2 @@
+pub mod LoneTests
+pub mod EachLaws

@@ -1,0 +1,67 @@
+// The numbers of an only row.
+use lifting::sample;
+ghost use mathlib.Core.Path.{_≡_};
+ghost use lib.IntN.{pos, _*ℤ_};
+ghost use lib.ListN.{length};
+ghost use lib.Signed.{shrZ};
+ghost use Rattle.numbers.specs.Signal.{at, pick};
+ghost use Rattle.numbers.specs.Tests.{every};
+ghost use Rattle.numbers.specs.Word.{wrap32};
+ghost use Rattle.lifting.specs.Grid.{side, loneHigh, isEven};
+ghost use Rattle.lifting.specs.Halves.{fronted};
+
+// Whether h rows that start at y are one row at an odd coordinate.
+pub fn is_lone(h: usize, y: usize) -> bool
+    ensures { λ r. ⌜ r ≡ loneHigh (side y h) ⌝ }
+{
+    if y % 2 == 1 { h == 1 } else { false }
+}
+
+// Whether every number of a row is even.
+pub fn all_even(row: &[i32]) -> bool
+    ensures { λ r. ⌜ r ≡ every (length (now (row .entry))) (λ i. isEven (at (now (row .entry)) i)) ⌝ }
+{
+    let mut ok = true;
+    let mut i = 0;
+    while i < row.len() {
+        ok = ok & sample::is_even(row[i]);
+        i += 1;
+    }
+    ok
+}
+
+// Every number of a row doubled, and halved.
+pub fn double_all(row: &mut [i32])
+    ensures { λ _. ⌜ at (now (row .exit)) ≡
+        fronted (length (now (row .entry))) (λ i. wrap32 (pos 2 *ℤ at (now (row .entry)) i)) (at (now (row .entry))) ⌝ }
+{
+    let mut i = 0;
+    while i < row.len() {
+        row[i] = sample::double(row[i]);
+        i += 1;
+    }
+}
+
+pub fn halve_all(row: &mut [i32])
+    ensures { λ _. ⌜ at (now (row .exit)) ≡
+        fronted (length (now (row .entry))) (λ i. shrZ (at (now (row .entry)) i) 2) (at (now (row .entry))) ⌝ }
+{
+    let mut i = 0;
+    while i < row.len() {
+        row[i] = sample::halve(row[i]);
+        i += 1;
+    }
+}
+
+// All halved if all are even; else false, and nothing is changed.
+pub fn halve_even(row: &mut [i32]) -> bool
+    ensures even { λ ok. ⌜ ok ≡ every (length (now (row .entry))) (λ i. isEven (at (now (row .entry)) i)) ⌝ }
+    ensures row { λ ok. ⌜ at (now (row .exit)) ≡ pick ok
+        (fronted (length (now (row .entry))) (λ i. shrZ (at (now (row .entry)) i) 2) (at (now (row .entry)))) (at (now (row .entry))) ⌝ }
+{
+    if !all_even(row) {
+        return false;
+    }
+    halve_all(row);
+    true
+}

@@ -1,0 +1,56 @@
+-- `passes::lift_lone` meets its contract: the row lent, doubled and come back, where it stands at an odd coordinate. Assumes nothing.
+use mathlib.Core.Path.{refl, _∙_}
+use Prim.Native.Nat.{_-_}
+use native.Mathlib.Omega.{arith}
+use lib.IntN.{pos, _*ℤ_}
+use borrow.Author.Needs.{needs}
+use borrow.Author.Tests.{eq-eqb}
+use Rattle.numbers.specs.Word.{wrap32}
+use Rattle.lifting.specs.Grid.{side}
+use Rattle.lifting.proofs.LoneLaws.{lone-odd, lone-even}
+use Rattle.map_levels.specs.Rowwise.{doubledInPlace}
+use Rattle.map_levels.proofs.ForwardCalls.{mapped-part}
+use Rattle.map_levels.proofs.passes.lift_lone.Statement.{statement}
+use Rattle.map_levels.proofs.passes.lift_lone.Tie as tie
+
+sub-double-row : tie.Need-sub-double-row
+sub-double-row c = search needs
+
+part-double-row-start : tie.Need-part-double-row-start
+part-double-row-start c = search needs
+
+part-double-row-end : tie.Need-part-double-row-end
+part-double-row-end c = search needs
+
+double-row-requires : tie.Need-double-row-requires
+double-row-requires c κs = tt
+
+same-length : tie.Need-same-length
+same-length c = search needs
+
+returns : tie.Need-returns
+unfolding doubledInPlace
+returns c =
+    let called = c .before .double-row in
+    let taken = c .before .before .before in
+    let start = taken .before in
+    let args = start .args in
+    let odd = lone-odd (side (args .y) 1) (omega arith) ∙ eq-eqb 1 1 refl in
+    simp odd
+    (mapped-part (λ v. wrap32 (pos 2 *ℤ v)) (args .width) (args .width - 0) (args .area .now) (called .last .0) (omega arith) (start .pre) (called .kept .0)
+    (called .ensures))
+
+returns-2 : tie.Need-returns-2
+returns-2 c = simp (lone-even (side (c .before .args .y) 1) (omega arith))
+
+pub lift-lone-spec : {M : Type 1} → statement M
+lift-lone-spec =
+    tie.close
+    (tie.spec
+    sub-double-row
+    part-double-row-start
+    part-double-row-end
+    double-row-requires
+    same-length
+    returns
+    returns-2)

@@ -1,0 +1,4 @@
+pub mod Rowwise
+pub mod Passes
+pub mod ByFilter
+pub mod LevelPasses

@@ -1,0 +1,682 @@
+// The levels of a map. Forward a level is lifted where it stands, in the plane's corner. Back its rows stand in the work area, `height` rows of
+// `width` numbers each in halves, `stride` apart: the rows of the next level are every second one of them, so its stride is twice as long, and they begin at
+// the first low row. The plane's rows are `across` apart at every level. x and y are where the level starts on the grid.
+// The module is private: only this crate, which meets what is required, can call it.
+use crate::passes;
+use crate::rowwise;
+use five_three_lines::halves;
+use five_three_lines::rows;
+use lifting::sample;
+use nine_seven_sweep::columns;
+use wavelet::sizes;
+ghost use mathlib.Core.Path.{_≡_};
+ghost use mathlib.Core.Bool.{true};
+ghost use Prim.Native.Nat.{ℕ, _+_, _-_, _*_, _<_, _≤_};
+ghost use lib.IntN.{pos, negℤ};
+ghost use lib.Dec.{ltb};
+ghost use lib.ListN.{length};
+ghost use Rattle.numbers.specs.Signal.{at, pick, windowed, spliced};
+ghost use Rattle.numbers.specs.Tests.{every};
+ghost use Rattle.lifting.specs.Grid.{side, loneHigh, isEven};
+ghost use Rattle.lifting.specs.GridHalves.{unliftedInPlace, hasLineIn, highsLaid};
+ghost use Rattle.nine_seven.specs.Memory.{unliftedInPlace as nineSevenBack};
+ghost use Rattle.nine_seven.specs.NineSevenFilter.{nineSevenFilter};
+ghost use Rattle.wavelet.specs.Limits.{maxWidth, range};
+ghost use Rattle.wavelet.specs.Plane.{cells, flat};
+ghost use Rattle.wavelet.specs.Questions.{Sized};
+ghost use Rattle.map_levels.specs.Rowwise.{partedInPlace, wovenInPlace, halvedInPlace};
+ghost use Rattle.map_levels.specs.Passes.{Rows, KeptFrom, isLow, planeRow, levelRow, rowsMapped, rowsFetched, gridHalved, gridCopied};
+ghost use Rattle.nine_seven.specs.Filters.{filterOf};
+ghost use Rattle.map_levels.specs.ByFilter.{rowCopied};
+ghost use Rattle.map_levels.specs.LevelPasses.{cornerGrid, levelUnlifted, rowBack, firstBack, planeWritten, goesOn, rowsEven, rowsBetween};
+ghost use Rattle.map_levels.specs.LevelPasses.{regionInRange, LevelRoom, Doubling, LevelMade, LevelMadeBy, LevelsBack};
+
+// The plane's row for row r of a level: the low rows come first.
+fn plane_row(y: usize, height: usize, r: usize) -> usize
+    requires { ⌜ r < height ⌝ }
+    ensures { λ p. ⌜ (p ≡ planeRow (side y height) r) × (p < height) ⌝ }
+{
+    if r % 2 == y % 2 {
+        return r / 2;
+    }
+    sizes::low_count(y, height) + r / 2
+}
+
+// The level's row for row r of the plane.
+fn level_row(y: usize, height: usize, r: usize) -> usize
+    requires { ⌜ r < height ⌝ }
+    ensures { λ l. ⌜ (l ≡ levelRow (side y height) r) × (l < height) ⌝ }
+{
+    let low = sizes::low_count(y, height);
+    if r < low {
+        return 2 * r + y % 2;
+    }
+    2 * (r - low) + (1 - y % 2)
+}
+
+// Whether more levels follow on a low-low part of this width and height: an empty one has none.
+fn goes_on(levels: usize, width: usize, height: usize) -> bool
+    ensures { λ r. ⌜ r ≡ goesOn levels width height ⌝ }
+{
+    if levels < 2 {
+        return false;
+    }
+    if width == 0 {
+        return false;
+    }
+    0 < height
+}
+
+// n numbers from place a of one area to place b of another.
+fn copy_part(from: &[i32], a: usize, to: &mut [i32], b: usize, n: usize)
+    requires { ⌜ (a + n ≤ length (now from)) × (b + n ≤ length (now to)) ⌝ }
+    ensures { λ _. ⌜ at (now (to .exit)) ≡ spliced b n (windowed a n (at (now (from .entry)))) (at (now (to .entry))) ⌝ }
+{
+    let e = a + n;
+    let f = b + n;
+    areas::copies::copy(&from[a..e], &mut to[b..f]);
+}
+
+// The same, a row that goes from its own order into halves.
+fn halve_part(from: &[i32], a: usize, to: &mut [i32], b: usize, x: usize, n: usize)
+    requires { ⌜ (a + n ≤ length (now from)) × (b + n ≤ length (now to)) ⌝ }
+    ensures { λ _. ⌜ at (now (to .exit)) ≡
+        spliced b n (partedInPlace (side x n) (windowed a n (at (now (from .entry))))) (at (now (to .entry))) ⌝ }
+{
+    let e = a + n;
+    let f = b + n;
+    areas::lines::part_line(&from[a..e], x, &mut to[b..f]);
+}
+
+// A grid from the plane's corner to the work area, its rows one after the other.
+fn save(plane: &[i32], work: &mut [i32], across: usize, width: usize, height: usize)
+    requires { ⌜ Rows (length (now plane)) across width height × Rows (length (now work)) width width height ⌝ }
+    ensures { λ _. ⌜ at (now (work .exit)) ≡
+        flat width (gridCopied width height (cells across (at (now (plane .entry)))) (cells width (at (now (work .entry))))) ⌝ }
+{
+    let mut r = 0;
+    while r < height {
+        copy_part(plane, r * across, work, r * width, width);
+        r += 1;
+    }
+}
+
+// And back to the corner as the level takes it: the low rows first, each row in halves.
+fn spread(
+    work: &[i32],
+    plane: &mut [i32],
+    across: usize,
+    x: usize,
+    width: usize,
+    y: usize,
+    height: usize,
+)
+    requires { ⌜ Rows (length (now work)) width width height × Rows (length (now plane)) across width height ⌝ }
+    ensures { λ _. ⌜ at (now (plane .exit)) ≡
+        flat across (gridHalved (side x width) (side y height) (cells width (at (now (work .entry)))) (cells across (at (now (plane .entry))))) ⌝ }
+{
+    let mut r = 0;
+    while r < height {
+        let a = level_row(y, height, r) * width;
+        halve_part(work, a, plane, r * across, x, width);
+        r += 1;
+    }
+}
+
+// How many numbers of row r are made already: of a low one, whose low half is the low-low part, `from`.
+fn made_of(y: usize, r: usize, from: usize) -> usize
+    ensures { λ n. ⌜ ((h : ℕ) → n ≡ pick (isLow (side y h) r) from 0) ⌝ }
+{
+    if r % 2 == y % 2 { from } else { 0 }
+}
+
+// n numbers at place b of an area lifted back: a row in halves whose high half stands in the row at place a of another area. An only high value is even.
+fn unlift_part(from: &[i32], a: usize, to: &mut [i32], b: usize, x: usize, n: usize)
+    requires { ⌜ (a + n ≤ length (now from)) × (b + n ≤ length (now to)) × (hasLineIn (side x n) (windowed a n (at (now from))) ≡ true) ⌝ }
+    ensures { λ _. ⌜ at (now (to .exit)) ≡
+        spliced b n (unliftedInPlace (side x n) (highsLaid (side x n) (windowed a n (at (now (from .entry)))) (windowed b n (at (now (to .entry))))))
+        (at (now (to .entry))) ⌝ }
+{
+    let e = a + n;
+    let f = b + n;
+    halves::unlift_by(&from[a..e], x, &mut to[b..f]);
+}
+
+// Row r of a level from the plane, a low one from column `from` on, and lifted back. Only what is left of its low half is copied first: the
+// high half is read from the plane while it is lifted back.
+fn fetch_row(
+    plane: &[i32],
+    work: &mut [i32],
+    across: usize,
+    stride: usize,
+    from: usize,
+    x: usize,
+    width: usize,
+    y: usize,
+    height: usize,
+    r: usize,
+)
+    requires { ⌜ LevelRoom (length (now plane)) (length (now work)) across stride from (side x width) (side y height)
+        × (r < height) × (rowsEven (side x width) height (cells across (at (now plane))) ≡ true) ⌝ }
+    ensures { λ _. ⌜ at (now (work .exit)) ≡
+        rowBack from (side x width) (side y height) stride (cells across (at (now (plane .entry)))) (at (now (work .entry))) r ⌝ }
+{
+    let made = made_of(y, r, from);
+    let low = sizes::low_count(x, width);
+    let a = plane_row(y, height, r) * across;
+    let b = r * stride;
+    copy_part(plane, a + made, work, b + made, low - made);
+    unlift_part(plane, a, work, b, x, width);
+}
+
+// The same, where there is a row r.
+fn fetch_last(
+    plane: &[i32],
+    work: &mut [i32],
+    across: usize,
+    stride: usize,
+    from: usize,
+    x: usize,
+    width: usize,
+    y: usize,
+    height: usize,
+    r: usize,
+)
+    requires { ⌜ LevelRoom (length (now plane)) (length (now work)) across stride from (side x width) (side y height)
+        × (rowsEven (side x width) height (cells across (at (now plane))) ≡ true) ⌝ }
+    ensures { λ _. ⌜ at (now (work .exit)) ≡
+        pick (ltb r height)
+        (rowBack from (side x width) (side y height) stride (cells across (at (now (plane .entry)))) (at (now (work .entry))) r)
+        (at (now (work .entry))) ⌝ }
+{
+    if height <= r {
+        return;
+    }
+    fetch_row(plane, work, across, stride, from, x, width, y, height, r);
+}
+
+// All levels forward, in the plane's corner: this one, and then the same of its low-low part with the levels left, which goes through the
+// work area into the order that a level takes.
+pub fn forward_levels(
+    plane: &mut [i32],
+    work: &mut [i32],
+    across: usize,
+    x: usize,
+    width: usize,
+    y: usize,
+    height: usize,
+    levels: usize,
+    filter: usize,
+)
+    requires { ⌜ Rows (length (now plane)) across width height × Rows (length (now work)) width width height × (0 < levels) ⌝ }
+    ensures { λ _. ⌜ at (now (plane .exit)) ≡
+        flat across (planeWritten (filterOf filter) levels (side x width) (side y height)
+        (cornerGrid (side x width) (side y height) (cells across (at (now (plane .entry)))))
+        (cells across (at (now (plane .entry))))) ⌝ }
+    ensures { λ _. ⌜ KeptFrom ((height - 1) * width + width) (at (now (work .entry))) (at (now (work .exit))) ⌝ }
+{
+    passes::lift_by(plane, across, x, width, y, height, filter);
+    let w = sizes::low_count(x, width);
+    let h = sizes::low_count(y, height);
+    if !goes_on(levels, w, h) {
+        return;
+    }
+    let u = sizes::next_start(x);
+    let v = sizes::next_start(y);
+    save(plane, work, across, w, h);
+    spread(work, plane, across, u, w, v, h);
+    forward_levels(plane, work, across, u, w, v, h, levels - 1, filter);
+}
+
+// The least number of a level's range.
+fn lowest(level: usize, filter: usize) -> i32
+    requires { ⌜ level ≤ filterOf filter .levels ⌝ }
+    ensures { λ r. ⌜ r ≡ negℤ (pos (range (filterOf filter) level)) ⌝ }
+{
+    0 - figures::range_of(filter, level)
+}
+
+// Whether the numbers of some rows lie from `low` to `high`: rows `first` up to `last`, columns `from` up to `to`.
+fn rows_between(
+    area: &[i32],
+    stride: usize,
+    first: usize,
+    last: usize,
+    from: usize,
+    to: usize,
+    low: i32,
+    high: i32,
+) -> bool
+    requires { ⌜ Rows (length (now area)) stride to last × (first ≤ last) × (from ≤ to) ⌝ }
+    ensures { λ r. ⌜ r ≡ rowsBetween first last from to low high (cells stride (at (now (area .entry)))) ⌝ }
+{
+    let mut r = first;
+    while r < last {
+        let a = r * stride + from;
+        let e = r * stride + to;
+        if !areas::ranges::all_between(&area[a..e], low, high) {
+            return false;
+        }
+        r += 1;
+    }
+    true
+}
+
+// Whether the numbers of some rows lie in a level's range.
+fn rows_in_range(
+    plane: &[i32],
+    across: usize,
+    first: usize,
+    last: usize,
+    from: usize,
+    to: usize,
+    level: usize,
+    filter: usize,
+) -> bool
+    requires { ⌜ Rows (length (now plane)) across to last × (first ≤ last) × (from ≤ to) × (level ≤ filterOf filter .levels) ⌝ }
+    ensures { λ r. ⌜ r ≡ rowsBetween first last from to (negℤ (pos (range (filterOf filter) level))) (pos (range (filterOf filter) level))
+        (cells across (at (now (plane .entry)))) ⌝ }
+{
+    rows_between(
+        plane,
+        across,
+        first,
+        last,
+        from,
+        to,
+        lowest(level, filter),
+        figures::range_of(filter, level),
+    )
+}
+
+// The low-low part of a level, its rows `stride` apart, from halves into its own order; and whether its numbers lie in the range of `level`, its own.
+fn weave_low(
+    work: &mut [i32],
+    stride: usize,
+    x: usize,
+    width: usize,
+    height: usize,
+    level: usize,
+    filter: usize,
+) -> bool
+    requires { ⌜ Rows (length (now work)) stride width height × (width + width ≤ maxWidth + 1) × (level ≤ filterOf filter .levels) ⌝ }
+    ensures { λ r. ⌜ r ≡ rowsBetween 0 height 0 width (negℤ (pos (range (filterOf filter) level))) (pos (range (filterOf filter) level))
+        (cells stride (at (now (work .entry)))) ⌝ }
+    ensures { λ _. ⌜ at (now (work .exit)) ≡
+        flat stride (rowsMapped (wovenInPlace (side x width)) width height (cells stride (at (now (work .entry))))) ⌝ }
+{
+    passes::weave_rows(
+        work,
+        stride,
+        x,
+        width,
+        height,
+        lowest(level, filter),
+        figures::range_of(filter, level),
+    )
+}
+
+// Whether each number of the first column is even.
+fn column_even(plane: &[i32], across: usize, height: usize) -> bool
+    requires { ⌜ Rows (length (now plane)) across 1 height ⌝ }
+    ensures { λ r. ⌜ r ≡ every height (λ i. isEven (cells across (at (now (plane .entry))) i 0)) ⌝ }
+{
+    let mut r = 0;
+    while r < height {
+        if !sample::is_even(plane[r * across]) {
+            return false;
+        }
+        r += 1;
+    }
+    true
+}
+
+// Whether each row of a level is a line's: in a lone column at an odd coordinate each value is halved, so it has to be even. The low-low part is empty
+// then, and all of them stand in the plane.
+fn rows_even(plane: &[i32], across: usize, x: usize, width: usize, height: usize) -> bool
+    requires { ⌜ Rows (length (now plane)) across width height ⌝ }
+    ensures { λ r. ⌜ r ≡ rowsEven (side x width) height (cells across (at (now (plane .entry)))) ⌝ }
+{
+    if width != 1 {
+        return true;
+    }
+    if x % 2 == 0 {
+        return true;
+    }
+    column_even(plane, across, height)
+}
+
+// The columns of a level of one row lifted back: at an odd coordinate they are halved, and the answer is whether each was even.
+fn unlift_lone(work: &mut [i32], width: usize, y: usize) -> bool
+    requires { ⌜ width ≤ length (now work) ⌝ }
+    ensures { λ r. ⌜ r ≡ pick (loneHigh (side y 1)) (every width (λ c. isEven (at (now (work .entry)) c))) true ⌝ }
+    ensures { λ _. ⌜ at (now (work .exit)) ≡ pick (loneHigh (side y 1)) (halvedInPlace width (at (now (work .entry)))) (at (now (work .entry))) ⌝ }
+{
+    if y % 2 == 0 {
+        return true;
+    }
+    rowwise::halve_row(&mut work[0..width])
+}
+
+// The first rows of a level of more than one: a low one is lifted back along the columns by the high one after it.
+fn first_rows(
+    plane: &[i32],
+    work: &mut [i32],
+    across: usize,
+    stride: usize,
+    from: usize,
+    x: usize,
+    width: usize,
+    y: usize,
+    height: usize,
+)
+    requires { ⌜ LevelRoom (length (now plane)) (length (now work)) across stride from (side x width) (side y height)
+        × (1 < height) × (rowsEven (side x width) height (cells across (at (now plane))) ≡ true) ⌝ }
+    ensures { λ _. ⌜ at (now (work .exit)) ≡
+        firstBack (length (now (work .entry))) from (side x width) (side y height) stride (cells across (at (now (plane .entry)))) (at (now (work .entry))) ⌝ }
+{
+    fetch_row(plane, work, across, stride, from, x, width, y, height, 0);
+    if y % 2 == 1 {
+        return;
+    }
+    fetch_row(plane, work, across, stride, from, x, width, y, height, 1);
+    rows::unupdate_row(work, stride, width, 0, 1, 1);
+}
+
+// A level of more than one row back from its bands. Row by row, so that a row is still near when it is used again: a pair of rows is
+// fetched, and then the columns of the rows before it are lifted back. r is the high row whose turn it is.
+fn rows_back(
+    plane: &[i32],
+    work: &mut [i32],
+    across: usize,
+    stride: usize,
+    from: usize,
+    x: usize,
+    width: usize,
+    y: usize,
+    height: usize,
+)
+    requires { ⌜ LevelRoom (length (now plane)) (length (now work)) across stride from (side x width) (side y height)
+        × (1 < height) × (rowsEven (side x width) height (cells across (at (now plane))) ≡ true) ⌝ }
+    ensures { λ _. ⌜ at (now (work .exit)) ≡
+        flat stride (levelUnlifted (side x width) (side y height) (cells stride (flat stride (rowsFetched from width (side y height)
+        (cells across (at (now (plane .entry)))) (cells stride (at (now (work .entry)))))))) ⌝ }
+{
+    first_rows(plane, work, across, stride, from, x, width, y, height);
+    let mut r = 1 - y % 2;
+    while r + 2 < height {
+        fetch_row(
+            plane,
+            work,
+            across,
+            stride,
+            from,
+            x,
+            width,
+            y,
+            height,
+            r + 1,
+        );
+        fetch_row(
+            plane,
+            work,
+            across,
+            stride,
+            from,
+            x,
+            width,
+            y,
+            height,
+            r + 2,
+        );
+        passes::unlift_pair(work, stride, width, height, r);
+        r += 2;
+    }
+    fetch_last(
+        plane,
+        work,
+        across,
+        stride,
+        from,
+        x,
+        width,
+        y,
+        height,
+        r + 1,
+    );
+    passes::unlift_pair(work, stride, width, height, r);
+}
+
+// A level back from its bands: the plane's rows fetched, all rows lifted back, and all columns. False where a value that is halved is odd.
+fn level_back(
+    plane: &[i32],
+    work: &mut [i32],
+    across: usize,
+    stride: usize,
+    from: usize,
+    x: usize,
+    width: usize,
+    y: usize,
+    height: usize,
+) -> bool
+    requires { ⌜ LevelRoom (length (now plane)) (length (now work)) across stride from (side x width) (side y height) ⌝ }
+    ensures { λ ok. ⌜ LevelMade ok from stride (side x width) (side y height) (cells across (at (now (plane .entry))))
+        (at (now (work .entry))) (at (now (work .exit))) ⌝ }
+{
+    if !rows_even(plane, across, x, width, height) {
+        return false;
+    }
+    if height < 2 {
+        fetch_row(plane, work, across, stride, from, x, width, y, height, 0);
+        return unlift_lone(work, width, y);
+    }
+    rows_back(plane, work, across, stride, from, x, width, y, height);
+    true
+}
+
+// ---- a level back by the 9/7: the plane's rows fetched, all rows lifted back, then all columns
+
+fn copy_row(
+    plane: &[i32],
+    work: &mut [i32],
+    across: usize,
+    stride: usize,
+    from: usize,
+    width: usize,
+    y: usize,
+    height: usize,
+    r: usize,
+)
+    requires { ⌜ Rows (length (now plane)) across width height × Rows (length (now work)) stride width height × (from ≤ width) × (r < height) ⌝ }
+    ensures { λ _. ⌜ at (now (work .exit)) ≡
+        rowCopied from width (side y height) across stride (at (now (plane .entry))) r (at (now (work .entry))) ⌝ }
+{
+    let made = made_of(y, r, from);
+    let a = plane_row(y, height, r) * across;
+    let b = r * stride;
+    copy_part(plane, a + made, work, b + made, width - made);
+}
+
+fn copy_rows(
+    plane: &[i32],
+    work: &mut [i32],
+    across: usize,
+    stride: usize,
+    from: usize,
+    width: usize,
+    y: usize,
+    height: usize,
+)
+    requires { ⌜ Rows (length (now plane)) across width height × Rows (length (now work)) stride width height × (from ≤ width) ⌝ }
+    ensures { λ _. ⌜ at (now (work .exit)) ≡
+        flat stride (rowsFetched from width (side y height) (cells across (at (now (plane .entry)))) (cells stride (at (now (work .entry))))) ⌝ }
+{
+    let mut r = 0;
+    while r < height {
+        copy_row(plane, work, across, stride, from, width, y, height, r);
+        r += 1;
+    }
+}
+
+fn unlift_rows(work: &mut [i32], stride: usize, x: usize, width: usize, height: usize)
+    requires { ⌜ Rows (length (now work)) stride width height × (rowsEven (side x width) height (cells stride (at (now work))) ≡ true) ⌝ }
+    ensures { λ _. ⌜ at (now (work .exit)) ≡
+        flat stride (rowsMapped (nineSevenBack (side x width)) width height (cells stride (at (now (work .entry))))) ⌝ }
+{
+    let mut r = 0;
+    while r < height {
+        let a = r * stride;
+        let e = a + width;
+        nine_seven_lines::line::unlift(&mut work[a..e], x);
+        r += 1;
+    }
+}
+
+fn nine_seven_back(
+    plane: &[i32],
+    work: &mut [i32],
+    across: usize,
+    stride: usize,
+    from: usize,
+    x: usize,
+    width: usize,
+    y: usize,
+    height: usize,
+) -> bool
+    requires { ⌜ LevelRoom (length (now plane)) (length (now work)) across stride from (side x width) (side y height) ⌝ }
+    ensures { λ ok. ⌜ LevelMadeBy nineSevenFilter ok from stride (side x width) (side y height) (cells across (at (now (plane .entry))))
+        (at (now (work .entry))) (at (now (work .exit))) ⌝ }
+{
+    if !rows_even(plane, across, x, width, height) {
+        return false;
+    }
+    copy_rows(plane, work, across, stride, from, width, y, height);
+    unlift_rows(work, stride, x, width, height);
+    columns::unlift_columns(work, stride, width, y, height) == 0
+}
+
+// A level back by the filter of a number.
+fn back_by(
+    plane: &[i32],
+    work: &mut [i32],
+    across: usize,
+    stride: usize,
+    from: usize,
+    x: usize,
+    width: usize,
+    y: usize,
+    height: usize,
+    filter: usize,
+) -> bool
+    requires { ⌜ LevelRoom (length (now plane)) (length (now work)) across stride from (side x width) (side y height) ⌝ }
+    ensures { λ ok. ⌜ LevelMadeBy (filterOf filter) ok from stride (side x width) (side y height) (cells across (at (now (plane .entry))))
+        (at (now (work .entry))) (at (now (work .exit))) ⌝ }
+{
+    if filter == 0 {
+        return level_back(plane, work, across, stride, from, x, width, y, height);
+    }
+    nine_seven_back(plane, work, across, stride, from, x, width, y, height)
+}
+
+// All levels back: first the low-low part with the levels left, whose numbers are tested while they are laid in their own order, then this
+// level. False where one does not fit, or is odd and halved. The numbers of this level itself are for the caller to test.
+pub fn back_levels(
+    plane: &[i32],
+    work: &mut [i32],
+    across: usize,
+    stride: usize,
+    x: usize,
+    width: usize,
+    y: usize,
+    height: usize,
+    levels: usize,
+    level: usize,
+    filter: usize,
+) -> bool
+    requires { ⌜ Rows (length (now plane)) across width height × Rows (length (now work)) stride width height × Doubling levels stride width
+        × (level + levels ≤ filterOf filter .levels) ⌝ }
+    ensures { λ ok. ⌜ LevelsBack (filterOf filter) ok level levels stride across (side x width) (side y height) (at (now (plane .entry)))
+        (at (now (work .entry))) (at (now (work .exit))) ⌝ }
+{
+    let w = sizes::low_count(x, width);
+    let h = sizes::low_count(y, height);
+    if !goes_on(levels, w, h) {
+        return back_by(plane, work, across, stride, 0, x, width, y, height, filter);
+    }
+    let u = sizes::next_start(x);
+    let v = sizes::next_start(y);
+    let a = y % 2 * stride;
+    let n = work.len();
+    if !back_levels(
+        plane,
+        &mut work[a..n],
+        across,
+        2 * stride,
+        u,
+        w,
+        v,
+        h,
+        levels - 1,
+        level + 1,
+        filter,
+    ) {
+        return false;
+    }
+    if !weave_low(&mut work[a..n], 2 * stride, u, w, h, level + 1, filter) {
+        return false;
+    }
+    back_by(plane, work, across, stride, w, x, width, y, height, filter)
+}
+
+// Whether each coefficient of the plane lies in its level's range, `level` being that of this region's own bands.
+fn in_range(
+    plane: &[i32],
+    across: usize,
+    x: usize,
+    width: usize,
+    y: usize,
+    height: usize,
+    levels: usize,
+    level: usize,
+    filter: usize,
+) -> bool
+    requires { ⌜ Rows (length (now plane)) across width height × (0 < levels) × (0 < level)
+        × (level + levels ≤ filterOf filter .levels + 1) ⌝ }
+    ensures { λ r. ⌜ r ≡ regionInRange (filterOf filter) level levels (side x width) (side y height) (cells across (at (now (plane .entry)))) ⌝ }
+{
+    let w = sizes::low_count(x, width);
+    let h = sizes::low_count(y, height);
+    if !goes_on(levels, w, h) {
+        return rows_in_range(plane, across, 0, height, 0, width, level, filter);
+    }
+    let u = sizes::next_start(x);
+    let v = sizes::next_start(y);
+    if !in_range(plane, across, u, w, v, h, levels - 1, level + 1, filter) {
+        return false;
+    }
+    if !rows_in_range(plane, across, 0, h, w, width, level, filter) {
+        return false;
+    }
+    rows_in_range(plane, across, h, height, 0, width, level, filter)
+}
+
+// Question 7 of a map's whole plane. The least range of all, that of level 1, is asked first, of all coefficients one after the other: a plane
+// that keeps it keeps every level's range, and planes of maps do. Only where one does not are the levels asked, each by its own range.
+pub fn plane_in_range(
+    plane: &[i32],
+    x: usize,
+    width: usize,
+    y: usize,
+    height: usize,
+    levels: usize,
+    filter: usize,
+) -> bool
+    requires { ⌜ Sized width height levels × (width * height ≤ length (now plane)) × (levels ≤ filterOf filter .levels) ⌝ }
+    ensures { λ r. ⌜ r ≡ regionInRange (filterOf filter) 1 levels (side x width) (side y height) (cells width (at (now (plane .entry)))) ⌝ }
+{
+    let n = width * height;
+    if rows_in_range(plane, n, 0, 1, 0, n, 1, filter) {
+        return true;
+    }
+    in_range(plane, width, x, width, y, height, levels, 1, filter)
+}

@@ -1,0 +1,180 @@
+// All levels of a whole map, from its heights to its plane and back, over areas that the caller lends.
+mod heights;
+mod levels;
+mod passes;
+mod rowwise;
+
+ghost use mathlib.Core.Path.{_≡_};
+ghost use Prim.Native.Nat.{_*_, _≤_};
+ghost use lib.ListN.{length};
+ghost use Rattle.numbers.specs.Signal.{at};
+ghost use Rattle.numbers.specs.Word.{whole, wrap32};
+ghost use Rattle.lifting.specs.Halves.{fronted};
+ghost use Rattle.lifting.specs.Grid.{side};
+ghost use Rattle.wavelet.specs.Plane.{cells, flat, planeOf, mapBack};
+ghost use Rattle.wavelet.specs.Questions.{Sized};
+ghost use Rattle.nine_seven.specs.Filters.{filterOf};
+ghost use Rattle.map_questions.specs.Calls.{sizeQuestions, planeQuestions, zeros, passed, rebuilt};
+ghost use Rattle.map_levels.specs.Rowwise.{heightsAt};
+ghost use Rattle.map_levels.specs.LevelPasses.{MapRebuilt};
+
+// The map's plane, all questions passed.
+fn transform(
+    heights: &[u16],
+    x: usize,
+    width: usize,
+    y: usize,
+    height: usize,
+    levels: usize,
+    plane: &mut [i32],
+    work: &mut [i32],
+    filter: usize,
+)
+    requires { ⌜ Sized width height levels × (width * height ≤ length (now heights)) × (width * height ≤ length (now plane))
+        × (width * height ≤ length (now work)) × (levels ≤ filterOf filter .levels) ⌝ }
+    ensures { λ _. ⌜ at (now (plane .exit)) ≡
+        fronted (width * height) (planeOf (filterOf filter) whole levels (side x width) (side y height) (cells width (heightsAt (now (heights .entry)))))
+        (at (now (plane .entry))) ⌝ }
+    ensures { λ _. ⌜ at (now (work .exit)) ≡ fronted (width * height) zeros (at (now (work .entry))) ⌝ }
+{
+    heights::load_rows(heights, plane, x, width, y, height);
+    levels::forward_levels(plane, work, width, x, width, y, height, levels, filter);
+    areas::copies::clear(work, width * height);
+}
+
+// The plane of a map of heights. It answers 0, or the number of the question that turned it away.
+pub fn lift_map(
+    heights: &[u16],
+    x: usize,
+    width: usize,
+    y: usize,
+    height: usize,
+    levels: usize,
+    plane: &mut [i32],
+    work: &mut [i32],
+    filter: usize,
+) -> u8
+    ensures { λ r. ⌜ r ≡
+        sizeQuestions filter width height levels (length (now (heights .entry))) (length (now (plane .entry))) (length (now (work .entry))) 0 ⌝ }
+    ensures { λ r. ⌜ at (now (plane .exit)) ≡
+        passed r (width * height)
+        (planeOf (filterOf filter) whole levels (side x width) (side y height) (cells width (heightsAt (now (heights .entry)))))
+        (at (now (plane .entry))) ⌝ }
+    ensures { λ r. ⌜ at (now (work .exit)) ≡ passed r (width * height) zeros (at (now (work .entry))) ⌝ }
+{
+    let q = map_questions::size_question(
+        filter,
+        width,
+        height,
+        levels,
+        heights.len(),
+        plane.len(),
+        work.len(),
+    );
+    if q != 0 {
+        return q;
+    }
+    transform(heights, x, width, y, height, levels, plane, work, filter);
+    0
+}
+
+// The map of a plane, where its rebuilt values fit, and work zero; else false, and what stands in both areas is for the caller to clear.
+fn rebuild(
+    plane: &[i32],
+    x: usize,
+    width: usize,
+    y: usize,
+    height: usize,
+    levels: usize,
+    heights: &mut [u16],
+    work: &mut [i32],
+    filter: usize,
+) -> bool
+    requires { ⌜ Sized width height levels × (width * height ≤ length (now plane)) × (width * height ≤ length (now heights))
+        × (width * height ≤ length (now work)) × (levels ≤ filterOf filter .levels) ⌝ }
+    ensures { λ ok. ⌜ MapRebuilt (filterOf filter) ok (side x width) (side y height) levels (at (now (plane .entry))) (heightsAt (now (heights .entry)))
+        (heightsAt (now (heights .exit))) (at (now (work .entry))) (at (now (work .exit))) ⌝ }
+{
+    if !levels::back_levels(
+        plane,
+        work,
+        width,
+        width,
+        x,
+        width,
+        y,
+        height,
+        levels,
+        0,
+        filter,
+    ) {
+        return false;
+    }
+    heights::finish_rows(work, heights, x, width, height)
+}
+
+// The map of a plane in range, where its rebuilt values fit; else 14, and heights and work are zero.
+fn restore(
+    plane: &[i32],
+    x: usize,
+    width: usize,
+    y: usize,
+    height: usize,
+    levels: usize,
+    heights: &mut [u16],
+    work: &mut [i32],
+    filter: usize,
+) -> u8
+    requires { ⌜ Sized width height levels × (width * height ≤ length (now plane)) × (width * height ≤ length (now heights))
+        × (width * height ≤ length (now work)) × (levels ≤ filterOf filter .levels) ⌝ }
+    ensures { λ r. ⌜ r ≡ planeQuestions (filterOf filter) (side x width) (side y height) levels (cells width (at (now (plane .entry)))) ⌝ }
+    ensures { λ r. ⌜ heightsAt (now (heights .exit)) ≡
+        rebuilt r (width * height) (flat width (mapBack (filterOf filter) wrap32 levels (side x width) (side y height) (cells width (at (now (plane .entry))))))
+        (heightsAt (now (heights .entry))) ⌝ }
+    ensures { λ r. ⌜ at (now (work .exit)) ≡ rebuilt r (width * height) zeros (at (now (work .entry))) ⌝ }
+{
+    if !levels::plane_in_range(plane, x, width, y, height, levels, filter) {
+        return 7;
+    }
+    if !rebuild(plane, x, width, y, height, levels, heights, work, filter) {
+        areas::height_rows::clear_heights(heights, width * height);
+        areas::copies::clear(work, width * height);
+        return 14;
+    }
+    0
+}
+
+// The map that has a plane. It answers 0, or the number of the question that turned it away: 7 or 14 where no map has it.
+pub fn unlift_map(
+    plane: &[i32],
+    x: usize,
+    width: usize,
+    y: usize,
+    height: usize,
+    levels: usize,
+    heights: &mut [u16],
+    work: &mut [i32],
+    filter: usize,
+) -> u8
+    ensures { λ r. ⌜ r ≡
+        sizeQuestions filter width height levels (length (now (plane .entry))) (length (now (heights .entry))) (length (now (work .entry)))
+        (planeQuestions (filterOf filter) (side x width) (side y height) levels (cells width (at (now (plane .entry))))) ⌝ }
+    ensures { λ r. ⌜ heightsAt (now (heights .exit)) ≡
+        rebuilt r (width * height) (flat width (mapBack (filterOf filter) wrap32 levels (side x width) (side y height) (cells width (at (now (plane .entry))))))
+        (heightsAt (now (heights .entry))) ⌝ }
+    ensures { λ r. ⌜ at (now (work .exit)) ≡ rebuilt r (width * height) zeros (at (now (work .entry))) ⌝ }
+{
+    let q = map_questions::size_question(
+        filter,
+        width,
+        height,
+        levels,
+        plane.len(),
+        heights.len(),
+        work.len(),
+    );
+    if q != 0 {
+        return q;
+    }
+    restore(plane, x, width, y, height, levels, heights, work, filter)
+}

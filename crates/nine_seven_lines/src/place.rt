@@ -1,0 +1,41 @@
+// The lifting steps on one place of an area, changed by others.
+// The module is private: only the loops of this crate, which meet what is required, can call it.
+use nine_seven::sample;
+ghost use mathlib.Core.Path.{_≡_};
+ghost use Prim.Native.Nat.{_<_};
+ghost use lib.ListN.{length, set};
+ghost use Rattle.numbers.specs.Signal.{at};
+ghost use Rattle.numbers.specs.Word.{wrap32};
+ghost use Rattle.nine_seven.specs.NineSeven.{predicted, unpredicted, updated, unupdated};
+
+pub fn predict_at(area: &mut [i32], p: usize, a: usize, b: usize, c: usize, e: usize)
+    requires { ⌜ (p < length (now area)) × (a < length (now area)) × (b < length (now area)) × (c < length (now area)) × (e < length (now area)) ⌝ }
+    ensures { λ _. ⌜ now (area .exit) ≡ set (now (area .entry)) p (predicted wrap32 (at (now (area .entry)) p) (at (now (area .entry)) a)
+        (at (now (area .entry)) b) (at (now (area .entry)) c) (at (now (area .entry)) e)) ⌝ }
+{
+    area[p] = sample::predict(area[p], area[a], area[b], area[c], area[e]);
+}
+
+pub fn unpredict_at(area: &mut [i32], p: usize, a: usize, b: usize, c: usize, e: usize)
+    requires { ⌜ (p < length (now area)) × (a < length (now area)) × (b < length (now area)) × (c < length (now area)) × (e < length (now area)) ⌝ }
+    ensures { λ _. ⌜ now (area .exit) ≡ set (now (area .entry)) p (unpredicted wrap32 (at (now (area .entry)) p) (at (now (area .entry)) a)
+        (at (now (area .entry)) b) (at (now (area .entry)) c) (at (now (area .entry)) e)) ⌝ }
+{
+    area[p] = sample::unpredict(area[p], area[a], area[b], area[c], area[e]);
+}
+
+pub fn update_at(area: &mut [i32], p: usize, a: usize, b: usize)
+    requires { ⌜ (p < length (now area)) × (a < length (now area)) × (b < length (now area)) ⌝ }
+    ensures { λ _. ⌜ now (area .exit) ≡ set (now (area .entry)) p (updated wrap32 (at (now (area .entry)) p) (at (now (area .entry)) a)
+        (at (now (area .entry)) b)) ⌝ }
+{
+    area[p] = sample::update(area[p], area[a], area[b]);
+}
+
+pub fn unupdate_at(area: &mut [i32], p: usize, a: usize, b: usize)
+    requires { ⌜ (p < length (now area)) × (a < length (now area)) × (b < length (now area)) ⌝ }
+    ensures { λ _. ⌜ now (area .exit) ≡ set (now (area .entry)) p (unupdated wrap32 (at (now (area .entry)) p) (at (now (area .entry)) a)
+        (at (now (area .entry)) b)) ⌝ }
+{
+    area[p] = sample::unupdate(area[p], area[a], area[b]);
+}

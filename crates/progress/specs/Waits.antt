@@ -1,0 +1,10 @@
+-- What waits to be handed out: nothing, and what waits of levels whose stretches begin at place a, seen from k levels above them.
+use Prim.Native.Nat.{ℕ}
+use Rattle.progress.specs.declared.waits.Wait.{Wait}
+use Rattle.progress.specs.Counts.{deeperBy, further}
+
+abbrev pub noWait : Wait
+noWait = record { level = 0; left = 0; offset = 0 }
+
+abbrev pub seenFrom : ℕ → ℕ → Wait → Wait
+seenFrom k a r = record { level = deeperBy k (r .level); left = r .left; offset = further (r .level) a (r .offset) }

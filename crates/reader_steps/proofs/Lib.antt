@@ -1,0 +1,5 @@
+pub mod OpenedSets
+pub mod Looks
+pub mod CellLaws
+pub mod ReadyLaws
+pub mod StepsLeft

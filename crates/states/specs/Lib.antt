@@ -1,0 +1,5 @@
+pub mod States
+pub mod WriterState
+pub mod WriterAnswers
+pub mod ReaderState
+pub mod ReaderAnswers

@@ -1,5 +1,0 @@
-pub mod Rowwise
-pub mod Passes
-pub mod ByFilter
-pub mod LevelPasses
-pub mod Calls
