@@ -143,7 +143,7 @@ module _ (s : Reader) where
   counts-streams c = rw (
     c .known,
     within-yes 1 maxWidth (s .width) (c .wide .0) (c .wide .1),
-    within-yes 1 (filterOf (s .filter) .levels) (s .levels) (c .deep .0) (c .deep .1)
+    within-yes 1 (filterOf (s .filter) .levels) (s .levels) (c .deep .0) (c .deep .1),
   ) refl
 
   pub counts-small : Counts s → Small (columns s) (rows s) (s .drawn)
