@@ -173,6 +173,16 @@ made-shut a c s m one h = omega (arith, made-is a c s m)
 pub made-most : (a c s m : ℕ) → made a c s m ≤ (s % 2 + m + 1) / 2
 made-most a c s m = omega (arith, made-is a c s m)
 
+-- as the code counts them: no sum is more than there are
+pub made-all : (a c s m n : ℕ) → 1 ≤ a → n ≡ m / 2 + (s % 2 + m % 2 + 1) / 2 → a ≤ c → n ≡ made a c s m
+made-all a c s m n one e h = omega (arith, made-shut a c s m one h)
+
+pub made-few : (a c s m n k : ℕ) → n ≡ m / 2 + (s % 2 + m % 2 + 1) / 2 → k ≡ (s % 2 + (m - 1)) / 2 + 1 - a + c → n < k → n ≡ made a c s m
+made-few a c s m n k e d h = omega (arith, made-is a c s m)
+
+pub made-some : (a c s m n k : ℕ) → n ≡ m / 2 + (s % 2 + m % 2 + 1) / 2 → k ≡ (s % 2 + (m - 1)) / 2 + 1 - a + c → k ≤ n → k ≡ made a c s m
+made-some a c s m n k e d h = omega (arith, made-is a c s m)
+
 pub made-le : (a c s m : ℕ) → made a c s m ≤ m + 1
 made-le a c s m = omega (arith, made-most a c s m)
 

@@ -30,14 +30,11 @@ pub fn made(filter: usize, c: usize, y: usize, m: usize) -> usize
     if a <= c {
         return all;
     }
-    let n = (y % 2 + minus(m, 1)) / 2 + 1;
-    if n < a {
-        if all < c {
-            return all;
-        }
-        return c;
+    let n = minus((y % 2 + minus(m, 1)) / 2 + 1, a) + c;
+    if all < n {
+        return all;
     }
-    n - a + c
+    n
 }
 
 // Whether set n is one of them or the first that is not made: a set of the m rows.
