@@ -145,12 +145,12 @@ module _ (f : ℕ) where
   abbrev Figures : ℕ → ℕ → ℕ → Type 0
   Figures l r a = (l ≡ filterOf f .levels) × (r ≡ filterOf f .rows) × (a ≡ filterOf f .ahead)
 
-  pub first-figures : f ≡ 0 → Figures 5 4 1
-  unfolding filterOf
+  pub first-figures : f ≡ 0 → Figures maxLevels 4 1
+  unfolding filterOf maxLevels
   first-figures e = rw e (refl, refl, refl)
 
-pub second-figures : (f : ℕ) → (f ≡ 0 → ⊥) → Figures f 4 8 2
-unfolding filterOf
+pub second-figures : (f : ℕ) → (f ≡ 0 → ⊥) → Figures f nine.maxLevels 8 2
+unfolding filterOf nine.maxLevels
 second-figures zero d = absurd (d refl)
 second-figures (suc f) d = (refl, refl, refl)
 

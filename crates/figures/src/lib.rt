@@ -26,7 +26,11 @@ pub fn is_filter(filter: usize) -> bool
 pub fn most_levels(filter: usize) -> usize
     ensures { λ r. ⌜ r ≡ filterOf filter .levels ⌝ }
 {
-    if filter == 0 { 5 } else { 4 }
+    if filter == 0 {
+        limits::MAX_LEVELS
+    } else {
+        range::MAX_LEVELS
+    }
 }
 
 // the rows of its columns that a level of a stream keeps,

@@ -1,4 +1,5 @@
 // The range of a level of the 9/7.
+use wavelet::limits;
 ghost use mathlib.Core.Path.{_≡_};
 ghost use Prim.Native.Nat.{min};
 ghost use lib.IntN.{pos};
@@ -31,7 +32,7 @@ pub fn range_of(level: usize) -> i32
     ensures { λ r. ⌜ r ≡ pos (range nineSevenFilter (min level maxLevels)) ⌝ }
 {
     let last = deepest(level);
-    let mut most = 65535;
+    let mut most = limits::MAX_SAMPLE;
     let mut k = 0;
     while k < last {
         most = 6 * most;

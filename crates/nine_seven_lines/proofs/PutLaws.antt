@@ -14,15 +14,12 @@ use Rattle.lifting.specs.Line.{Half, lo, hi}
 use Rattle.lifting.specs.Grid.{Side, count, joined}
 use Rattle.lifting.specs.GridHalves.{halvesOf}
 use Rattle.lifting.specs.Passes.{near}
-use Rattle.lifting.proofs.GridLaws.{counts, some, beside-lows, half-even, half-odd, front-in, front-past}
-use Rattle.lifting.proofs.Neighbours.{left}
+use Rattle.lifting.proofs.GridLaws.{counts, beside-lows, half-even, half-odd, front-in, front-past}
 use Rattle.nine_seven.specs.NineSeven.{unpredicted, unupdated, lineBack}
 use Rattle.nine_seven.specs.Memory.{backwardInto}
 use Rattle.nine_seven.specs.Passes.{farLeft, farRight, made, linePut}
 use Rattle.nine_seven.proofs.MirrorLaws.{far-more, far-less}
 use Rattle.nine_seven.proofs.NineSevenLaws.{even-near, odd-near}
-use Rattle.nine_seven_lines.specs.Near.{Beside, Around}
-use Rattle.nine_seven_lines.proofs.NearLaws.{four-there}
 
 -- ---- a piece of the line in memory
 module _ (S : Side) (a b : ℕ) (y z : ℕ → ℤ) where
@@ -88,35 +85,6 @@ module _ (S : Side) (y : ℕ → ℤ) (g : 1 < S .length) (low n : ℕ) (el : lo
       → c ≡ made S y lo k → e ≡ made S y lo m → unpredicted wrap32 (y (low + n)) a b c e ≡ made S y hi n
   unfolding halvesOf made
   odd-value a b c e i j k m h p q r s pa pb pc pe = sym (cc (rest, el, p, q, r, s, pa, pb, pc, pe, odd-near S g wrap32 (halvesOf S y) n h))
-
--- the numbers that a number goes by are there, and what is made of them
-pub lows-in : (S : Side) (low : ℕ) → low ≡ count lo S → low ≤ S .length
-lows-in S low e = let both = counts S in omega arith
-
-pub odd-few : (s : ℕ) → 1 - s % 2 ≤ 1
-odd-few s = omega arith
-
-module _ (S : Side) (low n l r : ℕ) (el : low ≡ count lo S) (g : 1 < S .length) (h : n < low) (by : Beside (S .length - low) (S .start % 2) n l r) where
-  pub evens-in : (low + l < S .length) × (low + r < S .length) × (low < S .length)
-  evens-in = let s = some S g in (omega arith, omega arith, omega arith)
-
-pub even-made : (S : Side) (y : ℕ → ℤ) (low n l r : ℕ) → low ≡ count lo S → 1 < S .length → n < low → Beside (S .length - low) (S .start % 2) n l r
-    → unupdated wrap32 (y n) (y (low + l)) (y (low + r)) ≡ made S y lo n
-even-made S y low n l r el g h by = even-value S y g low n el (low + l) (low + r) h (ap (_+_ low) (by .left)) (ap (_+_ low) (by .right))
-
-module _ (S : Side) (low n l r b a : ℕ) (el : low ≡ count lo S) (g : 1 < S .length) (h : low + n < S .length)
-    (by : Around low (S .length - low) (1 - S .start % 2) n l r b a) where
-  pub odds-in : (l < low) × (r < low) × (b < low) × (a < low)
-  odds-in =
-      let s = some S g in
-      let d = beside-lows S in
-      four-there low (S .length - low) (1 - S .start % 2) n l r b a by (omega arith) (omega arith) (omega arith)
-
-  pub odd-made : (y : ℕ → ℤ) (c₁ c₂ c₃ c₄ : ℤ) → c₁ ≡ made S y lo l → c₂ ≡ made S y lo r → c₃ ≡ made S y lo b → c₄ ≡ made S y lo a
-      → unpredicted wrap32 (y (low + n)) c₁ c₂ c₃ c₄ ≡ made S y hi n
-  odd-made y c₁ c₂ c₃ c₄ e₁ e₂ e₃ e₄ =
-      let both = counts S in
-      odd-value S y g low n el c₁ c₂ c₃ c₄ l r b a (omega arith) (by .left) (by .right) (by .before) (by .after) e₁ e₂ e₃ e₄
 
 -- the place of a number
 module _ (S : Side) (y : ℕ → ℤ) (q : ℕ) where

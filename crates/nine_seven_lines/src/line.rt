@@ -25,8 +25,11 @@ fn predict_end(line: &mut [i32], low: usize, o: usize, n: usize)
     ensures { λ _. ⌜ now (line .exit) ≡ set (now (line .entry)) (low + n)
         (highBy (predicted wrap32) o low (length (now (line .entry))) (at (now (line .entry))) n) ⌝ }
 {
-    let by = near::around(low, line.len() - low, o, n);
-    place::predict_at(line, low + n, by.left, by.right, by.before, by.after);
+    let a = place::left(low, o, n);
+    let b = near::nearest(low, n + o);
+    let c = place::far_left(low, o, n);
+    let e = place::far_right(low, line.len() - low, o, n);
+    place::predict_at(line, low + n, a, b, c, e);
 }
 
 fn predict_ends(line: &mut [i32], low: usize, o: usize, from: usize, to: usize)
@@ -71,8 +74,11 @@ fn unpredict_end(line: &mut [i32], low: usize, o: usize, n: usize)
     ensures { λ _. ⌜ now (line .exit) ≡ set (now (line .entry)) (low + n)
         (highBy (unpredicted wrap32) o low (length (now (line .entry))) (at (now (line .entry))) n) ⌝ }
 {
-    let by = near::around(low, line.len() - low, o, n);
-    place::unpredict_at(line, low + n, by.left, by.right, by.before, by.after);
+    let a = place::left(low, o, n);
+    let b = near::nearest(low, n + o);
+    let c = place::far_left(low, o, n);
+    let e = place::far_right(low, line.len() - low, o, n);
+    place::unpredict_at(line, low + n, a, b, c, e);
 }
 
 fn unpredict_ends(line: &mut [i32], low: usize, o: usize, from: usize, to: usize)

@@ -1,11 +1,11 @@
 // Which numbers of one half a number of the other goes by, those of each half counted from 0: in a line, or the rows of a column. Where there is none such it
 // is the nearest, but the farther ones of the first and of the last high number are mirrored.
+use crate::place;
 ghost use mathlib.Core.Path.{_≡_};
 ghost use Prim.Native.Nat.{_-_, _<_, _≤_};
 ghost use Rattle.lifting.specs.Line.{lo};
 ghost use Rattle.lifting.specs.Grid.{side, count};
 ghost use Rattle.lifting.specs.Passes.{near};
-ghost use Rattle.nine_seven.specs.Passes.{farLeft, farRight};
 ghost use Rattle.nine_seven_lines.specs.Near.{Beside, Around};
 
 // How many of n numbers are low, the first of them at coordinate `start`.
@@ -31,7 +31,8 @@ pub fn nearest(m: usize, k: usize) -> usize
     m - 1
 }
 
-fn one_before(k: usize) -> usize
+// One less, and 0 of 0.
+pub fn one_before(k: usize) -> usize
     ensures { λ r. ⌜ r ≡ k - 1 ⌝ }
 {
     if k == 0 {
@@ -64,28 +65,6 @@ pub fn beside(m: usize, o: usize, n: usize) -> Two
     }
 }
 
-// The low number before that to the left of high number n, mirrored at the first,
-fn far_left(low: usize, o: usize, n: usize) -> usize
-    requires { ⌜ o ≤ 1 ⌝ }
-    ensures { λ r. ⌜ r ≡ farLeft low o n ⌝ }
-{
-    if n == 0 {
-        return nearest(low, 1);
-    }
-    one_before(n - 1 + o)
-}
-
-// and the one after that to the right, mirrored at the last.
-fn far_right(low: usize, high: usize, o: usize, n: usize) -> usize
-    requires { ⌜ (o ≤ 1) × (n < high) ⌝ }
-    ensures { λ r. ⌜ r ≡ farRight low high o n ⌝ }
-{
-    if n + 1 < high {
-        return nearest(low, n + 1 + o);
-    }
-    one_before(one_before(low))
-}
-
 // The low numbers around high number n of `high`.
 pub struct Four {
     pub left: usize,
@@ -106,11 +85,11 @@ pub fn around(low: usize, high: usize, o: usize, n: usize) -> Four
         };
     }
     let two = beside(low, o, n);
-    let before = far_left(low, o % 2, n);
+    let before = place::far_left(low, o % 2, n);
     Four {
         left: two.left,
         right: two.right,
         before,
-        after: far_right(low, high, o % 2, n),
+        after: place::far_right(low, high, o % 2, n),
     }
 }

@@ -1,11 +1,14 @@
-// The lifting steps on one place of an area, changed by others.
+// The lifting steps on one place of an area, changed by others, and which low numbers a high one goes by.
 // The module is private: only the loops of this crate, which meet what is required, can call it.
+use crate::near;
 use nine_seven::sample;
 ghost use mathlib.Core.Path.{_≡_};
-ghost use Prim.Native.Nat.{_<_};
+ghost use Prim.Native.Nat.{_+_, _-_, _<_, _≤_};
 ghost use lib.ListN.{length, set};
 ghost use Rattle.numbers.specs.Signal.{at};
 ghost use Rattle.numbers.specs.Word.{wrap32};
+ghost use Rattle.lifting.specs.Passes.{near};
+ghost use Rattle.nine_seven.specs.Passes.{farLeft, farRight};
 ghost use Rattle.nine_seven.specs.NineSeven.{predicted, unpredicted, updated, unupdated};
 
 pub fn predict_at(area: &mut [i32], p: usize, a: usize, b: usize, c: usize, e: usize)
@@ -38,4 +41,37 @@ pub fn unupdate_at(area: &mut [i32], p: usize, a: usize, b: usize)
         (at (now (area .entry)) b)) ⌝ }
 {
     area[p] = sample::unupdate(area[p], area[a], area[b]);
+}
+
+// Of `low` low numbers the one before high number n. Each of these by itself, so that it goes into the loops over the ends of a line,
+pub fn left(low: usize, o: usize, n: usize) -> usize
+    requires { ⌜ o ≤ 1 ⌝ }
+    ensures { λ r. ⌜ r ≡ near low (n + o - 1) ⌝ }
+{
+    if n == 0 {
+        return 0;
+    }
+    near::nearest(low, n - 1 + o)
+}
+
+// the one before that, mirrored at the first,
+pub fn far_left(low: usize, o: usize, n: usize) -> usize
+    requires { ⌜ o ≤ 1 ⌝ }
+    ensures { λ r. ⌜ r ≡ farLeft low o n ⌝ }
+{
+    if n == 0 {
+        return near::nearest(low, 1);
+    }
+    near::one_before(n - 1 + o)
+}
+
+// and the second after it, mirrored at the last.
+pub fn far_right(low: usize, high: usize, o: usize, n: usize) -> usize
+    requires { ⌜ (o ≤ 1) × (n < high) ⌝ }
+    ensures { λ r. ⌜ r ≡ farRight low high o n ⌝ }
+{
+    if n + 1 < high {
+        return near::nearest(low, n + 1 + o);
+    }
+    near::one_before(near::one_before(low))
 }

@@ -1,6 +1,7 @@
 // Coefficients in halves to the line that has them, in another area.
 // The module is private: only the line calls, which meet what is required, can call it.
 use crate::near;
+use crate::place;
 use nine_seven::sample;
 ghost use mathlib.Core.Path.{_≡_};
 ghost use Prim.Native.Nat.{_+_, _-_, _*_, _%_, _<_, _≤_};
@@ -20,9 +21,10 @@ fn even_of(coefficients: &[i32], low: usize, start: usize, n: usize) -> i32
     requires { ⌜ (low ≡ count lo (side start (length (now coefficients)))) × (1 < length (now coefficients)) × (n < low) ⌝ }
     ensures { λ r. ⌜ r ≡ made (side start (length (now (coefficients .entry)))) (at (now (coefficients .entry))) lo n ⌝ }
 {
-    let by = near::beside(coefficients.len() - low, start % 2, n);
-    let l = low + by.left;
-    let r = low + by.right;
+    let b = start % 2;
+    let high = coefficients.len() - low;
+    let l = low + place::left(high, b, n);
+    let r = low + near::nearest(high, n + b);
     sample::unupdate(coefficients[n], coefficients[l], coefficients[r])
 }
 
@@ -31,11 +33,12 @@ fn odd_of(coefficients: &[i32], low: usize, start: usize, n: usize) -> i32
     requires { ⌜ (low ≡ count lo (side start (length (now coefficients)))) × (1 < length (now coefficients)) × (low + n < length (now coefficients)) ⌝ }
     ensures { λ r. ⌜ r ≡ made (side start (length (now (coefficients .entry)))) (at (now (coefficients .entry))) hi n ⌝ }
 {
-    let by = near::around(low, coefficients.len() - low, 1 - start % 2, n);
-    let a = even_of(coefficients, low, start, by.left);
-    let b = even_of(coefficients, low, start, by.right);
-    let c = even_of(coefficients, low, start, by.before);
-    let e = even_of(coefficients, low, start, by.after);
+    let o = 1 - start % 2;
+    let high = coefficients.len() - low;
+    let a = even_of(coefficients, low, start, place::left(low, o, n));
+    let b = even_of(coefficients, low, start, near::nearest(low, n + o));
+    let c = even_of(coefficients, low, start, place::far_left(low, o, n));
+    let e = even_of(coefficients, low, start, place::far_right(low, high, o, n));
     sample::unpredict(coefficients[low + n], a, b, c, e)
 }
 

@@ -138,6 +138,14 @@ module _ (s : Reader) where
   counts-length c m e = e ∙ length-is (s .filter) (columns s) (s .levels) (c .known) (within-yes 1 maxWidth (s .width) (c .wide .0) (c .wide .1))
       (within-yes 1 (filterOf (s .filter) .levels) (s .levels) (c .deep .0) (c .deep .1))
 
+  pub counts-streams : Counts s → streamable (s .filter) (columns s) (s .levels) ≡ true
+  unfolding streamable
+  counts-streams c = rw (
+    c .known,
+    within-yes 1 maxWidth (s .width) (c .wide .0) (c .wide .1),
+    within-yes 1 (filterOf (s .filter) .levels) (s .levels) (c .deep .0) (c .deep .1),
+  ) refl
+
   pub counts-small : Counts s → Small (columns s) (rows s) (s .drawn)
   counts-small c =
       let w = c .wide in

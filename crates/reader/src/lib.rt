@@ -249,7 +249,7 @@ impl Reader {
         if out.len() < self.width {
             return Drawn::Refused(12);
         }
-        if steps::settle(self, store, 0) {
+        if steps::settle_all(self, store) {
             return Drawn::Heights(self.width, self.hand_out(store, out));
         }
         Drawn::Impossible(self.over(store))
@@ -308,8 +308,7 @@ impl Reader {
         ensures { λ r. ⌜ r ≡ endedReader self ⌝ }
         ensures { λ _. ⌜ at (now (store .exit)) ≡ zeroed (self .filter) (columns self) (self .levels) (at (now (store .entry))) ⌝ }
     {
-        let n = figures::store_length(self.filter, self.width, self.x, self.levels);
-        copies::clear(store, n);
+        walk::zero(self.filter, self.x, self.width, self.levels, store);
         Reader {
             width: self.width,
             height: self.height,

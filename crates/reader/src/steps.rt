@@ -148,6 +148,30 @@ pub fn settle(s: Reader, store: &mut [i32], to: usize) -> bool
     )
 }
 
+// The same before a draw, where no row is wanted. A function of its own: each call then has its settling inside.
+pub fn settle_all(s: Reader, store: &mut [i32]) -> bool
+    requires { ⌜ Counts s × (0 ≡ next s .level) × (storeBy (s .filter) (columns s) (s .levels) ≤ length (now store)) ⌝ }
+    ensures { λ ok. ⌜ outcome ok (at (now (store .exit))) ≡ settles s (at (now (store .entry))) ⌝ }
+    ensures { λ _. ⌜ Kept (storeBy (s .filter) (columns s) (s .levels)) (at (now (store .entry))) (at (now (store .exit))) ⌝ }
+{
+    if s.level == 0 {
+        return true;
+    }
+    walk::settle(
+        s.filter,
+        s.x,
+        s.width,
+        s.y,
+        s.height,
+        s.levels,
+        s.drawn,
+        store,
+        s.level,
+        own_level(s),
+        0,
+    )
+}
+
 // Then the run put where it belongs, and the set worked out if it completes it.
 pub fn feed_row(s: Reader, store: &mut [i32], n: Next, complete: bool, run: &[i32]) -> bool
     requires { ⌜ Counts s × Due s n × (0 < n .spot .level) × Completing s n complete × (storeBy (s .filter) (columns s) (s .levels) ≤ length (now store)) ×

@@ -18,13 +18,13 @@ ghost use Rattle.lifting.specs.Line.{lo};
 ghost use Rattle.wavelet.specs.Order.{firstSet};
 ghost use Rattle.wavelet.specs.Levels.{next, sideAt};
 ghost use Rattle.nine_seven.specs.Filters.{filterOf};
-ghost use Rattle.figures.specs.Figures.{storeBy};
+ghost use Rattle.figures.specs.Figures.{storeBy, streamable};
 ghost use Rattle.filters.specs.Back.{rowPlaceOf};
 ghost use Rattle.level.specs.Tried.{outcome};
 ghost use Rattle.level.specs.Stretch.{rowOfSet, halfPlace};
 ghost use Rattle.level.specs.Rebuilding.{Kept};
 ghost use Rattle.reader_steps.specs.Asked.{named};
-ghost use Rattle.reader.specs.Store.{fedAt, workedAt};
+ghost use Rattle.reader.specs.Store.{fedAt, workedAt, zeroed};
 ghost use Rattle.reader_steps.specs.Sets.{waiting};
 ghost use Rattle.reader_steps.specs.Places.{spot, bandAt, nextUp, dive};
 ghost use Rattle.reader.specs.Machine.{settled};
@@ -404,4 +404,13 @@ pub fn begin(filter: usize, levels: usize, level: usize, l: Level, n: usize) -> 
         n,
         n - l.y % 2,
     )
+}
+
+// The needed part of a line store zeroed, where a reader ends. It takes numbers, not the reader, which would be laid into memory in every call for it.
+pub fn zero(filter: usize, x: usize, width: usize, levels: usize, store: &mut [i32])
+    requires { ⌜ (streamable filter (side x width) levels ≡ true) × (storeBy filter (side x width) levels ≤ length (now store)) ⌝ }
+    ensures { λ _. ⌜ at (now (store .exit)) ≡ zeroed filter (side x width) levels (at (now (store .entry))) ⌝ }
+{
+    let n = figures::store_length(filter, width, x, levels);
+    copies::clear(store, n);
 }

@@ -1,49 +1,97 @@
 -- `nine_seven_lines::put::odd_of` meets its contract: the even coordinates around it are the definition's. Assumes nothing.
 use mathlib.Core.Path.{_∙_}
-use Prim.Native.Nat.{_+_, _-_, _%_, _<_}
+use Prim.Native.Nat.{_+_, _-_, _%_}
 use native.Mathlib.Omega.{arith}
 use lib.ListN.{length}
 use Rattle.numbers.specs.Signal.{at}
 use Rattle.numbers.proofs.Words.{read-back}
 use Rattle.lifting.specs.Grid.{side}
-use Rattle.nine_seven_lines.specs.Near.{Around}
-use Rattle.nine_seven_lines.proofs.NearLaws.{room}
-use Rattle.nine_seven_lines.proofs.PutLaws.{lows-in, odd-few, odds-in, odd-made}
+use Rattle.lifting.proofs.GridLaws.{counts, some, beside-lows}
+use Rattle.nine_seven.proofs.HighLaws.{fars-low}
+use Rattle.nine_seven_lines.proofs.PutLaws.{odd-value}
 use Rattle.nine_seven_lines.proofs.put.odd_of.Statement.{statement}
 use Rattle.nine_seven_lines.proofs.put.odd_of.Tie as tie
 
-sub-around : tie.Need-sub-around
-sub-around c = lows-in (side (c .args .start) (length (c .args .coefficients .now))) (c .args .low) (c .pre .0)
+sub-o : tie.Need-sub-o
+sub-o c = omega arith
 
-sub-around-2 : tie.Need-sub-around-2
-sub-around-2 c = omega arith
+sub-high : tie.Need-sub-high
+sub-high c =
+    let a = c .args in
+    let S = side (a .start) (length (a .coefficients .now)) in
+    let s = some S (c .pre .1) in
+    let e = c .pre .0 in
+    omega arith
 
-around-requires : tie.Need-around-requires
-around-requires c κs = tt
-
--- the even coordinates that it goes by, and that they are there
-by : (q : tie.After-around) → (let p = q .before in
-    Around (p .args .low) (length (p .args .coefficients .now) - p .args .low) (1 - p .args .start % 2) (p .args .n) (q .around .result .left)
-    (q .around .result .right) (q .around .result .before) (q .around .result .after))
-by q = let p = q .before in q .around .ensures (odd-few (p .args .start)) (room _ _ _ (p .pre .2))
-
-rooms : (q : tie.After-around) → (let low = q .before .args .low in
-    (q .around .result .left < low) × (q .around .result .right < low) × (q .around .result .before < low) × (q .around .result .after < low))
-rooms q =
-    let p = q .before in
-    odds-in (side (p .args .start) (length (p .args .coefficients .now))) _ _ _ _ _ _ (p .pre .0) (p .pre .1) (p .pre .2) (by q)
+left-requires : tie.Need-left-requires
+left-requires c κs =
+    let a = c .args in
+    let S = side (a .start) (length (a .coefficients .now)) in
+    let s = some S (c .pre .1) in
+    let e = c .pre .0 in
+    omega arith
 
 even-of-requires : tie.Need-even-of-requires
-even-of-requires c κs = let p = c .before .pre in (p .0, p .1, rooms c .0)
+even-of-requires c κs =
+    let a = c .before .args in
+    let S = side (a .start) (length (a .coefficients .now)) in
+    let s = some S (c .before .pre .1) in
+    let e = c .before .pre .0 in
+    let l = c .left .ensures in
+    (e, c .before .pre .1, omega arith)
+
+add-nearest : tie.Need-add-nearest
+add-nearest c = omega arith
+
+nearest-requires : tie.Need-nearest-requires
+nearest-requires c κs = tt
 
 even-of-requires-2 : tie.Need-even-of-requires-2
-even-of-requires-2 c κs = let p = c .before .before .pre in (p .0, p .1, rooms (c .before) .1)
+even-of-requires-2 c κs =
+    let a = c .before .before .before .args in
+    let S = side (a .start) (length (a .coefficients .now)) in
+    let s = some S (c .before .before .before .pre .1) in
+    let e = c .before .before .before .pre .0 in
+    let l = c .nearest .ensures in
+    (e, c .before .before .before .pre .1, omega arith)
+
+far-left-requires : tie.Need-far-left-requires
+far-left-requires c κs =
+    let a = c .before .before .before .before .args in
+    let S = side (a .start) (length (a .coefficients .now)) in
+    let s = some S (c .before .before .before .before .pre .1) in
+    let e = c .before .before .before .before .pre .0 in
+    omega arith
 
 even-of-requires-3 : tie.Need-even-of-requires-3
-even-of-requires-3 c κs = let p = c .before .before .before .pre in (p .0, p .1, rooms (c .before .before) .2)
+even-of-requires-3 c κs =
+    let a = c .before .before .before .before .before .args in
+    let S = side (a .start) (length (a .coefficients .now)) in
+    let s = some S (c .before .before .before .before .before .pre .1) in
+    let e = c .before .before .before .before .before .pre .0 in
+    let d = beside-lows S in
+    let f = fars-low (a .low) (length (a .coefficients .now) - a .low) (1 - a .start % 2) (a .n) (omega arith) (omega arith) (omega arith) in
+    let l = c .far-left .ensures in
+    (e, c .before .before .before .before .before .pre .1, omega arith)
+
+far-right-requires : tie.Need-far-right-requires
+far-right-requires c κs =
+    let a = c .before .before .before .before .before .before .args in
+    let S = side (a .start) (length (a .coefficients .now)) in
+    let s = some S (c .before .before .before .before .before .before .pre .1) in
+    let e = c .before .before .before .before .before .before .pre .0 in
+    (omega arith, omega arith)
 
 even-of-requires-4 : tie.Need-even-of-requires-4
-even-of-requires-4 c κs = let p = c .before .before .before .before .pre in (p .0, p .1, rooms (c .before .before .before) .3)
+even-of-requires-4 c κs =
+    let a = c .before .before .before .before .before .before .before .args in
+    let S = side (a .start) (length (a .coefficients .now)) in
+    let s = some S (c .before .before .before .before .before .before .before .pre .1) in
+    let e = c .before .before .before .before .before .before .before .pre .0 in
+    let d = beside-lows S in
+    let f = fars-low (a .low) (length (a .coefficients .now) - a .low) (1 - a .start % 2) (a .n) (omega arith) (omega arith) (omega arith) in
+    let l = c .far-right .ensures in
+    (e, c .before .before .before .before .before .before .before .pre .1, omega arith)
 
 add-unpredict : tie.Need-add-unpredict
 add-unpredict c = omega arith
@@ -52,7 +100,7 @@ mul-unpredict : tie.Need-mul-unpredict
 mul-unpredict c = omega arith
 
 shared-slice-copy-out-unpredict : tie.Need-shared-slice-copy-out-unpredict
-shared-slice-copy-out-unpredict c = c .before .before .before .before .before .pre .2
+shared-slice-copy-out-unpredict c = omega arith
 
 unpredict-requires : tie.Need-unpredict-requires
 unpredict-requires c κs = tt
@@ -60,13 +108,16 @@ unpredict-requires c κs = tt
 returns : tie.Need-returns
 returns c =
     let e4 = c .before .before in
-    let e3 = e4 .before in
-    let e2 = e3 .before in
-    let e1 = e2 .before in
-    let q = e1 .before in
-    let p = q .before in
+    let e3 = e4 .before .before in
+    let e2 = e3 .before .before in
+    let e1 = e2 .before .before in
+    let p = e1 .before .before in
     let a = p .args in
+    let N = length (a .coefficients .now) in
+    let S = side (a .start) N in
     let y = at (a .coefficients .now) in
+    let both = counts S in
+    let e = p .pre .0 in
     read-back (c .unpredict .result) (c .unpredict .ok)
     ∙ c .unpredict .ensures
     ∙ rw (
@@ -76,20 +127,25 @@ returns c =
       read-back (e3 .even-of3 .result) (e3 .even-of3 .ok),
       read-back (e4 .even-of4 .result) (e4 .even-of4 .ok),
     )
-    (odd-made (side (a .start) (length (a .coefficients .now))) _ _ _ _ _ _ (p .pre .0) (p .pre .1) (p .pre .2)
-    (by q) y _ _ _ _ (e1 .even-of .ensures) (e2 .even-of2 .ensures) (e3 .even-of3 .ensures)
-    (e4 .even-of4 .ensures))
+    (odd-value S y (p .pre .1) (a .low) (a .n) e (e1 .even-of .result) (e2 .even-of2 .result) (e3 .even-of3 .result) (e4 .even-of4 .result) _ _ _ _
+    (omega arith) (e1 .before .left .ensures) (e2 .before .nearest .ensures) (e3 .before .far-left .ensures) (e4 .before .far-right .ensures)
+    (e1 .even-of .ensures)
+    (e2 .even-of2 .ensures) (e3 .even-of3 .ensures) (e4 .even-of4 .ensures))
 
 pub odd-of-spec : {M : Type 1} → statement M
 odd-of-spec =
     tie.close
     (tie.spec
-    sub-around
-    sub-around-2
-    around-requires
+    sub-o
+    sub-high
+    left-requires
     even-of-requires
+    add-nearest
+    nearest-requires
     even-of-requires-2
+    far-left-requires
     even-of-requires-3
+    far-right-requires
     even-of-requires-4
     add-unpredict
     mul-unpredict

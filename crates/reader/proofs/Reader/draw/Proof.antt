@@ -50,8 +50,8 @@ returns-3 c =
     (draw-no (a .self) _ _ _ 12 (draw-12 (a .self) (length (a .store .now)) (length (a .out .now)) (at (a .store .now)) one
     (sym (due .before .draw-due .ensures) ∙ not-false _ (due .if2 .left)) (c .if3 .taken)) (omega arith) (omega arith))
 
-settle-requires : tie.Need-settle-requires
-settle-requires c κs =
+settle-all-requires : tie.Need-settle-all-requires
+settle-all-requires c κs =
     let due = c .before .before .before in
     let ok = due .before .before in
     let one = store-in _ _ (sym (ok .before .store-question .ensures) ∙ ok .if1 .left) in
@@ -65,10 +65,10 @@ hand-out-requires c κs =
     let ok = due .before .before in
     let one = store-in _ _ (sym (ok .before .store-question .ensures) ∙ ok .if1 .left) in
     let draws = due-in _ (sym (due .before .draw-due .ensures) ∙ not-false _ (due .if2 .left)) in
-    (one .0, draws .0, le-trans (one .1) (le-of-eq (sym (call .settle .kept .1 .0))), wide .if3 .left)
+    (one .0, draws .0, le-trans (one .1) (le-of-eq (sym (call .settle-all .kept .1 .0))), wide .if3 .left)
 
 same-length : tie.Need-same-length
-same-length c = c .before .before .before .before .before .before .before .settle .kept .1 .0
+same-length c = c .before .before .before .before .before .before .before .settle-all .kept .1 .0
 
 same-length-2 : tie.Need-same-length-2
 same-length-2 c = c .before .before .hand-out .kept .1 .1 .0
@@ -88,9 +88,9 @@ returns-4 c =
     let x = at (a .store .now) in
     let one = sym (ok .before .store-question .ensures) ∙ ok .if1 .left in
     let is-due = sym (due .before .draw-due .ensures) ∙ not-false _ (due .if2 .left) in
-    let made = told-yes (call .settle .result) (at (call .settle .last .1 .0)) _ (call .settle .ensures .0) (settled .if4 .taken) in
+    let made = told-yes (call .settle-all .result) (at (call .settle-all .last .1 .0)) _ (call .settle-all .ensures .0) (settled .if4 .taken) in
     draw-also s n m x (heightsAt (a .out .now))
-    (draw-yes s _ x (heightsAt (a .out .now)) (drawing .hand-out .result) (at (call .settle .last .1 .0)) _
+    (draw-yes s _ x (heightsAt (a .out .now)) (drawing .hand-out .result) (at (call .settle-all .last .1 .0)) _
     (fits-yes _ _ made ∙ draw-last s n m x one is-due (wide .if3 .left)) is-due (drawing .hand-out .ensures .0) made (drawing .hand-out .ensures .1))
 
 over-requires : tie.Need-over-requires
@@ -98,10 +98,10 @@ over-requires c κs =
     let call = c .before .before .before in
     let ok = call .before .before .before .before .before .before in
     let one = store-in _ _ (sym (ok .before .store-question .ensures) ∙ ok .if1 .left) in
-    (one .0, le-trans (one .1) (le-of-eq (sym (call .settle .kept .1 .0))))
+    (one .0, le-trans (one .1) (le-of-eq (sym (call .settle-all .kept .1 .0))))
 
 same-length-3 : tie.Need-same-length-3
-same-length-3 c = let ended = c .before in ended .over .kept .1 .0 ∙ ended .before .before .before .before .settle .kept .1 .0
+same-length-3 c = let ended = c .before in ended .over .kept .1 .0 ∙ ended .before .before .before .before .settle-all .kept .1 .0
 
 returns-5 : tie.Need-returns-5
 returns-5 c =
@@ -116,13 +116,13 @@ returns-5 c =
     let n = length (a .store .now) in
     let m = length (a .out .now) in
     let x = at (a .store .now) in
-    let y = at (call .settle .last .1 .0) in
+    let y = at (call .settle-all .last .1 .0) in
     let one = sym (ok .before .store-question .ensures) ∙ ok .if1 .left in
     let is-due = sym (due .before .draw-due .ensures) ∙ not-false _ (due .if2 .left) in
-    let made = told-no (call .settle .result) y _ (call .settle .ensures .0) (failed .if4 .left) in
+    let made = told-no (call .settle-all .result) y _ (call .settle-all .ensures .0) (failed .if4 .left) in
     draw-also s n m x (heightsAt (a .out .now))
     (draw-end s _ x (heightsAt (a .out .now)) (ended .over .result) _ (fits-no _ made ∙ draw-last s n m x one is-due (wide .if3 .left))
-    (ended .over .ensures .0) (zero-kept (s .filter) (columns s) (s .levels) x y _ (call .settle .ensures .1) (ended .over .ensures .1)))
+    (ended .over .ensures .0) (zero-kept (s .filter) (columns s) (s .levels) x y _ (call .settle-all .ensures .1) (ended .over .ensures .1)))
 
 pub draw-spec : {M : Type 1} → statement M
 draw-spec =
@@ -133,7 +133,7 @@ draw-spec =
     draw-due-requires
     returns-2
     returns-3
-    settle-requires
+    settle-all-requires
     hand-out-requires
     same-length
     same-length-2

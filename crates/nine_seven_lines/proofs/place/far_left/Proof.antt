@@ -1,9 +1,9 @@
--- `nine_seven_lines::near::far_left` meets its contract, case by case. Assumes nothing.
+-- `nine_seven_lines::place::far_left` meets its contract, case by case. Assumes nothing.
 use mathlib.Core.Path.{sym, _∙_}
 use native.Mathlib.Omega.{arith}
 use Rattle.nine_seven.proofs.MirrorLaws.{far-first, far-more}
-use Rattle.nine_seven_lines.proofs.near.far_left.Statement.{statement}
-use Rattle.nine_seven_lines.proofs.near.far_left.Tie as tie
+use Rattle.nine_seven_lines.proofs.place.far_left.Statement.{statement}
+use Rattle.nine_seven_lines.proofs.place.far_left.Tie as tie
 
 nearest-requires : tie.Need-nearest-requires
 nearest-requires c κs = tt

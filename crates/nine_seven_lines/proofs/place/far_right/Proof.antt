@@ -1,9 +1,9 @@
--- `nine_seven_lines::near::far_right` meets its contract, case by case. Assumes nothing.
+-- `nine_seven_lines::place::far_right` meets its contract, case by case. Assumes nothing.
 use mathlib.Core.Path.{sym, _∙_}
 use native.Mathlib.Omega.{arith}
 use Rattle.nine_seven.proofs.MirrorLaws.{far-last, far-less}
-use Rattle.nine_seven_lines.proofs.near.far_right.Statement.{statement}
-use Rattle.nine_seven_lines.proofs.near.far_right.Tie as tie
+use Rattle.nine_seven_lines.proofs.place.far_right.Statement.{statement}
+use Rattle.nine_seven_lines.proofs.place.far_right.Tie as tie
 
 add-if1 : tie.Need-add-if1
 add-if1 c = omega arith
