@@ -50,6 +50,11 @@
 #define TERRAIN_WANT_DONE 2
 #define TERRAIN_WANT_ENDED 3
 
+/* A turn-giver: how many numbers it has, how many readers it knows, and the answer for Nothing. */
+#define TERRAIN_TURNS_LENGTH 4
+#define TERRAIN_READERS 16
+#define TERRAIN_NO_READER 16
+
 /* A compiler that can warns where a call's answer is not looked at. */
 #if defined(__cplusplus) && __cplusplus >= 201703L
 #define TERRAIN_CHECKED [[nodiscard]]
@@ -241,6 +246,28 @@ uint32_t terrain_reader_feed(uint64_t state[16], int32_t *store, size_t store_le
 TERRAIN_CHECKED
 uint32_t terrain_reader_draw(uint64_t state[16], int32_t *store, size_t store_len, uint16_t *out, size_t out_len, size_t *drawn);
 
+/* Fair turns at one disk for up to sixteen readers, numbered 0 to 15. A turn-giver is the caller's array of four numbers; it knows no reader
+ * but by its number. Mark a reader that wants a band row and clear it when it wants none: a mark stands until it is cleared, however many
+ * turns go by, and marking or clearing twice is once. A turn goes to the first marked reader in circular order after the one served last,
+ * the first one of all from reader 0 on; so a reader that stays marked is served within sixteen turns, whatever the others do. Feed it
+ * then the row that it wants. 1 as for the streams: the array is no turn-giver. */
+
+/* A fresh turn-giver: no reader is marked. Answers 0. */
+TERRAIN_CHECKED
+uint32_t terrain_turns_set_up(uint64_t turns[4]);
+
+/* The reader wants a band row. 1; 21 (the number is not 0 to 15). */
+TERRAIN_CHECKED
+uint32_t terrain_turns_mark(uint64_t turns[4], size_t reader);
+
+/* The reader wants none. 1; 21. */
+TERRAIN_CHECKED
+uint32_t terrain_turns_clear(uint64_t turns[4], size_t reader);
+
+/* The next turn: *reader is whose it is, or 16 where nobody is marked (Nothing: the order stays). No mark is cleared. 1. */
+TERRAIN_CHECKED
+uint32_t terrain_turns_give(uint64_t turns[4], size_t *reader);
+
 #ifdef __cplusplus
 }
 #endif
@@ -269,7 +296,10 @@ TERRAIN_INLINE const char *terrain_sentence(uint32_t number)
         "the input is not in the form that the listing reads",                         /* 15 */
         "a sample exceeds the largest value that the picture's header names",          /* 16 */
         NULL,
-        "there is no such filter"                                                      /* 18 */
+        "there is no such filter",                                                     /* 18 */
+        NULL,
+        NULL,
+        "the reader's number is not 0 to 15"                                           /* 21 */
     };
     const char *said = number < sizeof sentences / sizeof *sentences ? sentences[number] : NULL;
     return said ? said : "no question has this number";

@@ -1,5 +1,5 @@
-/* The C interface under a fuzzer. The input is a list of calls with their arguments, made on three streams, on maps, lines and rows; states and
- * stores are scribbled in between. After each call: nothing outside the lent areas is touched (areas.h), a call turned away has changed
+/* The C interface under a fuzzer. The input is a list of calls with their arguments, made on three streams, a turn-giver, on maps, lines and
+ * rows; states and stores are scribbled in between. After each call: nothing outside the lent areas is touched (areas.h), a call turned away has changed
  * nothing, a number comes only where it may, 1 and 5 exactly where they must. Where a stream's calls went by the rules, its rows and heights
  * are those of a transform of its own (model.h). tests/fuzz/run builds and runs it. */
 #define _DEFAULT_SOURCE
@@ -559,6 +559,43 @@ static void band_row(void)
     else HOLDS(*start == place(&m, level, band, row) && *length == across(&m, level, band));
 }
 
+/* ---- turns: a turn-giver that is set up, marked, cleared and scribbled in; the model looks at the readers one by one */
+
+static uint64_t giver[TERRAIN_TURNS_LENGTH];
+
+static int is_giver(void)
+{
+    return giver[0] == 3 && giver[1] <= 65535 && giver[2] <= 15 && giver[3] == 0;
+}
+
+static void turn(void)
+{
+    unsigned which = below(8);
+    if (which == 0) giver[below(4)] = number(); /* and then a mark */
+    size_t reader = below(8) ? below(16) : number(), next = 1;
+    uint64_t *lent = area_lend(&state_area, giver, sizeof giver, at_end());
+    size_t *served = area_lend(&small_area, NULL, sizeof *served, at_end());
+    uint32_t first = which == 1 || is_giver() ? 0u : 1u, answer;
+    if (which == 1) answer = terrain_turns_set_up(lent);
+    else if (which < 4) answer = terrain_turns_mark(lent, reader);
+    else if (which == 4) answer = terrain_turns_clear(lent, reader);
+    else answer = terrain_turns_give(lent, served);
+    area_back(&state_area);
+    area_back(&small_area);
+    if (!first && which > 1 && which < 5 && reader > 15) first = 21;
+    HOLDS(answer == first);
+    if (answer || which < 5) HOLDS(area_unset(&small_area, 0));
+    if (!answer && which == 1) memcpy(giver, (uint64_t[]){ 3, 0, 15, 0 }, sizeof giver);
+    else if (!answer && which < 4) giver[1] |= (uint64_t)1 << reader;
+    else if (!answer && which == 4) giver[1] &= ~((uint64_t)1 << reader);
+    else if (!answer) {
+        while (next <= 16 && !(giver[1] >> (giver[2] + next) % 16 & 1)) next++;
+        if (next <= 16) giver[2] = (giver[2] + next) % 16;
+        HOLDS(*served == (next <= 16 ? giver[2] : 16));
+    }
+    HOLDS(area_is(&state_area, giver));
+}
+
 /* ---- as a program would */
 
 static void write_on(Slot *s)
@@ -602,7 +639,7 @@ static void call(void)
     case 25: scribble(s); break;
     case 26: line(); break;
     case 27: map(); break;
-    case 28: band_row(); break;
+    case 28: if (below(2)) band_row(); else turn(); break;
     case 29: { Map m = any_map(); m.across.length = number(); HOLDS(terrain_store_length(shape_of(&m)) == model_store(&m)); break; }
     case 30: write_on(s); break;
     default: read_on(s); break;
@@ -612,6 +649,7 @@ static void call(void)
 int LLVMFuzzerTestOneInput(const uint8_t *data, size_t size)
 {
     input = data, input_end = data + size;
+    memset(giver, 0, sizeof giver);
     for (int i = 0; i < SLOTS; i++) {
         slots[i].kind = 0;
         memset(slots[i].state, 0, sizeof slots[i].state);

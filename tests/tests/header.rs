@@ -191,7 +191,7 @@ fn the_archive_exports_what_the_header_declares_and_nothing_else() {
     let exported: BTreeSet<String> = symbols().into_iter().filter(|(l, _)| l.is_ascii_uppercase() && *l != 'U').map(|(_, n)| n).collect();
     assert_eq!(exported, declared);
     assert!(symbols().iter().all(|(l, n)| !declared.contains(n) || *l == 'T'), "each is a function");
-    assert_eq!(declared.len(), 21);
+    assert_eq!(declared.len(), 25);
 }
 
 /// No heap, no file, no thread: it calls nothing but the C library's copies. No state: no data that can be written.
@@ -260,6 +260,13 @@ fn output_of(example: &str, language: &str) -> String {
 fn the_line_example() {
     for language in ["c", "c++"] {
         assert_eq!(output_of("line", language), "low 3 4 6\nhigh 3 5\nline 1 4 2 7 3\ntoo short: 5\n");
+    }
+}
+
+#[test]
+fn the_turns_example() {
+    for language in ["c", "c++"] {
+        assert_eq!(output_of("turns", language), "2096 turns, longest wait 16\n16 of 16 readers drew their map\n");
     }
 }
 

@@ -67,6 +67,17 @@ fn bands_wants_and_lengths() {
     assert_eq!(kinds, [row, draw, done, row, ended, ended]);
 }
 
+#[test]
+fn turn_givers() {
+    let names = names();
+    let (mut turns, mut reader) = ([0; 4], 0);
+    assert_eq!((names["TURNS_LENGTH"], names["READERS"]), (turns.len(), terrain::READERS));
+    assert_eq!([raw::turns_set_up(&mut turns), raw::turns_give(&mut turns, &mut reader)], [0, 0]);
+    assert_eq!(names["NO_READER"], reader);
+    let answers = [names["READERS"] - 1, names["READERS"]].map(|n| raw::turns_mark(&mut turns, n));
+    assert_eq!(answers, [0, 21]);
+}
+
 /// One version: of the header, the archive, the wrapper, the CMake example and the list of changes.
 #[test]
 fn the_version() {

@@ -52,6 +52,7 @@ mod profile;
 mod question;
 pub mod raw;
 mod reader;
+mod turns;
 mod writer;
 
 mod owned;
@@ -62,6 +63,7 @@ pub use picture::{picture_head, picture_row};
 pub use profile::profile;
 pub use question::{Call, Question};
 pub use reader::{Reader, Want};
+pub use turns::Turns;
 pub use writer::Writer;
 
 pub use owned::{OwnedReader, OwnedWriter};
@@ -78,6 +80,8 @@ pub const MAX_LEVELS: usize = 5;
 pub const FIVE_THREE: u32 = 0;
 /// and the integer 9/7 of CCSDS 122.0.
 pub const NINE_SEVEN: u32 = 1;
+/// How many readers a [`Turns`] knows: their numbers are 0 to 15.
+pub const READERS: usize = 16;
 
 /// A band of a level. The first letter is horizontal: `Hl` is high along rows, low along columns.
 #[derive(Clone, Copy, Debug, PartialEq, Eq, Hash)]

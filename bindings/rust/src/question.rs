@@ -20,6 +20,9 @@ pub enum Call {
     Want,
     Feed,
     ReaderDraw,
+    Mark,
+    Clear,
+    Turn,
 }
 
 /// Why a call was turned away: the first question that said no. Prints a sentence.
@@ -27,7 +30,7 @@ pub enum Call {
 pub struct Question {
     /// The call that was turned away.
     pub call: Call,
-    /// The question's number: 1 to 14, or 18.
+    /// The question's number: 1 to 14, 18, or 21.
     pub number: u32,
 }
 
@@ -76,6 +79,7 @@ impl Question {
             (14, Call::MapBackward) => "no map has this plane",
             (14, _) => "no map has the rows that were fed: the reader has ended",
             (18, _) => "there is no such filter: 0 is the 5/3, 1 the 9/7",
+            (21, _) => "the reader's number is not 0 to 15",
             _ => "no question has this number",
         }
     }

@@ -123,6 +123,10 @@ mod c {
             out_len: usize,
             drawn: *mut usize,
         ) -> u32;
+        pub fn terrain_turns_set_up(turns: *mut [u64; 4]) -> u32;
+        pub fn terrain_turns_mark(turns: *mut [u64; 4], reader: usize) -> u32;
+        pub fn terrain_turns_clear(turns: *mut [u64; 4], reader: usize) -> u32;
+        pub fn terrain_turns_give(turns: *mut [u64; 4], reader: *mut usize) -> u32;
     }
 }
 
@@ -223,4 +227,20 @@ pub fn reader_feed(state: &mut State, store: &mut [i32], run: &[i32]) -> u32 {
 
 pub fn reader_draw(state: &mut State, store: &mut [i32], out: &mut [u16], drawn: &mut usize) -> u32 {
     unsafe { c::terrain_reader_draw(state, store.as_mut_ptr(), store.len(), out.as_mut_ptr(), out.len(), drawn) }
+}
+
+pub fn turns_set_up(turns: &mut [u64; 4]) -> u32 {
+    unsafe { c::terrain_turns_set_up(turns) }
+}
+
+pub fn turns_mark(turns: &mut [u64; 4], reader: usize) -> u32 {
+    unsafe { c::terrain_turns_mark(turns, reader) }
+}
+
+pub fn turns_clear(turns: &mut [u64; 4], reader: usize) -> u32 {
+    unsafe { c::terrain_turns_clear(turns, reader) }
+}
+
+pub fn turns_give(turns: &mut [u64; 4], reader: &mut usize) -> u32 {
+    unsafe { c::terrain_turns_give(turns, reader) }
 }

@@ -142,6 +142,20 @@ fn a_profile() {
 }
 
 #[test]
+fn turns() {
+    let mut turns = Turns::new();
+    assert_eq!(turns.give(), Ok(None));
+    turns.mark(READERS - 1).unwrap();
+    turns.mark(2).unwrap();
+    assert_eq!([turns.give(), turns.give(), turns.give()], [Ok(Some(2)), Ok(Some(15)), Ok(Some(2))]);
+    let mut again = Turns::resume(turns.state());
+    turns.clear(15).unwrap();
+    assert_eq!((turns.give(), again.give()), (Ok(Some(2)), Ok(Some(15))));
+    assert_eq!(turns.mark(READERS), Err(Question { call: Call::Mark, number: 21 }));
+    assert_eq!(Turns::resume([3, 0, 16, 0]).give(), Err(Question { call: Call::Turn, number: 1 }));
+}
+
+#[test]
 fn the_questions() {
     let number = |e: Question| e.number;
     let mut store = [0; 40];
@@ -210,7 +224,7 @@ fn a_question_prints_a_sentence() {
 /// docs/DECISIONS.md, "The questions, call by call".
 #[test]
 fn every_question_of_every_call_has_a_sentence() {
-    let questions: [(Call, &[u32]); 15] = [
+    let questions: [(Call, &[u32]); 18] = [
         (Call::Line, &[5, 14]),
         (Call::Profile, &[2, 5]),
         (Call::Picture, &[2, 3]),
@@ -226,6 +240,9 @@ fn every_question_of_every_call_has_a_sentence() {
         (Call::Want, &[1]),
         (Call::Feed, &[1, 5, 9, 8, 13, 7, 14]),
         (Call::ReaderDraw, &[1, 5, 9, 12, 14]),
+        (Call::Mark, &[1, 21]),
+        (Call::Clear, &[1, 21]),
+        (Call::Turn, &[1]),
     ];
     let none = Question { call: Call::Line, number: 0 }.sentence();
     for (call, numbers) in questions {

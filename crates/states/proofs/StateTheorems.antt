@@ -4,9 +4,11 @@ use mathlib.Core.Bool.{Bool, true, false}
 use lib.Dec.{eqb}
 use Rattle.writer.specs.declared.Writer.{Writer}
 use Rattle.reader.specs.declared.Reader.{Reader}
+use Rattle.turns.specs.declared.Turns.{Turns}
 use Rattle.states.specs.States.{flag, zeroNext, zeroFrom, isState}
 use Rattle.states.specs.WriterState.{isWriter, writerOf, writerWords}
 use Rattle.states.specs.ReaderState.{isReader, readerOf, readerWords}
+use Rattle.states.specs.TurnsState.{isTurns, turnsOf, turnsWords}
 
 flag-back : (b : Bool) → eqb (flag b) 1 ≡ b
 flag-back true = refl
@@ -66,3 +68,11 @@ reader-is r = go (r .ended) refl
     go : (b : Bool) → r .ended ≡ b → isReader (readerWords r) ≡ true
     go true e = rw e refl
     go false e = rw e refl
+
+-- ---- a turn-giver
+pub turns-back : (t : Turns) → turnsOf (turnsWords t) ≡ t
+turns-back t = refl
+
+pub turns-is : (t : Turns) → isTurns (turnsWords t) ≡ true
+unfolding isTurns
+turns-is t = refl

@@ -3,3 +3,4 @@ pub mod WriterState
 pub mod WriterAnswers
 pub mod ReaderState
 pub mod ReaderAnswers
+pub mod TurnsState

@@ -3,4 +3,5 @@ pub mod Steady
 pub mod WordLaws
 pub mod MovedWords
 pub mod WriterListsHold
+pub mod TurnsListsHold
 pub mod ReaderListsHold

@@ -4,3 +4,5 @@ pub mod WriterLists
 pub mod ReaderCalls
 pub mod ReaderLists
 pub mod Version
+pub mod TurnsCalls
+pub mod TurnsLists

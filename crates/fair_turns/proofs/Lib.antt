@@ -1,0 +1,3 @@
+pub mod Projection
+pub mod Fed
+pub mod Standing

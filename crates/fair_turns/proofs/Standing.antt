@@ -1,0 +1,263 @@
+-- The reader that stands meets what the turns ask of a reader (`standing-laws`), by its demand 3 alone: nothing here looks at a state. So the theorem
+-- holds of readers that stand, of whatever shapes (`standing-in-turn`). Assumes nothing.
+use mathlib.Core.Path.{_≡_, refl, sym, ap, ap₂, subst, _∙_}
+use mathlib.Core.Bool.{Bool, true, false}
+use mathlib.Core.List.{List, [], _∷_, _++_, append-nil, append-assoc}
+use Prim.Native.Nat.{ℕ, zero, suc, _+_, _≤_}
+use native.Mathlib.Omega.{arith}
+use lib.IntN.{ℤ}
+use lib.Dec.{eqb, leb}
+use lib.ListN.{length, drop, length-append}
+use borrow.Author.Tests.{eq-eqb}
+use Rattle.numbers.specs.Signal.{pick}
+use Rattle.lifting.specs.Grid.{Side}
+use Rattle.wavelet.specs.Bands.{code}
+use Rattle.wavelet.specs.Limits.{maxOrigin}
+use Rattle.wavelet.specs.Order.{RowName, rowName}
+use Rattle.wavelet.specs.Questions.{ask}
+use Rattle.wavelet.specs.Steps.{steps, Step, bandRowsOf}
+use Rattle.wavelet.specs.Steps as step
+use Rattle.wavelet.specs.View.{bandColumns}
+use Rattle.calls.specs.Lists.{Reply, gives, refused, Area, gathered}
+use Rattle.calls.specs.Lists as lists
+use Rattle.calls.proofs.ListLaws.{ever-snoc, events-snoc, gathered-snoc}
+use Rattle.reader_steps.specs.Sets.{ahead}
+use Rattle.reader_steps.proofs.Looks.{named-code}
+use Rattle.reader.specs.Questions.{runFits, setUpQuestion}
+use Rattle.reader.specs.Demand3.{Call, want, feed, draw, Given, heights, nothing, Event, wanted, fed, drew, World, event, events, final, freshWorld}
+use Rattle.reader.specs.Demand3.{goesOn, rest, leftBy, left, ends, endedBy, wantSays, feedTurned, drawSays, OneOf, this, that, Draws, Demand3}
+use Rattle.reader.specs.Demand3 as demand
+use Rattle.reader.proofs.Demand3.{left-append, demand-3}
+use Rattle.fair_turns.specs.Reading.{Reading, ReadingLaws}
+use Rattle.fair_turns.specs.Together as together
+use Rattle.fair_turns.specs.FedInTurn.{moments, InTurn, FedInOrder}
+use Rattle.fair_turns.specs.Standing.{namesRow, takesRun, FitsRow, standing}
+use Rattle.fair_turns.proofs.Fed.{fed-in-turn}
+
+-- one row less
+drop-next : {A : Type 0} (k : ℕ) (l : List A) (y : A) (t : List A) → y ∷ t ≡ drop k l → t ≡ drop (suc k) l
+drop-next zero [] y t e = absurd (let z : _≡_ {A = ℕ} 0 1 = cc in omega arith)
+drop-next zero (a ∷ l) y t e = cc
+drop-next (suc k) [] y t e = absurd (let z : _≡_ {A = ℕ} 0 1 = cc in omega arith)
+drop-next (suc k) (a ∷ l) y t e = drop-next k l y t e
+
+-- ---- what a want names, and what a feed is turned away by
+module _ (f : ℕ) (W : Side) where
+  -- a row is named where it is the next step
+  asks-row : (b : Bool) (t : List Step) (x : RowName) → namesRow (wanted (gives (wantSays W b t))) ≡ x ∷ [] →
+      (b ≡ false) × ((u : List Step) × (t ≡ step.feed x ∷ u))
+  unfolding namesRow wantSays
+  asks-row true t x e = absurd (let z : _≡_ {A = ℕ} 0 1 = cc in omega arith)
+  asks-row false [] x e = absurd (let z : _≡_ {A = ℕ} 0 1 = cc in omega arith)
+  asks-row false (step.feed y ∷ t) x e =
+      let same : y ≡ x = let z : rowName (y .level) (y .band) (y .row) ∷ [] ≡ x ∷ [] =
+      ap (λ b. rowName (y .level) b (y .row) ∷ []) (sym (named-code (y .band))) ∙ e in cc in
+      (refl, (t, ap (λ r. step.feed r ∷ t) same))
+  asks-row false (step.draw r ∷ t) x e = absurd (let z : _≡_ {A = ℕ} 0 1 = cc in omega arith)
+
+  names-it : (x : RowName) (t : List Step) → namesRow (wanted (gives (wantSays W false (step.feed x ∷ t)))) ≡ x ∷ []
+  unfolding namesRow wantSays
+  names-it x t = ap (λ b. rowName (x .level) b (x .row) ∷ []) (named-code (x .band))
+
+  -- by no 14, and by nothing only where a row is the next step
+  not-fourteen : (b : Bool) (t : List Step) (a : Area) → eqb (feedTurned f W b t a) 14 ≡ false
+  unfolding feedTurned
+  not-fourteen true t a = refl
+  not-fourteen false [] a = refl
+  not-fourteen false (step.draw r ∷ t) a = refl
+  not-fourteen false (step.feed y ∷ t) a = go (eqb (a .size) (bandColumns W (y .level) (y .band))) (runFits f (y .level) (a .size) (a .numbers))
+    where
+      go : (p q : Bool) → eqb (ask p 13 (ask q 7 0)) 14 ≡ false
+      go true true = refl
+      go true false = refl
+      go false q = refl
+
+  taken-step : (b : Bool) (t : List Step) (a : Area) → feedTurned f W b t a ≡ 0 → (y : RowName) × ((u : List Step) × (t ≡ step.feed y ∷ u))
+  unfolding feedTurned
+  taken-step true t a e = absurd (omega arith)
+  taken-step false [] a e = absurd (omega arith)
+  taken-step false (step.draw r ∷ t) a e = absurd (omega arith)
+  taken-step false (step.feed y ∷ t) a e = (y, (t, refl))
+
+  fits-taken : (x : RowName) (t : List Step) (a : Area) → FitsRow f W x a → feedTurned f W false (step.feed x ∷ t) a ≡ 0
+  unfolding feedTurned
+  fits-taken x t a h = rw (eq-eqb (a .size) (bandColumns W (x .level) (x .band)) (h .size), h .numbers) refl
+
+-- ---- what an event does to the steps left, t
+data Effect (t : List Step) (e : Event) : Type 0 where
+  same : goesOn e ≡ false → ends e ≡ false → takesRun e ≡ [] → Effect t e
+  fed-on : (y : RowName) (u : List Step) (a : Area) → t ≡ step.feed y ∷ u → goesOn e ≡ true → takesRun e ≡ a ∷ [] → Effect t e
+  drawn-on : (r : ℕ) (u : List Step) → t ≡ step.draw r ∷ u → goesOn e ≡ true → takesRun e ≡ [] → Effect t e
+  fed-ends : (a : Area) → takesRun e ≡ a ∷ [] → ends e ≡ true → Effect t e
+  drawn-ends : (r : ℕ) (u : List Step) → t ≡ step.draw r ∷ u → ends e ≡ true → Effect t e
+
+-- a draw
+drawn-effect : (W : Side) (t : List Step) (a b : Area) (v : Reply Given) → OneOf v (drawSays W false t (a .size)) (refused 14) →
+    (v ≡ refused 14 → drawSays W false t (a .size) ≡ gives (heights (W .length))) → Effect t (drew a v b)
+unfolding drawSays goesOn ends takesRun
+drawn-effect W [] a b v (this e) p = rw e (same refl refl refl)
+drawn-effect W (step.feed y ∷ t) a b v (this e) p = rw e (same refl refl refl)
+drawn-effect W (step.draw r ∷ t) a b v (this e) p = rw e (go (leb (W .length) (a .size)))
+  where
+    go : (q : Bool) → Effect (step.draw r ∷ t) (drew a (pick q (gives (heights (W .length))) (refused 12)) b)
+    go true = drawn-on r t refl refl refl
+    go false = same refl refl refl
+drawn-effect W [] a b v (that e) p = absurd (let g = p e in let z : _≡_ {A = ℕ} 0 1 = cc in omega arith)
+drawn-effect W (step.feed y ∷ t) a b v (that e) p = absurd (let g = p e in let z : _≡_ {A = ℕ} 0 1 = cc in omega arith)
+drawn-effect W (step.draw r ∷ t) a b v (that e) p = rw e (drawn-ends r t refl refl)
+
+-- ---- every list of calls on the fresh reader
+module _ (f : ℕ) (W H : Side) (L m : ℕ) (across : W .start ≤ maxOrigin) (down : H .start ≤ maxOrigin) (ok : setUpQuestion f W H L m ≡ 0) (x₀ : ℕ → ℤ) where
+  abbrev w₀ : World
+  w₀ = freshWorld f W H L m x₀
+
+  abbrev T₀ : List Step
+  T₀ = steps (ahead f) W H L
+
+  claim : (cs : List Call) → Demand3 f W H L (events cs w₀) (λ c. event c (final cs w₀))
+  claim cs = demand-3 f W H L m across down ok x₀ cs .claim
+
+  effect : (cs : List Call) (c : Call) → endedBy (events cs w₀) ≡ false → Effect (left T₀ (events cs w₀)) (event c (final cs w₀))
+  unfolding event goesOn ends takesRun
+  effect cs want h = same refl refl refl
+  effect cs (feed a) h = go (feedTurned f W (endedBy (events cs w₀)) (left T₀ (events cs w₀)) a) refl
+    where
+      on : feedTurned f W (endedBy (events cs w₀)) (left T₀ (events cs w₀)) a ≡ 0 →
+          OneOf (event (feed a) (final cs w₀)) (fed a (gives tt)) (fed a (refused 14)) → Effect (left T₀ (events cs w₀)) (event (feed a) (final cs w₀))
+      on z (this e) = let s = taken-step f W _ _ a z in subst (Effect (left T₀ (events cs w₀))) (sym e) (fed-on (s .0) (s .1 .0) a (s .1 .1) refl refl)
+      on z (that e) = subst (Effect (left T₀ (events cs w₀))) (sym e) (fed-ends a refl refl)
+
+      go : (q : ℕ) → feedTurned f W (endedBy (events cs w₀)) (left T₀ (events cs w₀)) a ≡ q → Effect (left T₀ (events cs w₀)) (event (feed a) (final cs w₀))
+      go zero z = on z (claim cs .feeds-on a z)
+      go (suc q) z =
+          let no : eqb (suc q) 14 ≡ false = ap (λ k. eqb k 14) (sym z) ∙ not-fourteen f W (endedBy (events cs w₀)) (left T₀ (events cs w₀)) a in
+          subst (Effect (left T₀ (events cs w₀))) (sym (claim cs .feeds-turned a q z)) (same refl no (ap (λ b. pick b (a ∷ []) []) no))
+  effect cs (draw a) h =
+      let d = claim cs .draws a in
+      subst (Effect (left T₀ (events cs w₀))) (sym (d .is))
+      (drawn-effect W (left T₀ (events cs w₀)) a (d .after) (d .answer)
+      (subst (λ b. OneOf (d .answer) (drawSays W b (left T₀ (events cs w₀)) (a .size)) (refused 14)) h (d .says))
+      (λ e. ap (λ b. drawSays W b (left T₀ (events cs w₀)) (a .size)) (sym h) ∙ d .possible e))
+
+  -- one call more
+  module _ (cs : List Call) (d : Call) where
+    abbrev es : List Event
+    es = events cs w₀
+
+    abbrev seen : Event
+    seen = event d (final cs w₀)
+
+    after : events (cs ++ (d ∷ [])) w₀ ≡ es ++ (seen ∷ [])
+    after = events-snoc event demand.next cs d w₀
+
+    left-after : left T₀ (events (cs ++ (d ∷ [])) w₀) ≡ pick (goesOn seen) (rest (left T₀ es)) (left T₀ es)
+    unfolding left leftBy
+    left-after = ap (left T₀) after ∙ left-append T₀ es (seen ∷ [])
+
+    ended-after : endedBy (events (cs ++ (d ∷ [])) w₀) ≡ pick (endedBy es) true (ends seen)
+    ended-after = ap endedBy after ∙ ever-snoc ends es seen
+
+    taken-after : gathered takesRun (events (cs ++ (d ∷ [])) w₀) ≡ gathered takesRun es ++ takesRun seen
+    taken-after = ap (gathered takesRun) after ∙ gathered-snoc takesRun es seen
+
+  -- ---- as many band rows are gone from the steps as runs were taken
+  abbrev Counted : List Call → Type 0
+  Counted cs = endedBy (events cs w₀) ≡ false → bandRowsOf (left T₀ (events cs w₀)) ≡ drop (length (gathered takesRun (events cs w₀))) (bandRowsOf T₀)
+
+  neither : (p q : Bool) → pick p true q ≡ false → (p ≡ false) × (q ≡ false)
+  neither true q e = absurd (let z : _≡_ {A = ℕ} 0 1 = cc in omega arith)
+  neither false q e = (refl, e)
+
+  -- v are the runs taken before, and t the steps left before
+  counted-by : (t : List Step) (e : Event) (v : List Area) → bandRowsOf t ≡ drop (length v) (bandRowsOf T₀) → ends e ≡ false → Effect t e →
+      bandRowsOf (pick (goesOn e) (rest t) t) ≡ drop (length (v ++ takesRun e)) (bandRowsOf T₀)
+  unfolding bandRowsOf
+  counted-by t e v h k (same g n s) = rw (g, s, append-nil v) h
+  counted-by t e v h k (fed-on y u a i g s) =
+      let one : length (v ++ (a ∷ [])) ≡ suc (length v) = let l = length-append v (a ∷ []) in omega arith in
+      rw (g, s, one, i) (drop-next (length v) (bandRowsOf T₀) y (bandRowsOf u) (sym (ap bandRowsOf i) ∙ h))
+  counted-by t e v h k (drawn-on r u i g s) = rw (g, s, append-nil v, i) (sym (ap bandRowsOf i) ∙ h)
+  counted-by t e v h k (fed-ends a s n) = absurd (let z : true ≡ false = sym n ∙ k in let y : _≡_ {A = ℕ} 0 1 = cc in omega arith)
+  counted-by t e v h k (drawn-ends r u i n) = absurd (let z : true ≡ false = sym n ∙ k in let y : _≡_ {A = ℕ} 0 1 = cc in omega arith)
+
+  counted-call : (cs : List Call) (d : Call) → Counted cs → Counted (cs ++ (d ∷ []))
+  counted-call cs d h n =
+      let b = neither (endedBy (events cs w₀)) (ends (event d (final cs w₀))) (sym (ended-after cs d) ∙ n) in
+      ap bandRowsOf (left-after cs d)
+      ∙ counted-by (left T₀ (events cs w₀)) (event d (final cs w₀)) (gathered takesRun (events cs w₀)) (h (b .0)) (b .1) (effect cs d (b .0))
+      ∙ ap (λ l. drop (length l) (bandRowsOf T₀)) (sym (taken-after cs d))
+
+  counted-list : (ds cs : List Call) → Counted cs → Counted (cs ++ ds)
+  counted-list [] cs h = subst Counted (sym (append-nil cs)) h
+  counted-list (d ∷ ds) cs h = subst Counted (append-assoc cs (d ∷ []) ds) (counted-list ds (cs ++ (d ∷ [])) (counted-call cs d h))
+
+  counted : (cs : List Call) → Counted cs
+  unfolding lists.events lists.gathered left
+  counted cs = counted-list cs [] (λ n. refl)
+
+  -- ---- a row that is named
+  record Named (cs : List Call) (x : RowName) : Type 0 where
+    live : endedBy (events cs w₀) ≡ false
+    later : List Step
+    next : left T₀ (events cs w₀) ≡ step.feed x ∷ later
+
+  is-named : (cs : List Call) (c : Call) (x : RowName) → namesRow (event c (final cs w₀)) ≡ x ∷ [] → Named cs x
+  unfolding event namesRow
+  is-named cs want x e =
+      let a = asks-row f W (endedBy (events cs w₀)) (left T₀ (events cs w₀)) x (ap namesRow (sym (claim cs .wants)) ∙ e) in
+      record { live = a .0; later = a .1 .0; next = a .1 .1 }
+  is-named cs (feed a) x e = absurd (let z : _≡_ {A = ℕ} 0 1 = cc in omega arith)
+  is-named cs (draw a) x e = absurd (let z : _≡_ {A = ℕ} 0 1 = cc in omega arith)
+
+  named-is : (cs : List Call) (x : RowName) → Named cs x → namesRow (event want (final cs w₀)) ≡ x ∷ []
+  named-is cs x n =
+      ap namesRow (claim cs .wants ∙ ap₂ (λ b t. wanted (gives (wantSays W b t))) (n .live) (n .next)) ∙ names-it f W x (n .later)
+
+  stays : (cs : List Call) (d : Call) (x : RowName) → Named cs x → takesRun (event d (final cs w₀)) ≡ [] →
+      Effect (left T₀ (events cs w₀)) (event d (final cs w₀)) → Named (cs ++ (d ∷ [])) x
+  stays cs d x n s (same g k t) = record {
+    live = ended-after cs d ∙ ap₂ (λ p q. pick p true q) (n .live) k;
+    later = n .later;
+    next = left-after cs d ∙ ap (λ b. pick b (rest (left T₀ (events cs w₀))) (left T₀ (events cs w₀))) g ∙ n .next;
+  }
+  stays cs d x n s (fed-on y u a i g t) = absurd (let z : a ∷ [] ≡ [] = sym t ∙ s in let y : _≡_ {A = ℕ} 0 1 = cc in omega arith)
+  stays cs d x n s (drawn-on r u i g t) =
+      absurd (let z : step.draw r ∷ u ≡ step.feed x ∷ n .later = sym i ∙ n .next in let y : _≡_ {A = ℕ} 0 1 = cc in omega arith)
+  stays cs d x n s (fed-ends a t k) = absurd (let z : a ∷ [] ≡ [] = sym t ∙ s in let y : _≡_ {A = ℕ} 0 1 = cc in omega arith)
+  stays cs d x n s (drawn-ends r u i k) =
+      absurd (let z : step.draw r ∷ u ≡ step.feed x ∷ n .later = sym i ∙ n .next in let y : _≡_ {A = ℕ} 0 1 = cc in omega arith)
+
+  takes-it : (a : Area) (e : Event) → OneOf e (fed a (gives tt)) (fed a (refused 14)) → takesRun e ≡ a ∷ []
+  unfolding takesRun
+  takes-it a e (this i) = ap takesRun i
+  takes-it a e (that i) = ap takesRun i
+
+  next-of : (cs : List Call) (x : RowName) → Named cs x →
+      drop (length (gathered takesRun (events cs w₀))) (bandRowsOf T₀) ≡ x ∷ drop (suc (length (gathered takesRun (events cs w₀)))) (bandRowsOf T₀)
+  next-of cs x n =
+      let k = length (gathered takesRun (events cs w₀)) in
+      let here : x ∷ bandRowsOf (n .later) ≡ drop k (bandRowsOf T₀) = unfold bandRowsOf in (sym (ap bandRowsOf (n .next)) ∙ counted cs (n .live)) in
+      sym here ∙ ap (λ l. x ∷ l) (drop-next k (bandRowsOf T₀) x (bandRowsOf (n .later)) here)
+
+  pub standing-laws : ReadingLaws (standing f W H L m x₀)
+  standing-laws = record {
+    names-next = λ cs c x e. next-of cs x (is-named cs c x e);
+    names-stay = λ cs c d x e s. let n = is-named cs c x e in named-is (cs ++ (d ∷ [])) x (stays cs d x n s (effect cs d (n .live)));
+    takes-named = λ cs c x a e h.
+        let n = is-named cs c x e in
+        takes-it a (event (feed a) (final cs w₀))
+        (claim cs .feeds-on a (ap₂ (λ b t. feedTurned f W b t a) (n .live) (n .next) ∙ fits-taken f W x (n .later) a h));
+  }
+
+-- ---- so sixteen of them, of whatever filters, sizes, levels and stores, of which reader n was set up by a call that passed
+pub standing-in-turn : (f : ℕ → ℕ) (W H : ℕ → Side) (L m : ℕ → ℕ) (x : ℕ → ℕ → ℤ) (n : ℕ) → W n .start ≤ maxOrigin → H n .start ≤ maxOrigin →
+    setUpQuestion (f n) (W n) (H n) (L n) (m n) ≡ 0 → (disk : RowName → Area) →
+    (w : together.World (λ k. standing (f k) (W k) (H k) (L k) (m k) (x k))) → w .readers n ≡ freshWorld (f n) (W n) (H n) (L n) (m n) (x n) →
+    (cs : List (together.Call (λ k. standing (f k) (W k) (H k) (L k) (m k) (x k)))) →
+    InTurn (standing (f n) (W n) (H n) (L n) (m n) (x n)) n disk false [] (moments (λ k. standing (f k) (W k) (H k) (L k) (m k) (x k)) n
+    (together.events (λ k. standing (f k) (W k) (H k) (L k) (m k) (x k)) cs w)) →
+    FedInOrder (λ k. standing (f k) (W k) (H k) (L k) (m k) (x k)) n disk
+    (together.events (λ k. standing (f k) (W k) (H k) (L k) (m k) (x k)) cs w)
+    (λ c. event c (together.final (λ k. standing (f k) (W k) (H k) (L k) (m k) (x k)) cs w .readers n))
+standing-in-turn f W H L m x n across down ok disk w at cs i =
+    fed-in-turn (λ k. standing (f k) (W k) (H k) (L k) (m k) (x k)) n (standing-laws (f n) (W n) (H n) (L n) (m n) across down ok (x n)) disk w at cs i

@@ -1,0 +1,5 @@
+pub mod Families
+pub mod Reading
+pub mod Together
+pub mod FedInTurn
+pub mod Standing

@@ -1,0 +1,5 @@
+pub mod MarkLaws
+pub mod OrderLaws
+pub mod CallLaws
+pub mod Lists
+pub mod Samples

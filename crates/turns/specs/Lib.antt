@@ -1,0 +1,5 @@
+pub mod Marks
+pub mod Order
+pub mod Answers
+pub mod Calls
+pub mod Lists
