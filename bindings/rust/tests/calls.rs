@@ -142,6 +142,18 @@ fn a_profile() {
 }
 
 #[test]
+fn a_nearest_change() {
+    let flat = [65_535; 4];
+    assert_eq!(nearest_change(&flat, 2, 2, 0, 0), Ok(Change { row: 0, column: 0, height: 65_531 }));
+    assert_eq!(nearest_change(&[7], 1, 1, 0, 0), Ok(Change { row: 0, column: 0, height: 8 }));
+    let turned_away = |number| Err(Question { call: Call::NearestChange, number });
+    assert_eq!(nearest_change(&flat, 0, 2, 0, 0), turned_away(2));
+    assert_eq!(nearest_change(&flat, 2, 0, 0, 0), turned_away(3));
+    assert_eq!(nearest_change(&flat, 2, 3, 0, 0), turned_away(5));
+    assert_eq!(nearest_change(&flat, 2, 2, 0, 1), turned_away(6));
+}
+
+#[test]
 fn the_questions() {
     let number = |e: Question| e.number;
     let mut store = [0; 40];
