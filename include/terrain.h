@@ -182,6 +182,16 @@ uint32_t terrain_map_backward(const int32_t *plane, size_t plane_len, terrain_sh
 TERRAIN_CHECKED
 uint32_t terrain_band_row(size_t plane_len, terrain_shape shape, size_t level, size_t band, size_t row, size_t *start, size_t *length);
 
+/* How near a cell is to changing: of all changes of one height of the map to another height, 0 to 65,535, that alter the value of cell (row,
+ * column) of the level-1 LL (5/3, a map that starts at 0), the one with the smallest difference between new and old height; of these a raise
+ * before a cut, then the upper row, then the left column. change[0] and change[1] are the row and the column of that height, change[2] is
+ * the new height. There always is one, and its difference is 1 to 4. 25 heights are read, and the work does not grow with the map.
+ * 2 (width), 3 (height), 5 (fewer than width * height heights), 6 (row or column is outside LL, which has (height + 1) / 2 rows of (width +
+ * 1) / 2 cells). Where a question says no, `change` stays. */
+TERRAIN_CHECKED
+uint32_t terrain_nearest_change(const uint16_t *heights, size_t heights_len, size_t width, size_t height, size_t row, size_t column,
+                                uint64_t change[3]);
+
 /* Streams. A writer takes heights row by row, in runs cut anywhere, and gives the band rows of the map's plane as soon as they are due; a
  * reader takes band rows in the order that it wants and gives height rows. Both work in a line store that the caller lends to each call,
  * and their state is the caller's array of sixteen numbers. Set-up writes the array; the program keeps it and the store as they are
@@ -284,7 +294,7 @@ TERRAIN_INLINE const char *terrain_sentence(uint32_t number)
         "the height is not 1 to 4,294,967,295",                                        /* 3 */
         "the number of levels is not 1 to 5, by the 9/7 1 to 4",                       /* 4 */
         "an area that was lent is too short",                                          /* 5 */
-        "there is no such band row",                                                   /* 6 */
+        "there is no such band row, or no such cell",                                  /* 6 */
         "a coefficient is outside its level's range",                                  /* 7 */
         "it is not this call's turn: a band row waits to be drawn, or none is wanted", /* 8 */
         "it is over: the writer is finished, or the reader ended after 14",            /* 9 */

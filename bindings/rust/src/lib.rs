@@ -47,6 +47,7 @@
 
 mod line;
 mod map;
+mod nearest_change;
 mod picture;
 mod profile;
 mod question;
@@ -59,6 +60,7 @@ mod owned;
 
 pub use line::{ccsds_line_backward, ccsds_line_forward, line_backward, line_forward};
 pub use map::{band_row, map_backward, map_forward, view, Shape};
+pub use nearest_change::{nearest_change, Change};
 pub use picture::{picture_head, picture_row};
 pub use profile::profile;
 pub use question::{Call, Question};

@@ -11,6 +11,7 @@ pub enum Call {
     MapForward,
     MapBackward,
     View,
+    NearestChange,
     WriterSetUp,
     Offer,
     WriterDraw,
@@ -61,7 +62,9 @@ impl Question {
                 "heights, plane or work area is shorter than width times height"
             }
             (5, Call::View) => "the plane is shorter than width times height",
+            (5, Call::NearestChange) => "there are fewer than width times height heights",
             (5, _) => "the line store is too short",
+            (6, Call::NearestChange) => "there is no such cell: LL has half as many rows and columns as the map, rounded up",
             (6, _) => "there is no such band row at this level",
             (7, _) => "a coefficient is outside its level's range, so no map has it",
             (8, Call::Feed) => {

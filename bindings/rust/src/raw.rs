@@ -86,6 +86,15 @@ mod c {
             start: *mut usize,
             length: *mut usize,
         ) -> u32;
+        pub fn terrain_nearest_change(
+            heights: *const u16,
+            heights_len: usize,
+            width: usize,
+            height: usize,
+            row: usize,
+            column: usize,
+            change: *mut [u64; 3],
+        ) -> u32;
         pub fn terrain_store_length(shape: Shape) -> usize;
         pub fn terrain_writer_set_up(state: *mut [u64; 16], shape: Shape, store: *mut i32, store_len: usize) -> u32;
         pub fn terrain_writer_offer(
@@ -187,6 +196,10 @@ pub fn band_row(
     length: &mut usize,
 ) -> u32 {
     unsafe { c::terrain_band_row(plane_len, shape, level, band, row, start, length) }
+}
+
+pub fn nearest_change(heights: &[u16], width: usize, height: usize, row: usize, column: usize, change: &mut [u64; 3]) -> u32 {
+    unsafe { c::terrain_nearest_change(heights.as_ptr(), heights.len(), width, height, row, column, change) }
 }
 
 pub fn store_length(shape: Shape) -> usize {

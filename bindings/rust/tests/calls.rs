@@ -156,6 +156,18 @@ fn turns() {
 }
 
 #[test]
+fn a_nearest_change() {
+    let flat = [65_535; 4];
+    assert_eq!(nearest_change(&flat, 2, 2, 0, 0), Ok(Change { row: 0, column: 0, height: 65_531 }));
+    assert_eq!(nearest_change(&[7], 1, 1, 0, 0), Ok(Change { row: 0, column: 0, height: 8 }));
+    let turned_away = |number| Err(Question { call: Call::NearestChange, number });
+    assert_eq!(nearest_change(&flat, 0, 2, 0, 0), turned_away(2));
+    assert_eq!(nearest_change(&flat, 2, 0, 0, 0), turned_away(3));
+    assert_eq!(nearest_change(&flat, 2, 3, 0, 0), turned_away(5));
+    assert_eq!(nearest_change(&flat, 2, 2, 0, 1), turned_away(6));
+}
+
+#[test]
 fn the_questions() {
     let number = |e: Question| e.number;
     let mut store = [0; 40];
@@ -224,7 +236,7 @@ fn a_question_prints_a_sentence() {
 /// docs/DECISIONS.md, "The questions, call by call".
 #[test]
 fn every_question_of_every_call_has_a_sentence() {
-    let questions: [(Call, &[u32]); 18] = [
+    let questions: [(Call, &[u32]); 19] = [
         (Call::Line, &[5, 14]),
         (Call::Profile, &[2, 5]),
         (Call::Picture, &[2, 3]),
@@ -243,6 +255,7 @@ fn every_question_of_every_call_has_a_sentence() {
         (Call::Mark, &[1, 21]),
         (Call::Clear, &[1, 21]),
         (Call::Turn, &[1]),
+        (Call::NearestChange, &[2, 3, 5, 6]),
     ];
     let none = Question { call: Call::Line, number: 0 }.sentence();
     for (call, numbers) in questions {

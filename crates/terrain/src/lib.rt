@@ -2,6 +2,7 @@
 mod fixed_form;
 mod line;
 mod map;
+mod near;
 mod reader_calls;
 mod smooth;
 mod turns_calls;

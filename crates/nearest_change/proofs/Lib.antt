@@ -1,0 +1,13 @@
+pub mod FiveLaws
+pub mod LineLaws
+pub mod CellLaws
+pub mod RiseLaws
+pub mod WindowLaws
+pub mod TrialLaws
+pub mod NearLaws
+pub mod NearestTheorem
+pub mod StepLaws
+pub mod FillLaws
+pub mod QuestionLaws
+pub mod FindLaws
+pub mod AlwaysOne

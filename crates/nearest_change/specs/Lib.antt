@@ -1,0 +1,3 @@
+pub mod NearestChange
+pub mod Calls
+pub mod Trials
