@@ -3,11 +3,21 @@
 use std::path::Path;
 
 fn main() {
-    let root = Path::new(env!("CARGO_MANIFEST_DIR")).parent().expect("tests/ stands in the repository");
-    let built = root.join("target").join("staticlib");
+    let root = Path::new(env!("CARGO_MANIFEST_DIR"))
+        .parent()
+        .expect("tests/ stands in the repository");
+    println!("cargo:rerun-if-env-changed=TERRAIN_LIB");
+    let built = std::env::var_os("TERRAIN_LIB").map_or_else(
+        || root.join("target").join("staticlib"),
+        std::path::PathBuf::from,
+    );
     for name in ["terrain", "kernels"] {
         let archive = built.join(format!("lib{name}.a"));
-        assert!(archive.is_file(), "{} is missing: run `rt staticlib {name}`", archive.display());
+        assert!(
+            archive.is_file(),
+            "{} is missing: run `rt staticlib {name}`",
+            archive.display()
+        );
         println!("cargo:rerun-if-changed={}", archive.display());
     }
     println!("cargo:rustc-link-search=native={}", built.display());

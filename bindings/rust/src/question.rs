@@ -10,6 +10,7 @@ pub enum Call {
     Picture,
     MapForward,
     MapBackward,
+    MapMend,
     View,
     WriterSetUp,
     Offer,
@@ -27,7 +28,7 @@ pub enum Call {
 pub struct Question {
     /// The call that was turned away.
     pub call: Call,
-    /// The question's number: 1 to 14, or 18.
+    /// The question's number: 1 to 14, 18 or 19.
     pub number: u32,
 }
 
@@ -54,7 +55,7 @@ impl Question {
             (5, Call::WriterSetUp | Call::ReaderSetUp) => {
                 "the line store is too short: lend it store_length(shape) numbers"
             }
-            (5, Call::MapForward | Call::MapBackward) => {
+            (5, Call::MapForward | Call::MapBackward | Call::MapMend) => {
                 "heights, plane or work area is shorter than width times height"
             }
             (5, Call::View) => "the plane is shorter than width times height",
@@ -76,6 +77,7 @@ impl Question {
             (14, Call::MapBackward) => "no map has this plane",
             (14, _) => "no map has the rows that were fed: the reader has ended",
             (18, _) => "there is no such filter: 0 is the 5/3, 1 the 9/7",
+            (19, _) => "the rectangle is empty or leaves the map",
             _ => "no question has this number",
         }
     }

@@ -1,6 +1,7 @@
 pub mod Fits
 pub mod GridLaws
 pub mod GridReads
+pub mod Reach
 pub mod Filter
 pub mod Keeping
 pub mod TwoSteps

@@ -4,5 +4,6 @@ mod line;
 mod map;
 mod reader_calls;
 mod smooth;
+mod strokes_calls;
 mod version;
 mod writer_calls;
