@@ -103,6 +103,14 @@ TERRAIN_INLINE terrain_shape terrain_shape_of(size_t width, size_t height, size_
     return shape;
 }
 
+/* A rectangle of a map: its first column and row, counted from 0, its columns and its rows. It is passed by value. */
+typedef struct terrain_rectangle {
+    size_t left;
+    size_t top;
+    size_t width;
+    size_t height;
+} terrain_rectangle;
+
 #ifdef __cplusplus
 extern "C" {
 #endif
@@ -174,6 +182,18 @@ uint32_t terrain_map_forward(const uint16_t *heights, size_t heights_len, terrai
 TERRAIN_CHECKED
 uint32_t terrain_map_backward(const int32_t *plane, size_t plane_len, terrain_shape shape,
                               uint16_t *heights, size_t heights_len, int32_t *work, size_t work_len);
+
+/* A brush stroke: the plane of a map by the 5/3, from the origin, mended where a rectangle was painted. The heights are the new ones. What the
+ * rectangle reaches in the plane gets what the whole transform of the new heights has there; all else stays. So a plane that belonged to a
+ * map equal outside the rectangle is the new map's afterwards. The heights read are the rectangle widened by at most 4 * 2^levels - 2 each
+ * way, so the work goes with the rectangle, not with the map; but the work area, width * height numbers, is zeroed as by the whole map, which
+ * takes time with the map (docs/requests/Q-9.md has the figures).
+ *
+ * It answers 2, 3, 4 (1 to 5 levels), 5 (an area is too short) as above, and 19: the rectangle is empty or leaves the map, its sums taken
+ * without wrapping. A call that is turned away changes nothing. */
+TERRAIN_CHECKED
+uint32_t terrain_map_mend(const uint16_t *heights, size_t heights_len, size_t width, size_t height, size_t levels,
+                          terrain_rectangle rectangle, int32_t *plane, size_t plane_len, int32_t *work, size_t work_len);
 
 /* Where row `row` of a band (0 LL, 1 HL, 2 LH, 3 HH) of a level (1 the finest) stands in a plane of `plane_len` elements: its first
  * element and how many there are. Rows of a band are counted from 0, wherever the map starts. The place is the same by either filter, so
@@ -307,7 +327,7 @@ TERRAIN_INLINE const char *terrain_sentence(uint32_t number)
         "a sample exceeds the largest value that the picture's header names",          /* 16 */
         NULL,
         "there is no such filter",                                                     /* 18 */
-        NULL,
+        "the rectangle is empty or leaves the map",                                    /* 19 */
         NULL,
         "the reader's number is not 0 to 15"                                           /* 21 */
     };

@@ -50,6 +50,7 @@ fn in_rust(c_type: &str) -> String {
         "uint32_t" => "u32",
         "uint64_t" => "u64",
         "terrain_shape" => "Shape",
+        "terrain_rectangle" => "Rectangle",
         other => panic!("include/terrain.h: the type {other}"),
     }
     .to_string()
@@ -100,8 +101,8 @@ fn header() -> Calls {
 }
 
 /// The fields of a struct in Rust or Rattle text, by name and type; its attribute says that they stand as C's do.
-fn fields(text: &str) -> Vec<(String, String)> {
-    let (before, after) = text.split_once("pub struct Shape {").expect("a struct");
+fn fields(text: &str, name: &str) -> Vec<(String, String)> {
+    let (before, after) = text.split_once(&format!("pub struct {name} {{")).expect("a struct");
     assert!(before.contains("#[repr(C)]"));
     let body = after.split_once('}').expect("it ends").0;
     let named =
@@ -109,19 +110,25 @@ fn fields(text: &str) -> Vec<(String, String)> {
     named.map(|(name, of)| (name.to_string(), of.to_string())).collect()
 }
 
-#[test]
-fn a_shape_is_the_same_in_all_three() {
+/// The fields of a struct of the header.
+fn declared(name: &str) -> Vec<(String, String)> {
     let header = uncommented();
-    let body = header.split_once("typedef struct terrain_shape {").expect("the struct").1.split_once('}').expect("it ends").0;
-    let declared: Vec<(String, String)> = body
-        .split(';')
+    let body = header.split_once(&format!("typedef struct {name} {{")).expect("the struct").1.split_once('}').expect("it ends").0;
+    body.split(';')
         .map(str::trim)
         .filter(|f| !f.is_empty())
         .map(|f| f.split_once(' ').expect("type and name"))
         .map(|(of, name)| (name.trim().to_string(), in_rust(of)))
-        .collect();
-    assert_eq!(declared, fields(&text("bindings/rust/src/map.rs")));
-    assert_eq!(declared, fields(&text("crates/wavelet/src/shape.rt")));
+        .collect()
+}
+
+#[test]
+fn a_shape_and_a_rectangle_are_the_same_in_all_three() {
+    let structs = [("terrain_shape", "Shape", "crates/wavelet/src/shape.rt"), ("terrain_rectangle", "Rectangle", "crates/strokes/src/rectangle.rt")];
+    for (c, rust, rattle) in structs {
+        assert_eq!(declared(c), fields(&text("bindings/rust/src/map.rs"), rust));
+        assert_eq!(declared(c), fields(&text(rattle), rust));
+    }
 }
 
 /// The functions in Rust or Rattle text after each `mark`.
@@ -191,7 +198,7 @@ fn the_archive_exports_what_the_header_declares_and_nothing_else() {
     let exported: BTreeSet<String> = symbols().into_iter().filter(|(l, _)| l.is_ascii_uppercase() && *l != 'U').map(|(_, n)| n).collect();
     assert_eq!(exported, declared);
     assert!(symbols().iter().all(|(l, n)| !declared.contains(n) || *l == 'T'), "each is a function");
-    assert_eq!(declared.len(), 26);
+    assert_eq!(declared.len(), 27);
 }
 
 /// No heap, no file, no thread: it calls nothing but the C library's copies. No state: no data that can be written.

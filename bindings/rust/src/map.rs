@@ -39,6 +39,28 @@ pub fn map_forward(heights: &[u16], s: Shape, plane: &mut [i32], work: &mut [i32
     Question::of(Call::MapForward, raw::map_forward(heights, s, plane, work))
 }
 
+/// A rectangle of a map: its first column and row, counted from 0, its columns and its rows.
+#[repr(C)]
+#[derive(Clone, Copy, Debug, Default, PartialEq, Eq, Hash)]
+pub struct Rectangle {
+    pub left: usize,
+    pub top: usize,
+    pub width: usize,
+    pub height: usize,
+}
+
+/// The plane of a map by the 5/3, from the origin, mended after a stroke in a rectangle; the heights are the new ones. Of `s` the width, the
+/// height and the levels are read. What is out of the rectangle's reach stays; `work` is zero afterwards.
+pub fn map_mend(
+    heights: &[u16],
+    s: Shape,
+    rectangle: Rectangle,
+    plane: &mut [i32],
+    work: &mut [i32],
+) -> Result<(), Question> {
+    Question::of(Call::MapMend, raw::map_mend(heights, s.width, s.height, s.levels, rectangle, plane, work))
+}
+
 /// The one map that has this plane, or 7 or 14: none has it. 14 zeroes `heights` and `work`.
 pub fn map_backward(plane: &[i32], s: Shape, heights: &mut [u16], work: &mut [i32]) -> Result<(), Question> {
     Question::of(Call::MapBackward, raw::map_backward(plane, s, heights, work))

@@ -10,6 +10,7 @@ pub enum Call {
     Picture,
     MapForward,
     MapBackward,
+    MapMend,
     View,
     NearestChange,
     WriterSetUp,
@@ -31,7 +32,7 @@ pub enum Call {
 pub struct Question {
     /// The call that was turned away.
     pub call: Call,
-    /// The question's number: 1 to 14, 18, or 21.
+    /// The question's number: 1 to 14, 18, 19 or 21.
     pub number: u32,
 }
 
@@ -58,7 +59,7 @@ impl Question {
             (5, Call::WriterSetUp | Call::ReaderSetUp) => {
                 "the line store is too short: lend it store_length(shape) numbers"
             }
-            (5, Call::MapForward | Call::MapBackward) => {
+            (5, Call::MapForward | Call::MapBackward | Call::MapMend) => {
                 "heights, plane or work area is shorter than width times height"
             }
             (5, Call::View) => "the plane is shorter than width times height",
@@ -82,6 +83,7 @@ impl Question {
             (14, Call::MapBackward) => "no map has this plane",
             (14, _) => "no map has the rows that were fed: the reader has ended",
             (18, _) => "there is no such filter: 0 is the 5/3, 1 the 9/7",
+            (19, _) => "the rectangle is empty or leaves the map",
             (21, _) => "the reader's number is not 0 to 15",
             _ => "no question has this number",
         }

@@ -8,10 +8,10 @@
 /// A writer or reader as the library keeps it. Any numbers may be lent: those that are no state of the call's kind are answered by 1.
 pub type State = [u64; 16];
 
-use crate::Shape;
+use crate::{Rectangle, Shape};
 
 mod c {
-    use super::Shape;
+    use super::{Rectangle, Shape};
 
     extern "C" {
         pub fn terrain_version() -> u32;
@@ -63,6 +63,18 @@ mod c {
             heights: *const u16,
             heights_len: usize,
             shape: Shape,
+            plane: *mut i32,
+            plane_len: usize,
+            work: *mut i32,
+            work_len: usize,
+        ) -> u32;
+        pub fn terrain_map_mend(
+            heights: *const u16,
+            heights_len: usize,
+            width: usize,
+            height: usize,
+            levels: usize,
+            rectangle: Rectangle,
             plane: *mut i32,
             plane_len: usize,
             work: *mut i32,
@@ -179,6 +191,20 @@ pub fn picture_row(heights: &[u16], from: usize, out: &mut [u8]) -> usize {
 pub fn map_forward(heights: &[u16], shape: Shape, plane: &mut [i32], work: &mut [i32]) -> u32 {
     let (from, to, between) = (heights.as_ptr(), plane.as_mut_ptr(), work.as_mut_ptr());
     unsafe { c::terrain_map_forward(from, heights.len(), shape, to, plane.len(), between, work.len()) }
+}
+
+pub fn map_mend(
+    heights: &[u16],
+    width: usize,
+    height: usize,
+    levels: usize,
+    rectangle: Rectangle,
+    plane: &mut [i32],
+    work: &mut [i32],
+) -> u32 {
+    let (from, to, between) = (heights.as_ptr(), plane.as_mut_ptr(), work.as_mut_ptr());
+    let (n, m, k) = (heights.len(), plane.len(), work.len());
+    unsafe { c::terrain_map_mend(from, n, width, height, levels, rectangle, to, m, between, k) }
 }
 
 pub fn map_backward(plane: &[i32], shape: Shape, heights: &mut [u16], work: &mut [i32]) -> u32 {

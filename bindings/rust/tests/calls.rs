@@ -236,12 +236,13 @@ fn a_question_prints_a_sentence() {
 /// docs/DECISIONS.md, "The questions, call by call".
 #[test]
 fn every_question_of_every_call_has_a_sentence() {
-    let questions: [(Call, &[u32]); 19] = [
+    let questions: [(Call, &[u32]); 20] = [
         (Call::Line, &[5, 14]),
         (Call::Profile, &[2, 5]),
         (Call::Picture, &[2, 3]),
         (Call::MapForward, &[2, 3, 18, 4, 5]),
         (Call::MapBackward, &[2, 3, 18, 4, 5, 7, 14]),
+        (Call::MapMend, &[2, 3, 4, 5, 19]),
         (Call::View, &[2, 3, 4, 5, 6]),
         (Call::WriterSetUp, &[2, 18, 4, 5]),
         (Call::Offer, &[1, 5, 9, 8, 10]),

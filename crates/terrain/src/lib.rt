@@ -5,6 +5,7 @@ mod map;
 mod near;
 mod reader_calls;
 mod smooth;
+mod strokes_calls;
 mod turns_calls;
 mod version;
 mod writer_calls;

@@ -1,0 +1,80 @@
+-- The window of one direction holds all that the reach of the changed places depends on, at every level. Q is 2 to the power of the levels left. Assumes
+-- nothing.
+use mathlib.Core.Path.{_≡_, sym, ap, _∙_}
+use mathlib.Core.Logic.{_⊎_, inl, inr, ⊎-elim}
+use mathlib.Core.Bool.{true}
+use Prim.Native.Nat.{ℕ, _+_, _-_, _*_, _/_, _≤_, _<_}
+use native.Mathlib.Omega.{arith}
+use borrow.Author.Tests.{leb-true}
+use Rattle.numbers.proofs.Sweep.{both as both-yes}
+use Rattle.lifting.specs.Line.{Half, lo, hi}
+use Rattle.lifting.specs.Grid.{side, count}
+use Rattle.strokes.specs.Reach.{Span, changed, reached, lowSpan}
+use Rattle.strokes.specs.Local.{Cut, Sound, Cover}
+
+-- number n of a half, in a window: its number there, and that it is right
+pub record Held (u v t w : ℕ) (h : Half) (n : ℕ) : Type 0 where
+  pub past : t ≤ n
+  pub in-half : n - t < count h (side 0 w)
+  pub left : v ≤ n - t
+  pub right : n - t + u < (w + 1) / 2
+
+module _ (u v N a t w : ℕ) (s : Span) (C : Cut u v N a t w) where
+  -- the window of the next level
+  pub cut-next : (t′ : ℕ) → t ≡ 2 * t′ → Cut u v (count lo (side 0 N)) t t′ (count lo (side 0 w))
+  unfolding count
+  cut-next t′ e =
+      let c = C .even in
+      let i = C .inside in
+      record {
+        even = e;
+        inside = omega arith;
+        left = ⊎-elim (λ k. inl (k .0, omega arith)) (λ k. inr k) (C .left);
+        right = ⊎-elim (λ k. inl (k .0, omega arith)) (λ k. inr k) (C .right);
+      }
+
+  pub cover-next : (q : ℕ) → Cover u v (2 * q) a w s → Cover u v q t (count lo (side 0 w)) (lowSpan s)
+  unfolding count lowSpan
+  cover-next q K =
+      let c = C .even in
+      record {
+        left = ⊎-elim (λ e. inl e) (λ e. inr (omega arith)) (K .left);
+        right = ⊎-elim (λ e. inl e) (λ e. inr (omega arith)) (K .right);
+      }
+
+  -- at each end of the window: it is the line's own, or the changed places are far from it
+  leftly : {A : Type 0} (Q : ℕ) → ((v ≡ 0) × (a ≡ 0) → A) → ((v ≤ 2) × (a + 3 * Q ≤ s .first + 1) → A) → Cover u v Q a w s → A
+  leftly Q own far K = ⊎-elim own (λ two. ⊎-elim (λ z. absurd (omega arith)) (λ k. far (omega arith, k)) (K .left)) (C .left)
+
+  rightly : {A : Type 0} (Q : ℕ) → ((u ≡ 0) × (a + w ≡ N) → A) → ((u ≤ 2) × (s .last + 4 * Q ≤ a + w + 1) → A) → Cover u v Q a w s → A
+  rightly Q own far K = ⊎-elim own (λ two. ⊎-elim (λ z. absurd (omega arith)) (λ k. far (omega arith, k)) (K .right)) (C .right)
+
+  near : (h : Half) (n : ℕ) → reached s h n ≡ true → (2 * n ≤ s .last + 2) × (s .first ≤ 2 * n + 2)
+  unfolding reached
+  near lo n e = let k = both-yes _ _ e in (leb-true (2 * n) (s .last + 2) (k .0), leb-true (s .first) (2 * n + 2) (k .1))
+  near hi n e = let k = both-yes _ _ e in let m = leb-true (2 * n) (s .last) (k .0) in (omega arith, leb-true (s .first) (2 * n + 2) (k .1))
+
+  -- what is reached is held
+  pub held : (q : ℕ) → 1 ≤ q → Cover u v (2 * q) a w s → (h : Half) (n : ℕ) → n < count h (side 0 N) → reached s h n ≡ true → Held u v t w h n
+  unfolding count
+  held q some K lo n b e =
+      let c = C .even in
+      let i = C .inside in
+      let k = near lo n e in
+      leftly (2 * q) (λ l. rightly (2 * q) (λ r. omega arith) (λ r. omega arith) K) (λ l. rightly (2 * q) (λ r. omega arith) (λ r. omega arith) K) K
+  held q some K hi n b e =
+      let c = C .even in
+      let i = C .inside in
+      let k = near hi n e in
+      leftly (2 * q) (λ l. rightly (2 * q) (λ r. omega arith) (λ r. omega arith) K) (λ l. rightly (2 * q) (λ r. omega arith) (λ r. omega arith) K) K
+
+  -- and where no level is left, what is changed
+  pub held-last : Cover u v 1 a w s → (i : ℕ) → i < N → changed s i ≡ true → (a ≤ i) × Sound u v w (i - a)
+  unfolding changed
+  held-last K i b e =
+      let c = C .even in
+      let j = C .inside in
+      let k = both-yes _ _ e in
+      let f = leb-true (s .first) i (k .0) in
+      let g = leb-true i (s .last) (k .1) in
+      leftly 1 (λ l. rightly 1 (λ r. omega arith) (λ r. omega arith) K) (λ l. rightly 1 (λ r. omega arith) (λ r. omega arith) K) K

@@ -1,0 +1,16 @@
+pub mod LineAtZero
+pub mod WindowLaws
+pub mod CoverLaws
+pub mod ColumnTurns
+pub mod CallLaws
+pub mod RowCalls
+pub mod PatchLaws
+pub mod LevelLaws
+pub mod DirectionLaws
+pub mod BandLaws
+pub mod MendTurn
+pub mod StepLaws
+pub mod Standing
+pub mod MapCall
+pub mod ReachLaws
+pub mod MendLaws
