@@ -117,6 +117,35 @@ fn an_editor() {
     }
 }
 
+/// Two artists in rectangles that share no height: either order of their strokes ends in the same plane, from any plane, and from the starting
+/// map's it is the bake's.
+#[test]
+fn two_artists() {
+    let random = &mut Random::new(41);
+    for _ in 0..300 {
+        let s = Shape::new(2 + random.below(50), 1 + random.below(50), 1 + random.below(5));
+        let edge = 1 + random.below(s.width - 1);
+        let within = |random: &mut Random, from: usize, to: usize| {
+            let first = from + random.below(to - from);
+            (first, 1 + random.below(to - first))
+        };
+        let mut rectangle = |from, to| {
+            let ((left, width), (top, height)) = (within(random, from, to), within(random, 0, s.height));
+            Rectangle { left, top, width, height }
+        };
+        let (p, q) = (rectangle(0, edge), rectangle(edge, s.width));
+        let start = heights(random, s.width * s.height);
+        let (one, other) = (painted(random, &start, s, p), painted(random, &start, s, q));
+        let both: Vec<u16> = (0..start.len()).map(|i| if one[i] != start[i] { one[i] } else { other[i] }).collect();
+        for before in [forward(&start, s), start.iter().map(|_| random.word()).collect()] {
+            let first = stroke(&both, s, q, &stroke(&one, s, p, &before));
+            let second = stroke(&both, s, p, &stroke(&other, s, q, &before));
+            assert_eq!(first, second, "{s:?} {p:?} {q:?}");
+            assert!(before != forward(&start, s) || first == forward(&both, s), "{s:?} {p:?} {q:?}");
+        }
+    }
+}
+
 /// 2, 3, 4, 5 of each area, 19, in this order; nothing is changed.
 #[test]
 fn turned_away() {

@@ -14,3 +14,4 @@ pub mod Standing
 pub mod MapCall
 pub mod ReachLaws
 pub mod MendLaws
+pub mod ArtistLaws

@@ -1,3 +1,4 @@
 pub mod Reach
 pub mod Strokes
+pub mod Artists
 pub mod Local
