@@ -28,7 +28,7 @@ static uint16_t height_at(uint32_t x, uint32_t y)
     if (within(x, y, 12, 66, 60, 92)) h = 14000 + ((int64_t)y - 66) / 5 * 1500; /* terraces, five rows each */
     if (within(x, y, 88, 10, 118, 40)) h += (x + y) % 2 * 1200;                  /* the orchard */
     if (within(x, y, 76, 0, 79, HEIGHT)) h = 19000;                              /* the dike */
-    return fractal_height(h < SEA ? SEA : h);
+    return fractal_height(h < SEA ? (int64_t)SEA : h);
 }
 
 int main(int argc, char **argv)

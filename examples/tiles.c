@@ -60,12 +60,18 @@ static void compare(const int32_t *plane, terrain_shape tile, size_t same[2], si
         }
 }
 
+/* How many places of a side a tile has that starts there. */
+static size_t side_of(size_t start, size_t world_length)
+{
+    return start + CUT < world_length ? (size_t)CUT : world_length - start;
+}
+
 /* The tile of the world at (x, y), there and back. */
 static void one_tile(size_t x, size_t y, size_t same[2], size_t all[2])
 {
     static uint16_t heights[CUT * CUT], again[CUT * CUT];
     static int32_t plane[CUT * CUT], work[CUT * CUT];
-    terrain_shape tile = terrain_shape_of(x + CUT < WIDTH ? CUT : WIDTH - x, y + CUT < HEIGHT ? CUT : HEIGHT - y, LEVELS);
+    terrain_shape tile = terrain_shape_of(side_of(x, WIDTH), side_of(y, HEIGHT), LEVELS);
     size_t n = tile.width * tile.height;
     tile.x = (uint16_t)x;
     tile.y = (uint16_t)y;

@@ -4,7 +4,7 @@
  * numbers it would have set included. (14 is the one exception, and the calls that give it say what it changes.)
  * Each area is a pointer and a length, and the length counts elements, not bytes. An area may be longer than needed: the surplus is
  * untouched. Areas lent to one call may not overlap where one of them is written. A pointer is aligned for its type and not null,
- * also where the length is 0.
+ * also where the length is 0. (C++: `data()` of an empty std::vector may be null; lend the address of any element of the type then.)
  */
 #ifndef TERRAIN_H
 #define TERRAIN_H
@@ -215,7 +215,7 @@ uint32_t terrain_nearest_change(const uint16_t *heights, size_t heights_len, siz
 /* Streams. A writer takes heights row by row, in runs cut anywhere, and gives the band rows of the map's plane as soon as they are due; a
  * reader takes band rows in the order that it wants and gives height rows. Both work in a line store that the caller lends to each call,
  * and their state is the caller's array of sixteen numbers. Set-up writes the array; the program keeps it and the store as they are
- * between two calls, and need not look into them (docs/STATE.md says what stands there). Any number of streams may be under way.
+ * between two calls, and need not look into them (STATE.md says what stands there). Any number of streams may be under way.
  *
  * 1: the array is no state: of another kind, or a count is out of its range. No state that the calls leave is turned away by 1.
  * Scribbling in array or store cannot make a call write outside the areas lent to it, or run on. */
@@ -302,9 +302,28 @@ uint32_t terrain_turns_give(uint64_t turns[4], size_t *reader);
 }
 #endif
 
-/* ---- Sentences. */
+/* ---- Questions and their sentences. */
 
-/* What the question of that number says; docs/STUDIOS.md says what to do about each. It is this header's own and not in the archive. */
+/* The questions: what a call answers where it is turned away. `terrain_sentence` has each in words, and STUDIOS.md says what to do about it. */
+#define TERRAIN_BAD_STATE 1
+#define TERRAIN_BAD_WIDTH 2
+#define TERRAIN_BAD_HEIGHT 3
+#define TERRAIN_BAD_LEVELS 4
+#define TERRAIN_AREA_SHORT 5
+#define TERRAIN_NO_BAND_ROW 6
+#define TERRAIN_OUT_OF_RANGE 7
+#define TERRAIN_NOT_ITS_TURN 8
+#define TERRAIN_IS_OVER 9
+#define TERRAIN_ROWS_FULL 10
+#define TERRAIN_ROW_OPEN 11
+#define TERRAIN_OUT_SHORT 12
+#define TERRAIN_WRONG_LENGTH 13
+#define TERRAIN_NO_MAP 14
+#define TERRAIN_BAD_INPUT 15
+#define TERRAIN_BAD_SAMPLE 16
+#define TERRAIN_BAD_FILTER 18
+
+/* What the question of that number says; STUDIOS.md says what to do about each. It is this header's own and not in the archive. */
 TERRAIN_INLINE const char *terrain_sentence(uint32_t number)
 {
     static const char *const sentences[] = {

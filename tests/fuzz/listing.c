@@ -62,13 +62,13 @@ static int head(size_t *levels, size_t *w, size_t *h, size_t *most)
 }
 
 /* ---- the rows that wait, as lines */
-static void put_rows(Order *o, const int32_t *plane, size_t w, size_t h)
+static void put_rows(Order *o, const int32_t *plane, const Map *m)
 {
     static const char *const bands[] = { "LL", "HL", "LH", "HH" };
     for (; order_waits(o); o->first++) {
         Row r = o->waiting[o->first];
         put_number((int64_t)r.level), put(" "), put(bands[r.band]), put(" "), put_number((int64_t)r.row);
-        for (size_t i = 0; i < r.length; i++) put(" "), put_number(plane[place(w, h, r.level, r.band, r.row) + i]);
+        for (size_t i = 0; i < r.length; i++) put(" "), put_number(plane[place(m, r.level, r.band, r.row) + i]);
         put("\n");
     }
 }
@@ -77,19 +77,19 @@ static void put_map(size_t levels, size_t w, size_t h, const uint16_t *heights, 
 {
     static int32_t plane[2 * CELLS + 64 * WIDEST];
     static Order o;
-    size_t rows = whole ? h : taken / w + 64, left = taken;
-    memset(&o, 0, sizeof o);
-    o.width = w, o.levels = levels;
-    model_forward(heights, w, rows, levels, plane);
+    Map m = { { 0, w }, { 0, whole ? h : taken / w + 64 }, levels, 0 };
+    size_t left = taken;
+    order_start(&o, &m);
+    model_forward(heights, &m, plane);
     while (left) {
         size_t n;
         if (order_offer(&o, left, &n)) abort();
         left -= n;
-        put_rows(&o, plane, w, rows);
+        put_rows(&o, plane, &m);
     }
     if (whole) {
         if (order_finish(&o)) abort();
-        put_rows(&o, plane, w, rows);
+        put_rows(&o, plane, &m);
     }
 }
 
@@ -137,7 +137,7 @@ static size_t run(const uint8_t *data, size_t size, size_t cut)
     posix_spawn_file_actions_init(&actions);
     posix_spawn_file_actions_adddup2(&actions, in[0], 0);
     posix_spawn_file_actions_adddup2(&actions, out[1], 1);
-    if (posix_spawn(&child, "target/bin/list", &actions, 0, argv, environ)) abort();
+    if (posix_spawn(&child, LIST, &actions, 0, argv, environ)) abort();
     posix_spawn_file_actions_destroy(&actions);
     close(in[0]), close(out[1]);
     /* a pipe holds 65,536 bytes, more than is written, so nothing blocks; after a refusal the program reads no more */

@@ -1,6 +1,7 @@
 //! What the tests share. They call the library through the safe Rust of `bindings/rust`, and through its `raw` calls where they lend what no
 //! call has made, or look at what a call turned away has left.
 pub mod areas;
+pub mod built;
 pub mod ccsds_back;
 pub mod ccsds_level;
 pub mod filter;

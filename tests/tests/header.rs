@@ -3,6 +3,7 @@
 use std::collections::{BTreeMap, BTreeSet};
 use std::path::{Path, PathBuf};
 use std::process::Command;
+use terrain_tests::built::archive;
 
 fn root() -> PathBuf {
     Path::new(env!("CARGO_MANIFEST_DIR")).parent().expect("tests/ stands in the repository").to_path_buf()
@@ -179,7 +180,7 @@ fn rattle_argument(name: &str, of: &str) -> Vec<Argument> {
 
 /// What `nm` says of the archive: the letter of each symbol and its name.
 fn symbols() -> Vec<(char, String)> {
-    let said = Command::new("nm").arg(root().join("target/staticlib/libterrain.a")).output().expect("nm runs");
+    let said = Command::new("nm").arg(archive("terrain")).output().expect("nm runs");
     assert!(said.status.success(), "nm: {}", String::from_utf8_lossy(&said.stderr));
     let lines = String::from_utf8(said.stdout).expect("nm writes text");
     let mut symbols = Vec::new();
@@ -252,7 +253,7 @@ fn output_of(example: &str, language: &str) -> String {
         .arg(root().join("include"))
         .arg(root().join("examples").join(format!("{example}.c")))
         .args(["-x", "none"])
-        .arg(root().join("target/staticlib/libterrain.a"))
+        .arg(archive("terrain"))
         .arg("-o")
         .arg(&program)
         .status()

@@ -8,13 +8,12 @@ use std::path::{Path, PathBuf};
 use std::process::{Child, Command, Stdio};
 use std::thread;
 use std::time::{Duration, Instant};
+use terrain_tests::built;
 use terrain_tests::listing::listing;
 use terrain_tests::random::Random;
 
 fn program() -> PathBuf {
-    let path = Path::new(env!("CARGO_MANIFEST_DIR")).join("../target/bin/list");
-    assert!(path.is_file(), "{} is missing: run `rt check list`", path.display());
-    path
+    built::program("list")
 }
 
 /// What the program wrote, and what it said on standard error.

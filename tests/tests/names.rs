@@ -4,6 +4,7 @@ use std::collections::BTreeMap;
 use std::path::{Path, PathBuf};
 use std::process::Command;
 use terrain::{raw, Band, Shape};
+use terrain_tests::built::archive;
 
 fn root() -> PathBuf {
     Path::new(env!("CARGO_MANIFEST_DIR")).parent().expect("tests/ stands in the repository").to_path_buf()
@@ -102,7 +103,7 @@ fn compiled(name: &str, source: &str, compiler: &str, language: &str, standard: 
         .arg(root().join("include"))
         .arg(&file)
         .args(["-x", "none"])
-        .args((out != "/dev/null").then(|| root().join("target/staticlib/libterrain.a")))
+        .args((out != "/dev/null").then(|| archive("terrain")))
         .args(if out == "/dev/null" { vec!["-c"] } else { vec![] })
         .args(["-o", out])
         .output()
@@ -152,4 +153,17 @@ fn every_question_has_its_sentence() {
     let mut numbers: Vec<usize> = rows.filter(|n| *n < 60).collect();
     numbers.sort();
     assert_eq!(numbers, given.into_keys().skip(1).collect::<Vec<_>>());
+}
+
+/// The questions' names: a number each that has a sentence, and none is missing of those that document 01 and the filter brought.
+#[test]
+fn the_questions() {
+    let questions = text("include/terrain.h");
+    let questions = questions.split_once("/* The questions: ").expect("the questions").1.split_once("\n\n").expect("their end").0;
+    let named: Vec<u32> = questions.lines().filter_map(|l| l.strip_prefix("#define TERRAIN_")?.split_once(' ')?.1.parse().ok()).collect();
+    assert!(named.windows(2).all(|pair| pair[0] < pair[1]), "{named:?}");
+    assert!((1..=16).chain([18]).all(|n| named.contains(&n)), "{named:?}");
+    let advice = text("docs/STUDIOS.md");
+    assert!(named.iter().all(|n| advice.contains(&format!("\n| {n} | "))), "{named:?}");
+    assert_eq!(names()["NO_MAP"], 14);
 }

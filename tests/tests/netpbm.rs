@@ -1,9 +1,9 @@
 //! The listing beside Netpbm's own tools: what `pgmtopgm` accepts and `list` refuses, or the other way round, is only what docs/DECISIONS.md
 //! names, and where both accept, they read the same size and the same heights. Where Netpbm is not installed the test says so and is passed over.
 use std::io::Write;
-use std::path::Path;
 use std::process::{Command, Output, Stdio};
 use std::thread;
+use terrain_tests::built::program;
 use terrain_tests::listing::accepted;
 use terrain_tests::random::Random;
 
@@ -20,8 +20,7 @@ fn run(program: &str, input: Vec<u8>) -> Output {
 }
 
 fn list(picture: &[u8]) -> Option<String> {
-    let path = Path::new(env!("CARGO_MANIFEST_DIR")).join("../target/bin/list");
-    let output = run(path.to_str().expect("a path"), [b"1\n", picture].concat());
+    let output = run(program("list").to_str().expect("a path"), [b"1\n", picture].concat());
     let text = String::from_utf8(output.stdout).expect("text");
     (!text.contains("refused")).then_some(text)
 }

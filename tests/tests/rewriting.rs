@@ -1,9 +1,9 @@
 //! The built program `rewrite` on inputs good and bad, beside a second reading; what it gives for an accepted input it gives again, and where Netpbm is
 //! installed and the largest value is 65535 it is what `pgmtopgm` gives.
 use std::io::Write;
-use std::path::Path;
 use std::process::{Command, Stdio};
 use std::thread;
+use terrain_tests::built::program;
 use terrain_tests::listing::rewritten;
 use terrain_tests::random::Random;
 
@@ -18,9 +18,7 @@ fn run(program: &str, input: Vec<u8>) -> Vec<u8> {
 }
 
 fn rewrite(picture: &[u8]) -> Vec<u8> {
-    let path = Path::new(env!("CARGO_MANIFEST_DIR")).join("../target/bin/rewrite");
-    assert!(path.is_file(), "{} is missing: run `rt check rewrite`", path.display());
-    run(path.to_str().expect("a path"), picture.to_vec())
+    run(program("rewrite").to_str().expect("a path"), picture.to_vec())
 }
 
 fn gaps(random: &mut Random) -> String {

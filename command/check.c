@@ -1,8 +1,14 @@
-/* A map through the writer and the reader and back, cut at random, at every number of levels. `./terrain check` builds and runs it.
- * The seed alone says how the map is cut: the same seed, the same cuts. */
+/* terrain check: a map through the writer and the reader and back, cut at random, at every number of levels. The seed alone says how the map is cut: the
+ * same seed, the same cuts. */
+#include <inttypes.h>
+#include <stdio.h>
+#include <time.h>
+
 #include "../examples/coefficients.h"
+#include "commands.h"
+#include "end.h"
+#include "map.h"
 #include "progress.h"
-#include "status.h"
 
 /* Where random numbers come from (splitmix64): any seed is as good as another. */
 static uint64_t random_state;
@@ -18,11 +24,10 @@ static size_t below(size_t n)
 
 /* What is checked, and how far: the rows written and read, of all levels together. */
 typedef struct {
-    const char *path;
-    const Pgm *map;
+    const char *name;
+    const Map *map;
     uint64_t seed;
     size_t runs, rows;
-    Progress line;
 } Check;
 
 /* `row` rows of this direction are done. */
@@ -31,13 +36,13 @@ static void so_far(Check *c, size_t levels, int reading, size_t row)
     size_t height = c->map->height, done = ((levels - 1) * 2 + (size_t)reading) * height + row;
     if (done == c->rows) return;
     c->rows = done;
-    progress(&c->line, "checking", done, 2 * TERRAIN_MAX_LEVELS * (uint64_t)height);
+    progress(done, 2 * TERRAIN_MAX_LEVELS * (uint64_t)height);
 }
 
 /* The heights in runs of random lengths through a writer, into the plane. */
 static uint32_t write_cut(Check *c, size_t levels, int32_t *plane, int32_t *store, size_t store_len, int32_t *line)
 {
-    const Pgm *map = c->map;
+    const Map *map = c->map;
     uint64_t state[TERRAIN_STATE_LENGTH];
     size_t n = map->width * map->height, offered = 0;
     uint32_t no = terrain_writer_set_up(state, terrain_shape_of(map->width, map->height, levels), store, store_len);
@@ -57,7 +62,7 @@ static uint32_t write_cut(Check *c, size_t levels, int32_t *plane, int32_t *stor
 /* The plane's rows through a reader: *row is the first height row that comes back different, or the height. */
 static uint32_t read_back(Check *c, size_t levels, const int32_t *plane, int32_t *store, size_t store_len, uint16_t *line, size_t *row)
 {
-    const Pgm *map = c->map;
+    const Map *map = c->map;
     uint64_t state[TERRAIN_STATE_LENGTH], want[TERRAIN_WANT_LENGTH];
     size_t n = map->width * map->height, start, length;
     uint32_t no = terrain_reader_set_up(state, terrain_shape_of(map->width, map->height, levels), store, store_len);
@@ -78,18 +83,18 @@ static uint32_t read_back(Check *c, size_t levels, const int32_t *plane, int32_t
 }
 
 /* What is not as it should be, with the command that shows it again. */
-static int different(Check *c, size_t levels, uint32_t no, size_t row)
+static int different(const Check *c, size_t levels, uint32_t no, size_t row)
 {
-    progress_end(&c->line);
-    fprintf(stderr, "terrain: %s: at %u levels: ", input_name(c->path), (unsigned)levels);
+    progress_end();
+    fprintf(stderr, "terrain: %s: at %zu levels: ", c->name, levels);
     if (no) fprintf(stderr, "%s (question %u)\n", terrain_sentence(no), (unsigned)no);
-    else fprintf(stderr, "DIFFERENT: height row %lu is not the map's\n", (unsigned long)row);
-    fprintf(stderr, "terrain: the same cuts again: ./terrain check --seed %llu %s\n", (unsigned long long)c->seed, c->path);
+    else fprintf(stderr, "DIFFERENT: height row %zu is not the map's\n", row);
+    fprintf(stderr, "terrain: the same cuts again: terrain check --seed %" PRIu64 " %s\n", c->seed, c->name);
     return STATUS_DIFFERENT;
 }
 
 /* STATUS_DONE: identical at every number of levels. */
-static int check(Check *c, int32_t *plane, int32_t *store, int32_t *line, uint16_t *heights)
+static int check_levels(Check *c, int32_t *plane, int32_t *store, int32_t *line, uint16_t *heights)
 {
     size_t row = 0;
     for (size_t levels = 1; levels <= TERRAIN_MAX_LEVELS; levels++) {
@@ -98,48 +103,19 @@ static int check(Check *c, int32_t *plane, int32_t *store, int32_t *line, uint16
         if (!no) no = read_back(c, levels, plane, store, store_len, heights, &row);
         if (no || row != c->map->height) return different(c, levels, no, row);
     }
-    progress_end(&c->line);
-    printf("identical: %lu x %lu heights, 1 to %d levels, %lu runs, seed %llu\n", (unsigned long)c->map->width, (unsigned long)c->map->height,
-           TERRAIN_MAX_LEVELS, (unsigned long)c->runs, (unsigned long long)c->seed);
+    progress_end();
+    printf("identical: %zu x %zu heights, 1 to %d levels, %zu runs, seed %" PRIu64 "\n", c->map->width, c->map->height, TERRAIN_MAX_LEVELS, c->runs, c->seed);
     return STATUS_DONE;
 }
 
-/* In areas of the map's size. */
-static int check_map(const char *path, const Pgm *map, uint64_t seed)
+int check(const Words *words)
 {
-    const char *name = input_name(path);
-    Check c = {path, map, seed, 0, 0, progress_begin()};
-    int status = STATUS_UNABLE;
-    if (map->width > TERRAIN_MAX_WIDTH) {
-        fprintf(stderr, "terrain: %s: %lu x %lu heights, and a map has at most 2,049 columns\n", name, (unsigned long)map->width,
-                (unsigned long)map->height);
-        return STATUS_REFUSED;
-    }
+    const char *path = words->word[0], *name = strcmp(path, "-") == 0 ? "standard input" : path;
+    uint64_t seed = option(words, "--seed") ? number_of("a seed", option(words, "--seed"), UINT64_MAX) : (uint64_t)time(NULL);
+    Map map = map_read(path, TERRAIN_MAX_WIDTH);
+    Check c = {name, &map, seed, 0, 0};
     random_state = seed;
-    int32_t *plane = (int32_t *)malloc(map->width * map->height * sizeof *plane);
-    int32_t *store = (int32_t *)malloc(TERRAIN_MAX_STORE_LENGTH * sizeof *store);
-    int32_t *line = (int32_t *)malloc(map->width * sizeof *line);
-    uint16_t *heights = (uint16_t *)malloc(map->width * sizeof *heights);
-    if (plane && store && line && heights) status = check(&c, plane, store, line, heights);
-    else fprintf(stderr, "terrain: %s: there is not enough memory for it\n", name);
-    free(heights);
-    free(line);
-    free(store);
-    free(plane);
-    return status;
-}
-
-int main(int argc, char **argv)
-{
-    Pgm map;
-    int status;
-    if (argc != 2 && argc != 3) {
-        fprintf(stderr, "terrain: usage: check FILE.pgm [SEED]\n");
-        return STATUS_USAGE;
-    }
-    if (!same_version()) return STATUS_UNABLE;
-    if ((status = read_map(argv[1], &map)) != STATUS_DONE) return status;
-    status = check_map(argv[1], &map, argc == 3 ? strtoull(argv[2], NULL, 10) : (uint64_t)time(NULL));
-    free(map.heights);
-    return finished(status);
+    progress_begin("checking");
+    return check_levels(&c, lent(map.width * map.height, sizeof(int32_t), name), lent(TERRAIN_MAX_STORE_LENGTH, sizeof(int32_t), name),
+                        lent(map.width, sizeof(int32_t), name), lent(map.width, sizeof(uint16_t), name));
 }
