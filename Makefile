@@ -3,6 +3,7 @@
 #   make install PREFIX=/usr/local   header, archive, pkg-config file, CMake package, command and man page; below DESTDIR, if that is set
 #   make install-library PREFIX=..   the same without command and man page: no compiler and no listing program is needed for it
 #   make uninstall PREFIX=..
+#   make ports                       the library for other machines, in target/ports; make dist: one archive a platform, in target/dist
 # TERRAIN_LIB=FOLDER takes libterrain.a from there, as it is.
 PREFIX ?= /usr/local
 DESTDIR ?=
@@ -24,9 +25,17 @@ VERSION := $(shell sed -n 's/^\#define TERRAIN_VERSION_TEXT "\(.*\)"$$/\1/p' inc
 FILL = sed -e 's|@VERSION@|$(VERSION)|' -e 's|@INCLUDE@|$(shell realpath -m --relative-to='$(1)' '$(INCLUDEDIR)')|' \
 	-e 's|@LIB@|$(shell realpath -m --relative-to='$(1)' '$(LIBDIR)')|'
 
-.PHONY: all install install-library install-command uninstall
+.PHONY: all install install-library install-command uninstall ports dist
 all:
 	./terrain build
+
+# the proved library for other machines, tested where something here runs them, and one archive a platform (ports/README.md)
+ports:
+	rt check terrain
+	ports/build target/ports
+
+dist: ports
+	ports/dist target/ports target/dist
 
 install: install-library install-command
 
@@ -37,7 +46,10 @@ install-library: $(ARCHIVE)
 	install -d '$(DESTDIR)$(INCLUDEDIR)' '$(DESTDIR)$(PKGCONFIGDIR)' '$(DESTDIR)$(CMAKEDIR)' '$(DESTDIR)$(DOCDIR)'
 	install -m 644 include/terrain.h '$(DESTDIR)$(INCLUDEDIR)'
 	install -m 644 '$(ARCHIVE)' '$(DESTDIR)$(LIBDIR)'
-	$(call FILL,$(PKGCONFIGDIR)) packaging/terrain.pc.in >'$(DESTDIR)$(PKGCONFIGDIR)/terrain.pc'
+	ports/shared '$(ARCHIVE)' '$(DESTDIR)$(LIBDIR)'
+	for name in terrain terrain-shared; do \
+	    $(call FILL,$(PKGCONFIGDIR)) packaging/$$name.pc.in >'$(DESTDIR)$(PKGCONFIGDIR)'/$$name.pc || exit 1; \
+	done
 	for name in TerrainConfig TerrainConfigVersion; do \
 	    $(call FILL,$(CMAKEDIR)) packaging/$$name.cmake.in >'$(DESTDIR)$(CMAKEDIR)'/$$name.cmake || exit 1; \
 	done
@@ -50,6 +62,7 @@ install-command: all
 	install -m 644 docs/terrain.1 '$(DESTDIR)$(MANDIR)/man1'
 
 uninstall:
-	rm -f '$(DESTDIR)$(INCLUDEDIR)/terrain.h' '$(DESTDIR)$(LIBDIR)/libterrain.a' '$(DESTDIR)$(PKGCONFIGDIR)/terrain.pc'
+	rm -f '$(DESTDIR)$(INCLUDEDIR)/terrain.h' '$(DESTDIR)$(PKGCONFIGDIR)/terrain.pc' '$(DESTDIR)$(PKGCONFIGDIR)/terrain-shared.pc'
+	rm -f '$(DESTDIR)$(LIBDIR)/libterrain.a' '$(DESTDIR)$(LIBDIR)/libterrain.so.0' '$(DESTDIR)$(LIBDIR)/libterrain.so'
 	rm -f '$(DESTDIR)$(BINDIR)/terrain' '$(DESTDIR)$(MANDIR)/man1/terrain.1'
 	rm -rf '$(DESTDIR)$(CMAKEDIR)' '$(DESTDIR)$(PROGRAMDIR)' '$(DESTDIR)$(DOCDIR)'
