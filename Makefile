@@ -5,6 +5,7 @@
 #                                    below DESTDIR, if that is set
 #   make install-library PREFIX=..   the same without command, man page and completion: no compiler and no listing program is needed for it
 #   make uninstall PREFIX=..
+#   make ports                       the library for other machines, in target/ports; make dist: one archive a platform, in target/dist
 # TERRAIN_LIB=FOLDER takes libterrain.a from there, as it is.
 PREFIX ?= /usr/local
 DESTDIR ?=
@@ -45,7 +46,7 @@ INSTALLED = sed -E -e 's,docs/(STUDIOS|STATE)[.]md,\1.md,g' -e 's,`((docs|bench|
 FILL = sed -e 's|@VERSION@|$(VERSION)|' -e 's|@INCLUDE@|$(shell realpath -m --relative-to='$(1)' '$(INCLUDEDIR)')|' \
 	-e 's|@LIB@|$(shell realpath -m --relative-to='$(1)' '$(LIBDIR)')|'
 
-.PHONY: all install install-library install-command uninstall
+.PHONY: all install install-library install-command uninstall ports dist
 all: $(BUILT)/terrain
 
 .PHONY: always prove proved
@@ -92,13 +93,24 @@ target/install/terrain: $(ARCHIVE) $(COMMAND) $(COMMAND_PARTS)
 	@mkdir -p target/install
 	$(CC) $(COMMAND_FLAGS) -DPROGRAMS='"../libexec/terrain"' $(COMMAND) $(ARCHIVE) $(COMMAND_LIBS) -o $@
 
+# the proved library for other machines, tested where something here runs them, and one archive a platform (ports/README.md)
+ports:
+	rt check terrain
+	ports/build target/ports
+
+dist: ports
+	ports/dist target/ports target/dist
+
 install: install-library install-command
 
 install-library: proved
 	install -d '$(DESTDIR)$(INCLUDEDIR)' '$(DESTDIR)$(PKGCONFIGDIR)' '$(DESTDIR)$(CMAKEDIR)' '$(DESTDIR)$(DOCDIR)'
 	install -m 644 include/terrain.h '$(DESTDIR)$(INCLUDEDIR)'
 	install -m 644 '$(ARCHIVE)' '$(DESTDIR)$(LIBDIR)'
-	$(call FILL,$(PKGCONFIGDIR)) packaging/terrain.pc.in >'$(DESTDIR)$(PKGCONFIGDIR)/terrain.pc'
+	ports/shared '$(ARCHIVE)' '$(DESTDIR)$(LIBDIR)'
+	for name in terrain terrain-shared; do \
+	    $(call FILL,$(PKGCONFIGDIR)) packaging/$$name.pc.in >'$(DESTDIR)$(PKGCONFIGDIR)'/$$name.pc || exit 1; \
+	done
 	for name in TerrainConfig TerrainConfigVersion; do \
 	    $(call FILL,$(CMAKEDIR)) packaging/$$name.cmake.in >'$(DESTDIR)$(CMAKEDIR)'/$$name.cmake || exit 1; \
 	done
@@ -113,7 +125,8 @@ install-command: proved target/install/terrain $(PROGRAMS)/list $(PROGRAMS)/rewr
 	install -m 644 packaging/terrain.bash '$(DESTDIR)$(COMPLETIONDIR)/terrain'
 
 uninstall:
-	rm -f '$(DESTDIR)$(INCLUDEDIR)/terrain.h' '$(DESTDIR)$(LIBDIR)/libterrain.a' '$(DESTDIR)$(PKGCONFIGDIR)/terrain.pc'
+	rm -f '$(DESTDIR)$(INCLUDEDIR)/terrain.h' '$(DESTDIR)$(PKGCONFIGDIR)/terrain.pc' '$(DESTDIR)$(PKGCONFIGDIR)/terrain-shared.pc'
+	rm -f '$(DESTDIR)$(LIBDIR)/libterrain.a' '$(DESTDIR)$(LIBDIR)/libterrain.so.0' '$(DESTDIR)$(LIBDIR)/libterrain.so'
 	rm -f '$(DESTDIR)$(BINDIR)/terrain' '$(DESTDIR)$(MANDIR)/man1/terrain.1'
 	rm -rf '$(DESTDIR)$(CMAKEDIR)' '$(DESTDIR)$(PROGRAMDIR)' '$(DESTDIR)$(DOCDIR)'
 	rm -f '$(DESTDIR)$(COMPLETIONDIR)/terrain'
