@@ -4,3 +4,4 @@ pub mod WordLaws
 pub mod MovedWords
 pub mod WriterListsHold
 pub mod ReaderListsHold
+pub mod RoundTripsHold

@@ -4,3 +4,4 @@ pub mod WriterLists
 pub mod ReaderCalls
 pub mod ReaderLists
 pub mod Version
+pub mod RoundTrips
