@@ -217,8 +217,8 @@ uint32_t terrain_nearest_change(const uint16_t *heights, size_t heights_len, siz
  * and their state is the caller's array of sixteen numbers. Set-up writes the array; the program keeps it and the store as they are
  * between two calls, and need not look into them (STATE.md says what stands there). Any number of streams may be under way.
  *
- * 1: the array is no state: of another kind, or a count is out of its range. No state that the calls leave is turned away by 1.
- * Scribbling in array or store cannot make a call write outside the areas lent to it, or run on. */
+ * 1: the array is no state: of another kind, or a count is out of its range. No state that a set-up and the calls after it leave is turned
+ * away by 1. Scribbling in array or store cannot make a call write outside the areas lent to it, or run on. */
 
 /* The numbers that the line store of a writer or reader needs: r * (W(0) + ... + W(levels - 1)), r being 4 by the 5/3 and 8 by the 9/7, W(0)
  * the width and each further one the number of even columns of the one before (of a map that starts at 0: half of it, rounded up). The height

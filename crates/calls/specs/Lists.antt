@@ -59,3 +59,22 @@ module _ {Event : Type 0} (is : Event → Bool) where
 pub data All {A : Type 0} (P : A → Type 0) : List A → Type 0 where
   all-none : All P []
   all-more : {x : A} {l : List A} → P x → All P l → All P (x ∷ l)
+
+-- ---- lists with strays: calls that are another machine's (`mine`), and calls that never come to it
+pub data Mixed (A B : Type 0) : Type 0 where
+  mine : A → Mixed A B
+  stray : B → Mixed A B
+
+module _ {A B Call : Type 0} (call : A → Call) where
+  unfoldable pub calls : List (Mixed A B) → List Call
+  calls [] = []
+  calls (mine a ∷ ds) = call a ∷ calls ds
+  calls (stray b ∷ ds) = calls ds
+
+-- what is seen of them, told by that machine's events: `tell` tells the event of a call of its own, `say` says what is seen of a stray
+module _ {A B Event Seen : Type 0} (tell : A → Event → Seen) (say : B → Seen) where
+  unfoldable pub toldBy : List (Mixed A B) → List Event → List Seen
+  toldBy [] es = []
+  toldBy (mine a ∷ ds) [] = []
+  toldBy (mine a ∷ ds) (e ∷ es) = tell a e ∷ toldBy ds es
+  toldBy (stray b ∷ ds) es = say b ∷ toldBy ds es

@@ -26,7 +26,7 @@ use Rattle.writer.specs.Demand3.{wholeRows, waitingOf, offerTurned, finishTurne
 use Rattle.writer.specs.declared.Writer.{Writer}
 use Rattle.writer.proofs.Demand3.{demand-3}
 use Rattle.pgm.specs.Limits.{maxPictureWidth}
-use Rattle.listing.proofs.WriterRan.{worldOf, waits, Ran, waiting-is, ran-next}
+use Rattle.listing.proofs.WriterRan.{worldOf, waits, is-long, Ran, waiting-is, ran-next}
 use Rattle.listing.specs.States.{mapStore}
 
 -- ---- the set-up
@@ -66,7 +66,7 @@ module _ (W L n : ℕ) (s : setUpQuestion 0 (side 0 W) L n ≡ 0) (hs : List ℕ
     took-ran : (t : Took) → offerReply w n run x ≡ gives t → Ran W L n (hs ++ take (t .taken) run) false ds (t .writer) (offerStore w n run x)
     took-ran t e =
         subst (λ d. Ran W L n (hs ++ take (t .taken) run) false d (t .writer) (offerStore w n run x)) (append-nil ds)
-        (ran-next W L n hs false ds w x r (offer run) (offered run (gives (t .taken))) (t .writer) (offerStore w n run x) (unfold event in rw e refl)
+        (ran-next W L n hs false ds w x r (offer n run) (offered run (gives (t .taken))) (t .writer) (offerStore w n run x) (unfold event in rw e refl)
         (unfold next in rw e refl))
 
     module _ (H : ℕ) (wide : 0 < W) (high : H ≤ maxHeight) (room : length hs + length run ≤ W * H) where
@@ -79,26 +79,26 @@ module _ (W L n : ℕ) (s : setUpQuestion 0 (side 0 W) L n ≡ 0) (hs : List ℕ
                 rw (ne-eqb (length run) 0 p, lt-ltb (wholeRows (side 0 W) es) maxHeight (omega (arith, rows-are))) refl
           ]
 
-      not-turned : offerTurned 0 (side 0 W) 0 L es (length run) ≡ 0
+      not-turned : offerTurned 0 (side 0 W) 0 L es n (length run) ≡ 0
       unfolding offerTurned
-      not-turned = rw (r .ended, nothing-waits, low) refl
+      not-turned = rw (is-long W L n s, r .ended, nothing-waits, low) refl
 
       pub offer-out : OfferOut
       offer-out =
-          let d = demand-3 0 (side 0 W) 0 L n (r .before) (omega arith) (omega arith) s (r .calls) .1 .offers-taken run not-turned in
-          go (offerReply w n run x) refl (d .0) (ap (event (offer run)) (sym (r .world)) ∙ d .1) (d .2 .most) (d .2 .some)
+          let d = demand-3 0 (side 0 W) 0 L n (r .before) (omega arith) (omega arith) s (r .calls) .1 .offers-taken n run not-turned in
+          go (offerReply w n run x) refl (d .0) (ap (event (offer n run)) (sym (r .world)) ∙ d .1) (d .2 .most) (d .2 .some)
         where
-          go : (y : Reply Took) → offerReply w n run x ≡ y → (m : ℕ) → event (offer run) (worldOf n w x) ≡ offered run (gives m) → m ≤ length run
+          go : (y : Reply Took) → offerReply w n run x ≡ y → (m : ℕ) → event (offer n run) (worldOf w x) ≡ offered run (gives m) → m ≤ length run
               → (0 < length run → 0 < m) → OfferOut
           go (gives t) e m p a b =
               let f : t .taken ≡ m = same p in
               record { took = t; reply = e; most = omega arith; some = λ h. subst (λ a. 0 < a) (sym f) (b h); ran = took-ran t e }
             where
-              same : event (offer run) (worldOf n w x) ≡ offered run (gives m) → t .taken ≡ m
+              same : event (offer n run) (worldOf w x) ≡ offered run (gives m) → t .taken ≡ m
               same p = unfold event in (let q : offered run (gives (t .taken)) ≡ offered run (gives m) = rw e at p in cc)
           go (refused c) e m p a b = absurd (never p)
             where
-              never : event (offer run) (worldOf n w x) ≡ offered run (gives m) → ⊥
+              never : event (offer n run) (worldOf w x) ≡ offered run (gives m) → ⊥
               never p = unfold event in (let q : offered run (refused c) ≡ offered run (gives m) = rw e at p in let o : _≡_ {A = ℕ} 0 1 = cc in omega arith)
 
   -- ---- the finish
@@ -108,28 +108,28 @@ module _ (W L n : ℕ) (s : setUpQuestion 0 (side 0 W) L n ≡ 0) (hs : List ℕ
     pub ran : Ran W L n hs true ds writer (finishStore w n x)
 
   module _ (H : ℕ) (wide : 0 < W) (some : 1 ≤ H) (whole : length hs ≡ W * H) where
-    passes : finishTurned 0 (side 0 W) 0 L es ≡ 0
+    passes : finishTurned 0 (side 0 W) 0 L es n ≡ 0
     unfolding finishTurned
     passes =
         let a : length hs / W ≡ H = ap (λ m. m / W) whole ∙ mul-div-cancel-left H wide in
         let b : length (taken es) % W ≡ 0 = ap (λ l. length l % W) (r .heights) ∙ ap (λ m. m % W) whole ∙ mul-mod-right W H in
-        rw (r .ended, nothing-waits, lt-ltb 0 (wholeRows (side 0 W) es) (omega (arith, rows-are)), eq-eqb (length (taken es) % W) 0 b) refl
+        rw (is-long W L n s, r .ended, nothing-waits, lt-ltb 0 (wholeRows (side 0 W) es) (omega (arith, rows-are)), eq-eqb (length (taken es) % W) 0 b) refl
 
     pub finish-out : FinishOut
     finish-out =
-        let d = demand-3 0 (side 0 W) 0 L n (r .before) (omega arith) (omega arith) s (r .calls) .1 .finishes in
-        go (finishReply w n x) refl (ap (event finish) (sym (r .world)) ∙ d ∙ ap (λ q. finished (unless q tt)) passes)
+        let d = demand-3 0 (side 0 W) 0 L n (r .before) (omega arith) (omega arith) s (r .calls) .1 .finishes n in
+        go (finishReply w n x) refl (ap (event (finish n)) (sym (r .world)) ∙ d ∙ ap (λ q. finished (unless q tt)) passes)
       where
-        go : (y : Reply Writer) → finishReply w n x ≡ y → event finish (worldOf n w x) ≡ finished (gives tt) → FinishOut
+        go : (y : Reply Writer) → finishReply w n x ≡ y → event (finish n) (worldOf w x) ≡ finished (gives tt) → FinishOut
         go (gives u) e p = record {
           writer = u;
           reply = e;
           ran =
               subst (λ d. Ran W L n d true ds u (finishStore w n x)) (append-nil hs)
               (subst (λ d. Ran W L n (hs ++ []) true d u (finishStore w n x)) (append-nil ds)
-              (ran-next W L n hs false ds w x r finish (finished (gives tt)) u (finishStore w n x) p (unfold next in rw e refl)));
+              (ran-next W L n hs false ds w x r (finish n) (finished (gives tt)) u (finishStore w n x) p (unfold next in rw e refl)));
         }
         go (refused c) e p = absurd (never p)
           where
-            never : event finish (worldOf n w x) ≡ finished (gives tt) → ⊥
+            never : event (finish n) (worldOf w x) ≡ finished (gives tt) → ⊥
             never p = unfold event in (let q : finished (refused c) ≡ finished (gives tt) = rw e at p in let o : _≡_ {A = ℕ} 0 1 = cc in omega arith)

@@ -28,29 +28,27 @@ use Rattle.reader_steps.specs.Places.{Spot, spot, Place, spotOf, nextUp, beyond
 use Rattle.reader.specs.State.{next, nextRow, nextLength, unfinished, rowDue, drawDue, wants, settles, feeds}
 use Rattle.reader.specs.Questions.{countsFit, storeFits, runFits, setUpQuestion, wantQuestion, feedQuestion, drawQuestion}
 use Rattle.reader.specs.Calls.{wantReply}
-use Rattle.reader.specs.Demand3.{said, heights, nothing, wantSays, feedTurned, drawSays}
+use Rattle.reader.specs.Demand3.{said, heights, nothing, wantSays, feedAway, feedTurned, drawGives, drawSays}
 use Rattle.reader_steps.proofs.Looks.{named-code}
 use Rattle.reader_steps.proofs.StepsLeft.{stepsLeft, tailAt, Ahead, height, row, ahead-is, left-row, left-height, left-done}
 
 -- ---- a set-up that passed
-pub record Limits (f : ℕ) (W H : Side) (l n : ℕ) : Type 0 where
+pub record Limits (f : ℕ) (W H : Side) (l : ℕ) : Type 0 where
   pub across : W .start ≤ maxOrigin
   pub down : H .start ≤ maxOrigin
   pub wide : within 1 maxWidth (W .length) ≡ true
   pub high : within 1 maxHeight (H .length) ≡ true
   pub known : isFilter f ≡ true
   pub deep : within 1 (filterOf f .levels) (suc l) ≡ true
-  pub room : storeFits f W (suc l) n ≡ true
 
-pub limits : (f : ℕ) (W H : Side) (l n : ℕ) → W .start ≤ maxOrigin → H .start ≤ maxOrigin → setUpQuestion f W H (suc l) n ≡ 0 → Limits f W H l n
+pub limits : (f : ℕ) (W H : Side) (l n : ℕ) → W .start ≤ maxOrigin → H .start ≤ maxOrigin → setUpQuestion f W H (suc l) n ≡ 0 → Limits f W H l
 unfolding setUpQuestion
 limits f W H l n p q e =
     let a = asked-yes (within 1 maxWidth (W .length)) 1 _ e in
     let b = asked-yes (within 1 maxHeight (H .length)) 2 _ (a .1) in
     let k = asked-yes (isFilter f) 17 _ (b .1) in
     let c = asked-yes (within 1 (filterOf f .levels) (suc l)) 3 _ (k .1) in
-    let d = asked-yes (storeFits f W (suc l) n) 4 _ (c .1) in
-    record { across = p; down = q; wide = a .0; high = b .0; known = k .0; deep = c .0; room = d .0 }
+    record { across = p; down = q; wide = a .0; high = b .0; known = k .0; deep = c .0 }
 
 module _ (f : ℕ) (W H : Side) (l : ℕ) where
   -- a reader of that map, at a place
@@ -104,7 +102,7 @@ module _ (f : ℕ) (W H : Side) (l : ℕ) where
       go due _ q (row k n c h ready asks e) =
           subst (View d p) (sym (left-row f W H l d (at d p) k n c due e)) (at-row k n c (record { due = due; below = h; ready = ready; asks = asks; is = q }))
 
-  module _ (n : ℕ) (lim : Limits f W H l n) (d : ℕ) (p : Place) (drawn-le : d ≤ H .length) (level-le : p .level ≤ suc l) (band-le : p .band ≤ 4)
+  module _ (lim : Limits f W H l) (d : ℕ) (p : Place) (drawn-le : d ≤ H .length) (level-le : p .level ≤ suc l) (band-le : p .band ≤ 4)
       (back-le : p .back ≤ 2 * ahead f - 1) where
     pub counts : (e : Bool) → countsFit (here d p e) ≡ true
     unfolding countsFit
@@ -157,22 +155,6 @@ module _ (f : ℕ) (W H : Side) (l : ℕ) where
     unfolding next
     level-is k i c q = rw q refl
 
-    pub feed-asked : (e : Bool) (t : List Step) (x : ℕ → ℤ) (a : Area) → View d p t →
-        feedQuestion (here d p e) n x (a .size) (a .numbers) ≡ pick (eqb (feedTurned f W e t a) 0) (ask (fits (feeds (here d p e) (a .numbers) x)) 14 0)
-        (feedTurned f W e t a)
-    unfolding feedQuestion feedTurned
-    feed-asked true t x a v = rw (counts true, lim .room) refl
-    feed-asked false _ x a (at-end h) = rw (counts false, lim .room, no-row-end h) refl
-    feed-asked false _ x a (at-height due q) = rw (counts false, lim .room, no-row-height due q) refl
-    feed-asked false _ x a (at-row k u c o) =
-        rw (counts false, lim .room, row-due k u c (o .due) (o .is), length-is k u c (o .is), level-is k u c (o .is))
-        (go (eqb (a .size) (bandColumns W (suc k) c)) (runFits f (suc k) (a .size) (a .numbers)) (ask (fits (feeds (here d p false) (a .numbers) x)) 14 0))
-      where
-        go : (t₁ t₂ : Bool) (r : ℕ) → ask t₁ 13 (ask t₂ 7 r) ≡ pick (eqb (ask t₁ 13 (ask t₂ 7 0)) 0) r (ask t₁ 13 (ask t₂ 7 0))
-        go true true r = refl
-        go true false r = refl
-        go false t₂ r = refl
-
     -- ---- draw
     draw-due : d < H .length → nextOf d p ≡ spot 0 0 4 → drawDue (here d p false) ≡ true
     unfolding drawDue unfinished next
@@ -186,56 +168,107 @@ module _ (f : ℕ) (W H : Side) (l : ℕ) where
     unfolding drawDue unfinished next
     no-draw-row k i c due q = rw (lt-ltb d (H .length) due, q) (ne-eqb (suc k) 0 (λ z. omega arith))
 
-    -- ---- a feed: turned away by a question before 14, or not
-    pub data FeedView (e : Bool) (t : List Step) (x : ℕ → ℤ) (a : Area) : Type 0 where
-      feed-away : (q : ℕ) → feedTurned f W e t a ≡ q → eqb q 0 ≡ false → eqb q 14 ≡ false → feedQuestion (here d p e) n x (a .size) (a .numbers) ≡ q →
-          FeedView e t x a
-      feed-onward : (k u : ℕ) (c : Band) → e ≡ false → Due d p k u c →
-          t ≡ feed (nameOf k u c) ∷ stepsLeft f W H l d (beyond f W H (suc l) k u (code c)) → a .size ≡ bandColumns W (suc k) c →
-          runFits f (suc k) (a .size) (a .numbers) ≡ true →
-          feedTurned f W e t a ≡ 0 → feedQuestion (here d p e) n x (a .size) (a .numbers) ≡ ask (fits (feeds (here d p e) (a .numbers) x)) 14 0 →
-          FeedView e t x a
+    -- ---- a feed that is lent a store of n numbers: turned away by a question before 14, or not
+    module _ (n : ℕ) where
+      abbrev Room : Bool
+      Room = storeFits f W (suc l) n
 
-    asked-away : (e : Bool) (t : List Step) (x : ℕ → ℤ) (a : Area) (q : ℕ) → View d p t → feedTurned f W e t a ≡ q → eqb q 0 ≡ false → eqb q 14 ≡ false →
-        FeedView e t x a
-    asked-away e t x a q v w g h = feed-away q w g h (feed-asked e t x a v
-        ∙ ap (λ i. pick (eqb i 0) (ask (fits (feeds (here d p e) (a .numbers) x)) 14 0) i) w ∙ go (eqb q 0) g)
-      where
-        go : (s : Bool) → s ≡ false → pick s (ask (fits (feeds (here d p e) (a .numbers) x)) 14 0) q ≡ q
-        go s z = rw z refl
+      feed-short : (e : Bool) (t : List Step) (x : ℕ → ℤ) (a : Area) → Room ≡ false →
+          (feedTurned f W (suc l) e t n a ≡ 5) × (feedQuestion (here d p e) n x (a .size) (a .numbers) ≡ 5)
+      unfolding feedQuestion feedTurned
+      feed-short e t x a off = (rw off refl, rw (counts e, off) refl)
 
-    pub feed-view : (e : Bool) (t : List Step) (x : ℕ → ℤ) (a : Area) → View d p t → FeedView e t x a
-    unfolding feedTurned
-    feed-view true t x a v = asked-away true t x a 9 v refl refl refl
-    feed-view false _ x a (at-end h) = asked-away false [] x a 8 (at-end h) refl refl refl
-    feed-view false _ x a (at-height due q) = asked-away false _ x a 8 (at-height due q) refl refl refl
-    feed-view false _ x a (at-row k u c o) = go (eqb (a .size) (bandColumns W (suc k) c)) refl (runFits f (suc k) (a .size) (a .numbers)) refl
-      where
-        go : (t₁ : Bool) → eqb (a .size) (bandColumns W (suc k) c) ≡ t₁ → (t₂ : Bool) → runFits f (suc k) (a .size) (a .numbers) ≡ t₂ →
-            FeedView false (feed (nameOf k u c) ∷ stepsLeft f W H l d (beyond f W H (suc l) k u (code c))) x a
-        go false y t₂ z = asked-away false _ x a 13 (at-row k u c o) (rw y refl) refl refl
-        go true y false z = asked-away false _ x a 7 (at-row k u c o) (rw (y, z) refl) refl refl
-        go true y true z = feed-onward k u c refl o refl (eqb-true _ _ y) z (rw (y, z) refl) (feed-asked false _ x a (at-row k u c o) ∙ rw (y, z) refl)
+      feed-asked : Room ≡ true → (e : Bool) (t : List Step) (x : ℕ → ℤ) (a : Area) → View d p t →
+          feedQuestion (here d p e) n x (a .size) (a .numbers) ≡ pick (eqb (feedAway f W e t a) 0) (ask (fits (feeds (here d p e) (a .numbers) x)) 14 0)
+          (feedAway f W e t a)
+      unfolding feedQuestion feedAway
+      feed-asked room true t x a v = rw (counts true, room) refl
+      feed-asked room false _ x a (at-end h) = rw (counts false, room, no-row-end h) refl
+      feed-asked room false _ x a (at-height due q) = rw (counts false, room, no-row-height due q) refl
+      feed-asked room false _ x a (at-row k u c o) =
+          rw (counts false, room, row-due k u c (o .due) (o .is), length-is k u c (o .is), level-is k u c (o .is))
+          (go (eqb (a .size) (bandColumns W (suc k) c)) (runFits f (suc k) (a .size) (a .numbers)) (ask (fits (feeds (here d p false) (a .numbers) x)) 14 0))
+        where
+          go : (t₁ t₂ : Bool) (r : ℕ) → ask t₁ 13 (ask t₂ 7 r) ≡ pick (eqb (ask t₁ 13 (ask t₂ 7 0)) 0) r (ask t₁ 13 (ask t₂ 7 0))
+          go true true r = refl
+          go true false r = refl
+          go false t₂ r = refl
 
-    -- ---- a draw: turned away, with no row to give, or with one
-    pub data DrawView (e : Bool) (t : List Step) (x : ℕ → ℤ) (a : Area) : Type 0 where
-      draw-away : (q : ℕ) → eqb q 0 ≡ false → eqb q 14 ≡ false → drawSays W e t (a .size) ≡ refused q → drawQuestion (here d p e) n x (a .size) ≡ q →
-          DrawView e t x a
-      draw-idle : e ≡ false → drawDue (here d p e) ≡ false → drawSays W e t (a .size) ≡ gives nothing → drawQuestion (here d p e) n x (a .size) ≡ 0 →
-          DrawView e t x a
-      draw-onward : e ≡ false → d < H .length → nextOf d p ≡ spot 0 0 4 → t ≡ draw d ∷ stepsLeft f W H l (suc d) (enter f W H (suc l) (suc d)) →
-          drawDue (here d p e) ≡ true → drawSays W e t (a .size) ≡ gives (heights (W .length)) →
-          drawQuestion (here d p e) n x (a .size) ≡ ask (fits (settles (here d p e) x)) 14 0 → DrawView e t x a
+      pub data FeedView (e : Bool) (t : List Step) (x : ℕ → ℤ) (a : Area) : Type 0 where
+        feed-away : (q : ℕ) → feedTurned f W (suc l) e t n a ≡ q → eqb q 0 ≡ false → eqb q 14 ≡ false →
+            feedQuestion (here d p e) n x (a .size) (a .numbers) ≡ q → FeedView e t x a
+        feed-onward : (k u : ℕ) (c : Band) → e ≡ false → Due d p k u c →
+            t ≡ feed (nameOf k u c) ∷ stepsLeft f W H l d (beyond f W H (suc l) k u (code c)) → a .size ≡ bandColumns W (suc k) c →
+            runFits f (suc k) (a .size) (a .numbers) ≡ true →
+            feedTurned f W (suc l) e t n a ≡ 0 → feedQuestion (here d p e) n x (a .size) (a .numbers) ≡ ask (fits (feeds (here d p e) (a .numbers) x)) 14 0 →
+            FeedView e t x a
 
-    pub draw-view : (e : Bool) (t : List Step) (x : ℕ → ℤ) (a : Area) → View d p t → DrawView e t x a
-    unfolding drawQuestion drawSays
-    draw-view true t x a v = draw-away 9 refl refl refl (rw (counts true, lim .room) refl)
-    draw-view false _ x a (at-end h) = draw-idle refl (no-draw-end h) refl (rw (counts false, lim .room, no-draw-end h) refl)
-    draw-view false _ x a (at-row k u c o) =
-        draw-idle refl (no-draw-row k u c (o .due) (o .is)) refl (rw (counts false, lim .room, no-draw-row k u c (o .due) (o .is)) refl)
-    draw-view false _ x a (at-height due q) = elim (decLe (W .length) (a .size)) [
-      | yes m ↦ draw-onward refl due q refl (draw-due due q) (rw (le-leb (W .length) (a .size) m) refl)
-          (rw (counts false, lim .room, draw-due due q, le-leb (W .length) (a .size) m) refl)
-      | no m ↦ draw-away 12 refl refl (rw (lt-leb (W .length) (a .size) (omega arith)) refl)
-          (rw (counts false, lim .room, draw-due due q, lt-leb (W .length) (a .size) (omega arith)) refl)
-    ]
+      turned-is : Room ≡ true → (e : Bool) (t : List Step) (a : Area) (q : ℕ) → feedAway f W e t a ≡ q → feedTurned f W (suc l) e t n a ≡ q
+      unfolding feedTurned
+      turned-is room e t a q w = rw room w
+
+      asked-away : Room ≡ true → (e : Bool) (t : List Step) (x : ℕ → ℤ) (a : Area) (q : ℕ) → View d p t → feedAway f W e t a ≡ q → eqb q 0 ≡ false →
+          eqb q 14 ≡ false → FeedView e t x a
+      asked-away room e t x a q v w g h = feed-away q (turned-is room e t a q w) g h (feed-asked room e t x a v
+          ∙ ap (λ i. pick (eqb i 0) (ask (fits (feeds (here d p e) (a .numbers) x)) 14 0) i) w ∙ go (eqb q 0) g)
+        where
+          go : (s : Bool) → s ≡ false → pick s (ask (fits (feeds (here d p e) (a .numbers) x)) 14 0) q ≡ q
+          go s z = rw z refl
+
+      long-view : Room ≡ true → (e : Bool) (t : List Step) (x : ℕ → ℤ) (a : Area) → View d p t → FeedView e t x a
+      unfolding feedAway
+      long-view room true t x a v = asked-away room true t x a 9 v refl refl refl
+      long-view room false _ x a (at-end h) = asked-away room false [] x a 8 (at-end h) refl refl refl
+      long-view room false _ x a (at-height due q) = asked-away room false _ x a 8 (at-height due q) refl refl refl
+      long-view room false _ x a (at-row k u c o) = go (eqb (a .size) (bandColumns W (suc k) c)) refl (runFits f (suc k) (a .size) (a .numbers)) refl
+        where
+          steps : List Step
+          steps = feed (nameOf k u c) ∷ stepsLeft f W H l d (beyond f W H (suc l) k u (code c))
+
+          go : (t₁ : Bool) → eqb (a .size) (bandColumns W (suc k) c) ≡ t₁ → (t₂ : Bool) → runFits f (suc k) (a .size) (a .numbers) ≡ t₂ →
+              FeedView false steps x a
+          go false y t₂ z = asked-away room false _ x a 13 (at-row k u c o) (rw y refl) refl refl
+          go true y false z = asked-away room false _ x a 7 (at-row k u c o) (rw (y, z) refl) refl refl
+          go true y true z = feed-onward k u c refl o refl (eqb-true _ _ y) z (turned-is room false steps a 0 (rw (y, z) refl))
+              (feed-asked room false _ x a (at-row k u c o) ∙ rw (y, z) refl)
+
+      pub feed-view : (e : Bool) (t : List Step) (x : ℕ → ℤ) (a : Area) → View d p t → FeedView e t x a
+      feed-view e t x a v = go Room refl
+        where
+          go : (b : Bool) → Room ≡ b → FeedView e t x a
+          go true room = long-view room e t x a v
+          go false off = let s = feed-short e t x a off in feed-away 5 (s .0) refl refl (s .1)
+
+      -- ---- a draw: turned away, with no row to give, or with one
+      pub data DrawView (e : Bool) (t : List Step) (x : ℕ → ℤ) (a : Area) : Type 0 where
+        draw-away : (q : ℕ) → eqb q 0 ≡ false → eqb q 14 ≡ false → drawSays f W (suc l) e t n (a .size) ≡ refused q →
+            drawQuestion (here d p e) n x (a .size) ≡ q → DrawView e t x a
+        draw-idle : e ≡ false → drawDue (here d p e) ≡ false → drawSays f W (suc l) e t n (a .size) ≡ gives nothing →
+            drawQuestion (here d p e) n x (a .size) ≡ 0 → DrawView e t x a
+        draw-onward : e ≡ false → d < H .length → nextOf d p ≡ spot 0 0 4 → t ≡ draw d ∷ stepsLeft f W H l (suc d) (enter f W H (suc l) (suc d)) →
+            drawDue (here d p e) ≡ true → drawSays f W (suc l) e t n (a .size) ≡ gives (heights (W .length)) →
+            drawQuestion (here d p e) n x (a .size) ≡ ask (fits (settles (here d p e) x)) 14 0 → DrawView e t x a
+
+      drawn-long : Room ≡ true → (e : Bool) (t : List Step) (x : ℕ → ℤ) (a : Area) → View d p t → DrawView e t x a
+      unfolding drawQuestion drawSays drawGives
+      drawn-long room true t x a v = draw-away 9 refl refl (rw room refl) (rw (counts true, room) refl)
+      drawn-long room false _ x a (at-end h) = draw-idle refl (no-draw-end h) (rw room refl) (rw (counts false, room, no-draw-end h) refl)
+      drawn-long room false _ x a (at-row k u c o) =
+          draw-idle refl (no-draw-row k u c (o .due) (o .is)) (rw room refl) (rw (counts false, room, no-draw-row k u c (o .due) (o .is)) refl)
+      drawn-long room false _ x a (at-height due q) = elim (decLe (W .length) (a .size)) [
+        | yes m ↦ draw-onward refl due q refl (draw-due due q) (rw (room, le-leb (W .length) (a .size) m) refl)
+            (rw (counts false, room, draw-due due q, le-leb (W .length) (a .size) m) refl)
+        | no m ↦ draw-away 12 refl refl (rw (room, lt-leb (W .length) (a .size) (omega arith)) refl)
+            (rw (counts false, room, draw-due due q, lt-leb (W .length) (a .size) (omega arith)) refl)
+      ]
+
+      draw-short : Room ≡ false → (e : Bool) (t : List Step) (x : ℕ → ℤ) (a : Area) → DrawView e t x a
+      unfolding drawQuestion drawSays
+      draw-short off e t x a = draw-away 5 refl refl (rw off refl) (rw (counts e, off) refl)
+
+      pub draw-view : (e : Bool) (t : List Step) (x : ℕ → ℤ) (a : Area) → View d p t → DrawView e t x a
+      draw-view e t x a v = go Room refl
+        where
+          go : (b : Bool) → Room ≡ b → DrawView e t x a
+          go true room = drawn-long room e t x a v
+          go false off = draw-short off e t x a

@@ -92,26 +92,26 @@ done-only W false (step.feed y ∷ v) z = absurd (let p : _≡_ {A = ℕ} 0 1 = 
 done-only W false (step.draw r ∷ v) z = absurd (let p : _≡_ {A = ℕ} 0 1 = cc in omega arith)
 
 -- a set-up of no levels does not pass
-no-levels : (f : ℕ) (W H : Side) (n : ℕ) → setUpQuestion f W H 0 n ≡ 0 → ⊥
+pub no-levels : (f : ℕ) (W H : Side) (n : ℕ) → setUpQuestion f W H 0 n ≡ 0 → ⊥
 unfolding setUpQuestion
 no-levels f W H n e =
     let a = asked-yes (within 1 maxHeight (H .length)) _ _ (asked-yes (within 1 maxWidth (W .length)) _ _ e .1) in
     let b = asked-yes (isFilter f) 17 _ (a .1) in
     omega (arith, within-true 1 (filterOf f .levels) 0 (asked-yes (within 1 (filterOf f .levels) 0) 3 _ (b .1) .0) .0)
 
-module _ (f : ℕ) (W H : Side) (l n : ℕ) (lim : Limits f W H l n) where
-  abbrev T₀ : List Step
+module _ (f : ℕ) (W H : Side) (l : ℕ) (lim : Limits f W H l) where
+  abbrev pub T₀ : List Step
   T₀ = steps (ahead f) W H (suc l)
 
   -- what is reached after the events es
-  abbrev Then : List Event → World → Type 0
-  Then es w = Reached f W H l n lim w (endedBy es) (left T₀ es) (fedRows T₀ es) (drawnRows es)
+  abbrev pub Then : List Event → World → Type 0
+  Then es w = Reached f W H l lim w (endedBy es) (left T₀ es) (fedRows T₀ es) (drawnRows es)
 
-  step-reached : (c : Call) (es : List Event) (w : World) → Then es w → Then (es ++ (event c w ∷ [])) (demand.next c w)
+  pub step-reached : (c : Call) (es : List Event) (w : World) → Then es w → Then (es ++ (event c w ∷ [])) (demand.next c w)
   step-reached c es w r =
       let e = event c w in
       rw (ever-snoc ends es e, either-swap (endedBy es) (ends e), left-snoc T₀ es e, fed-snoc T₀ es e, gathered-snoc drawnBy es e)
-      (call-reached f W H l n lim c w (endedBy es) (left T₀ es) (fedRows T₀ es) (drawnRows es) r)
+      (call-reached f W H l lim c w (endedBy es) (left T₀ es) (fedRows T₀ es) (drawnRows es) r)
 
   tall : 0 < H .length
   tall = within-true 1 maxHeight (H .length) (lim .high) .0
@@ -122,7 +122,7 @@ module _ (f : ℕ) (W H : Side) (l n : ℕ) (lim : Limits f W H l n) where
   few : suc l ≤ filterOf f .levels
   few = within-true 1 (filterOf f .levels) (suc l) (lim .deep) .1
 
-  fresh-reached : (x : ℕ → ℤ) → Reached f W H l n lim (freshWorld f W H (suc l) n x) false (steps (ahead f) W H (suc l)) [] []
+  pub fresh-reached : (x : ℕ → ℤ) → Reached f W H l lim (freshWorld f W H (suc l) x) false (steps (ahead f) W H (suc l)) [] []
   unfolding fresh
   fresh-reached x = reached 0 (placeOf f H 0 (enter f W H (suc l) 0)) false _ (steps (ahead f) W H (suc l)) [] [] (record {
     drawn-le = omega arith;
@@ -138,7 +138,7 @@ module _ (f : ℕ) (W H : Side) (l n : ℕ) (lim : Limits f W H l n) where
       fit = λ r c p q. absurd (omega arith);
       shows = λ r c p q. absurd (omega arith);
       has = λ r p k live m q. absurd (omega arith);
-      holds = λ _ _. subst (λ q. HeldAt f W H l P q (freshWorld f W H (suc l) n x .store)) (sym same) (first-holds f W H l P _);
+      holds = λ _ _. subst (λ q. HeldAt f W H l P q (freshWorld f W H (suc l) x .store)) (sym same) (first-holds f W H l P _);
       refuses = λ z. absurd (subst T (sym z) tt);
     };
   })
@@ -146,9 +146,9 @@ module _ (f : ℕ) (W H : Side) (l n : ℕ) (lim : Limits f W H l n) where
       same : at f W H l 0 (placeOf f H 0 (enter f W H (suc l) 0)) ≡ enter f W H (suc l) 0
       same = ready-back f W H (suc l) 0 _ tall (ready-enter f W H l 0 tall) .0
 
-  then-reached : (x : ℕ → ℤ) (cs : List Call) → (let w = freshWorld f W H (suc l) n x in Then (events cs w) (final cs w))
+  then-reached : (x : ℕ → ℤ) (cs : List Call) → (let w = freshWorld f W H (suc l) x in Then (events cs w) (final cs w))
   unfolding lists.ever lists.gathered left fedRows
-  then-reached x cs = list-reached event demand.next Then step-reached cs [] (freshWorld f W H (suc l) n x) (fresh-reached x)
+  then-reached x cs = list-reached event demand.next Then step-reached cs [] (freshWorld f W H (suc l) x) (fresh-reached x)
 
   -- ---- what a row fed says of a map, over words and over whole numbers
   -- the cells of a row fed are cells of its band
@@ -208,12 +208,12 @@ module _ (f : ℕ) (W H : Side) (l n : ℕ) (lim : Limits f W H l n) where
     viewed : View f W H l d p t
     viewed = subst (View f W H l d p) (kept .left) (view f W H l d p (kept .level-le) (kept .ready))
 
-    want-is : event want (world f W H l n lim d p e x) ≡ wanted (gives (wantSays W e t))
+    want-is : event want (world f W H l lim d p e x) ≡ wanted (gives (wantSays W e t))
     unfolding event
-    want-is = ap wanted (want-says f W H l n lim d p (kept .drawn-le) (kept .level-le) (kept .band-le) (kept .back-le) e t viewed)
+    want-is = ap wanted (want-says f W H l lim d p (kept .drawn-le) (kept .level-le) (kept .band-le) (kept .back-le) e t viewed)
 
-    -- ---- feed
-    module _ (a : Area) where
+    -- ---- feed, lent a store of n numbers
+    module _ (n : ℕ) (a : Area) where
       abbrev seenFeed : ℕ → Event
       seenFeed q = fed a (said (λ _. tt) (feedReply (here f W H l d p e) q))
 
@@ -229,23 +229,23 @@ module _ (f : ℕ) (W H : Side) (l n : ℕ) (lim : Limits f W H l n) where
       unfolding feedReply
       seen-stops = refl
 
-      feed-turned : (q : ℕ) → feedTurned f W e t a ≡ suc q → event (feed a) (world f W H l n lim d p e x) ≡ fed a (refused (suc q))
+      feed-turned : (q : ℕ) → feedTurned f W (suc l) e t n a ≡ suc q → event (feed n a) (world f W H l lim d p e x) ≡ fed a (refused (suc q))
       unfolding event
-      feed-turned q h = go (feed-view f W H l n lim d p (kept .drawn-le) (kept .level-le) (kept .band-le) (kept .back-le) e t x a viewed)
+      feed-turned q h = go (feed-view f W H l lim d p (kept .drawn-le) (kept .level-le) (kept .band-le) (kept .back-le) n e t x a viewed)
         where
-          go : FeedView f W H l n lim d p (kept .drawn-le) (kept .level-le) (kept .band-le) (kept .back-le) e t x a →
+          go : FeedView f W H l lim d p (kept .drawn-le) (kept .level-le) (kept .band-le) (kept .back-le) n e t x a →
               seenFeed (feedQuestion (here f W H l d p e) n x (a .size) (a .numbers)) ≡ fed a (refused (suc q))
           go (feed-away p fr z z′ at) = ap seenFeed at ∙ seen-away p z z′ ∙ ap (λ i. fed a (refused i)) (sym fr ∙ h)
           go (feed-onward k u c live o head long in-range fr at) = absurd (omega (arith, fr, h))
 
-      feed-on : feedTurned f W e t a ≡ 0 → OneOf (event (feed a) (world f W H l n lim d p e x)) (fed a (gives tt)) (fed a (refused 14))
+      feed-on : feedTurned f W (suc l) e t n a ≡ 0 → OneOf (event (feed n a) (world f W H l lim d p e x)) (fed a (gives tt)) (fed a (refused 14))
       unfolding event
-      feed-on h = go (feed-view f W H l n lim d p (kept .drawn-le) (kept .level-le) (kept .band-le) (kept .back-le) e t x a viewed)
+      feed-on h = go (feed-view f W H l lim d p (kept .drawn-le) (kept .level-le) (kept .band-le) (kept .back-le) n e t x a viewed)
         where
           zero-away : (q : ℕ) → q ≡ 0 → eqb q 0 ≡ false → ⊥
           zero-away q fr z = subst T (ap (λ i. eqb i 0) (sym fr) ∙ z) tt
 
-          go : FeedView f W H l n lim d p (kept .drawn-le) (kept .level-le) (kept .band-le) (kept .back-le) e t x a →
+          go : FeedView f W H l lim d p (kept .drawn-le) (kept .level-le) (kept .band-le) (kept .back-le) n e t x a →
               OneOf (seenFeed (feedQuestion (here f W H l d p e) n x (a .size) (a .numbers))) (fed a (gives tt)) (fed a (refused 14))
           go (feed-away p fr z z′ at) = absurd (zero-away p (sym fr ∙ h) z)
           go (feed-onward k u c live o head long in-range fr at) = tried (fits (feeds (here f W H l d p e) (a .numbers) x)) at
@@ -256,14 +256,14 @@ module _ (f : ℕ) (W H : Side) (l n : ℕ) (lim : Limits f W H l n) where
               tried false z = that (ap seenFeed z ∙ seen-stops)
 
     -- ---- draw
-    module _ (a : Area) where
+    module _ (n : ℕ) (a : Area) where
       abbrev s : Reader
       s = here f W H l d p e
 
       abbrev seenDraw : ℕ → Event
       seenDraw q = drew a (said given (drawReply s q)) (record { size = a .size; numbers = drawArea s q x (a .numbers) })
 
-      drawn-away : (q : ℕ) → eqb q 0 ≡ false → eqb q 14 ≡ false → drawSays W e t (a .size) ≡ refused q → Draws W e t a (seenDraw q)
+      drawn-away : (q : ℕ) → eqb q 0 ≡ false → eqb q 14 ≡ false → drawSays f W (suc l) e t n (a .size) ≡ refused q → Draws f W (suc l) e t n a (seenDraw q)
       unfolding drawReply drawArea
       drawn-away q z fr says = rw (z, fr) (record {
         answer = refused q;
@@ -278,7 +278,7 @@ module _ (f : ℕ) (W H : Side) (l n : ℕ) (lim : Limits f W H l n) where
           no-fourteen : _≡_ {A = Reply Given} (refused q) (refused 14) → ⊥
           no-fourteen r = let p : q ≡ 14 = cc in subst T (ap (λ i. eqb i 14) (sym p) ∙ fr) tt
 
-      drawn-idle : drawDue s ≡ false → drawSays W e t (a .size) ≡ gives nothing → Draws W e t a (seenDraw 0)
+      drawn-idle : drawDue s ≡ false → drawSays f W (suc l) e t n (a .size) ≡ gives nothing → Draws f W (suc l) e t n a (seenDraw 0)
       unfolding drawReply drawArea
       drawn-idle z says = rw z (record {
         answer = gives nothing;
@@ -290,7 +290,7 @@ module _ (f : ℕ) (W H : Side) (l n : ℕ) (lim : Limits f W H l n) where
         possible = λ r. absurd (let p : _≡_ {A = ℕ} 0 1 = cc in omega arith);
       })
 
-      drawn-stops : drawSays W e t (a .size) ≡ gives (heights (W .length)) → Draws W e t a (seenDraw 14)
+      drawn-stops : drawSays f W (suc l) e t n (a .size) ≡ gives (heights (W .length)) → Draws f W (suc l) e t n a (seenDraw 14)
       unfolding drawReply drawArea
       drawn-stops says = record {
         answer = refused 14;
@@ -302,7 +302,7 @@ module _ (f : ℕ) (W H : Side) (l n : ℕ) (lim : Limits f W H l n) where
         possible = λ _. says;
       }
 
-      drawn-goes : drawDue s ≡ true → drawSays W e t (a .size) ≡ gives (heights (W .length)) → Draws W e t a (seenDraw 0)
+      drawn-goes : drawDue s ≡ true → drawSays f W (suc l) e t n (a .size) ≡ gives (heights (W .length)) → Draws f W (suc l) e t n a (seenDraw 0)
       unfolding drawReply drawArea written
       drawn-goes z says = rw z (record {
         answer = gives (heights (W .length));
@@ -314,17 +314,17 @@ module _ (f : ℕ) (W H : Side) (l n : ℕ) (lim : Limits f W H l n) where
         possible = λ r. absurd (let p : _≡_ {A = ℕ} 0 1 = cc in omega arith);
       })
 
-      draw-is : Draws W e t a (event (draw a) (world f W H l n lim d p e x))
+      draw-is : Draws f W (suc l) e t n a (event (draw n a) (world f W H l lim d p e x))
       unfolding event
-      draw-is = go (draw-view f W H l n lim d p (kept .drawn-le) (kept .level-le) (kept .band-le) (kept .back-le) e t x a viewed)
+      draw-is = go (draw-view f W H l lim d p (kept .drawn-le) (kept .level-le) (kept .band-le) (kept .back-le) n e t x a viewed)
         where
-          go : DrawView f W H l n lim d p (kept .drawn-le) (kept .level-le) (kept .band-le) (kept .back-le) e t x a
-              → Draws W e t a (seenDraw (drawQuestion s n x (a .size)))
-          go (draw-away q z fr says at) = subst (λ i. Draws W e t a (seenDraw i)) (sym at) (drawn-away q z fr says)
-          go (draw-idle live z says at) = subst (λ i. Draws W e t a (seenDraw i)) (sym at) (drawn-idle z says)
-          go (draw-onward live due is-height head to-draw says at) = subst (λ i. Draws W e t a (seenDraw i)) (sym at) (tried (fits (settles s x)))
+          go : DrawView f W H l lim d p (kept .drawn-le) (kept .level-le) (kept .band-le) (kept .back-le) n e t x a
+              → Draws f W (suc l) e t n a (seenDraw (drawQuestion s n x (a .size)))
+          go (draw-away q z fr says at) = subst (λ i. Draws f W (suc l) e t n a (seenDraw i)) (sym at) (drawn-away q z fr says)
+          go (draw-idle live z says at) = subst (λ i. Draws f W (suc l) e t n a (seenDraw i)) (sym at) (drawn-idle z says)
+          go (draw-onward live due is-height head to-draw says at) = subst (λ i. Draws f W (suc l) e t n a (seenDraw i)) (sym at) (tried (fits (settles s x)))
             where
-              tried : (u : Bool) → Draws W e t a (seenDraw (ask u 14 0))
+              tried : (u : Bool) → Draws f W (suc l) e t n a (seenDraw (ask u 14 0))
               tried true = drawn-goes to-draw says
               tried false = drawn-stops says
 
@@ -412,7 +412,7 @@ module _ (f : ℕ) (W H : Side) (l n : ℕ) (lim : Limits f W H l n) where
     fits-yes v m z = ap (λ (w : Tried). ask (fits w) 14 0) z
 
     -- a feed of the row wanted goes on or gives 14, by whether what is due fits
-    module _ (a : Area) (y : RowName) (t′ : List Step) (first : t ≡ step.feed y ∷ t′) (P : Rows)
+    module _ (n : ℕ) (a : Area) (y : RowName) (t′ : List Step) (first : t ≡ step.feed y ∷ t′) (P : Rows)
         (has : All (HasFedRow W P) (fs ++ (record { row = y; run = a } ∷ []))) where
       abbrev s′ : Reader
       s′ = here f W H l d p e
@@ -421,10 +421,10 @@ module _ (f : ℕ) (W H : Side) (l n : ℕ) (lim : Limits f W H l n) where
       Fitting = FeedFits f W H (suc l) P y t′
 
       abbrev Seen : Type 0
-      Seen = FeedView f W H l n lim d p (kept .drawn-le) (kept .level-le) (kept .band-le) (kept .back-le) e t x a
+      Seen = FeedView f W H l lim d p (kept .drawn-le) (kept .level-le) (kept .band-le) (kept .back-le) n e t x a
 
       seen : Seen
-      seen = feed-view f W H l n lim d p (kept .drawn-le) (kept .level-le) (kept .band-le) (kept .back-le) e t x a viewed
+      seen = feed-view f W H l lim d p (kept .drawn-le) (kept .level-le) (kept .band-le) (kept .back-le) n e t x a viewed
 
       feed-decides : (k u : ℕ) (c : Band) → e ≡ false → Due f W H l d p k u c →
           t ≡ step.feed (nameOf f W H l k u c) ∷ stepsLeft f W H l d (beyond f W H (suc l) k u (code c)) →
@@ -450,7 +450,7 @@ module _ (f : ℕ) (W H : Side) (l n : ℕ) (lim : Limits f W H l n) where
           rest-is : left-then ≡ t′
           rest-is = cc
 
-      feed-works-here : event (feed a) (world f W H l n lim d p e x) ≡ fed a (gives tt) → Fitting
+      feed-works-here : event (feed n a) (world f W H l lim d p e x) ≡ fed a (gives tt) → Fitting
       unfolding event
       feed-works-here passes = go seen
         where
@@ -458,14 +458,14 @@ module _ (f : ℕ) (W H : Side) (l n : ℕ) (lim : Limits f W H l n) where
           differ q z = let b : _≡_ {A = ℕ} 0 1 = cc in omega arith
 
           go : Seen → Fitting
-          go (feed-away q fr z z′ at) = absurd (differ q (sym (ap (seenFeed a) at ∙ seen-away a q z z′) ∙ passes))
+          go (feed-away q fr z z′ at) = absurd (differ q (sym (ap (seenFeed n a) at ∙ seen-away n a q z z′) ∙ passes))
           go (feed-onward k u c live o head long in-range fr at) = tried (feeds s′ (a .numbers) x) refl
             where
               tried : (v : Tried) → feeds s′ (a .numbers) x ≡ v → Fitting
-              tried failed z = absurd (differ 14 (sym (ap (seenFeed a) (at ∙ fits-no _ z) ∙ seen-stops a) ∙ passes))
+              tried failed z = absurd (differ 14 (sym (ap (seenFeed n a) (at ∙ fits-no _ z) ∙ seen-stops n a) ∙ passes))
               tried (passed m) z = outcome-passed m (subst (Outcome Fitting _) z (feed-decides k u c live o head))
 
-      feed-ends-here : event (feed a) (world f W H l n lim d p e x) ≡ fed a (refused 14) → Fitting → ⊥
+      feed-ends-here : event (feed n a) (world f W H l lim d p e x) ≡ fed a (refused 14) → Fitting → ⊥
       unfolding event
       feed-ends-here ends fit = go seen
         where
@@ -476,23 +476,23 @@ module _ (f : ℕ) (W H : Side) (l n : ℕ) (lim : Limits f W H l n) where
           differ z = let b : _≡_ {A = ℕ} 0 1 = cc in omega arith
 
           go : Seen → ⊥
-          go (feed-away q fr z z′ at) = other q z′ (sym (ap (seenFeed a) at ∙ seen-away a q z z′) ∙ ends)
+          go (feed-away q fr z z′ at) = other q z′ (sym (ap (seenFeed n a) at ∙ seen-away n a q z z′) ∙ ends)
           go (feed-onward k u c live o head long in-range fr at) = tried (feeds s′ (a .numbers) x) refl
             where
               tried : (v : Tried) → feeds s′ (a .numbers) x ≡ v → ⊥
               tried failed z = outcome-failed (subst (Outcome Fitting _) z (feed-decides k u c live o head)) fit
-              tried (passed m) z = differ (sym (ap (seenFeed a) (at ∙ fits-yes _ m z) ∙ seen-goes a) ∙ ends)
+              tried (passed m) z = differ (sym (ap (seenFeed n a) (at ∙ fits-yes _ m z) ∙ seen-goes n a) ∙ ends)
 
     -- a draw of a row likewise
-    module _ (a after : Area) (P : Rows) (has : All (HasFedRow W P) fs) where
+    module _ (n : ℕ) (a after : Area) (P : Rows) (has : All (HasFedRow W P) fs) where
       abbrev r′ : Reader
       r′ = here f W H l d p e
 
       abbrev Shown : Type 0
-      Shown = DrawView f W H l n lim d p (kept .drawn-le) (kept .level-le) (kept .band-le) (kept .back-le) e t x a
+      Shown = DrawView f W H l lim d p (kept .drawn-le) (kept .level-le) (kept .band-le) (kept .back-le) n e t x a
 
       shown : Shown
-      shown = draw-view f W H l n lim d p (kept .drawn-le) (kept .level-le) (kept .band-le) (kept .back-le) e t x a viewed
+      shown = draw-view f W H l lim d p (kept .drawn-le) (kept .level-le) (kept .band-le) (kept .back-le) n e t x a viewed
 
       draw-decides : e ≡ false → d < H .length → nextOf f W H l d p ≡ spot 0 0 4 →
           Outcome (SetsFit f W H (suc l) P 0 d) (λ _. SetsFit f W H (suc l) P 0 d) (settles r′ x)
@@ -501,11 +501,11 @@ module _ (f : ℕ) (W H : Side) (l n : ℕ) (lim : Limits f W H l n) where
           (settles-outcome f W H l d p (kept .level-le) (kept .ready due) P x (kept .rows P has .holds live due) e (spot 0 0 4) is-height)
 
       -- another answer than v is not what was seen
-      not-said : (v u : Reply Given) → event (draw a) (world f W H l n lim d p e x) ≡ drew a v after → (u ≡ v → ⊥) → (q : ℕ) →
+      not-said : (v u : Reply Given) → event (draw n a) (world f W H l lim d p e x) ≡ drew a v after → (u ≡ v → ⊥) → (q : ℕ) →
           said given (drawReply r′ q) ≡ u → drawQuestion r′ n x (a .size) ≡ q → ⊥
       unfolding event
       not-said v u is differ q says at =
-          let z : seenDraw a q ≡ drew a v after = sym (ap (seenDraw a) at) ∙ is in
+          let z : seenDraw n a q ≡ drew a v after = sym (ap (seenDraw n a) at) ∙ is in
           let y : said given (drawReply r′ q) ≡ v = cc in
           differ (sym says ∙ y)
 
@@ -525,7 +525,7 @@ module _ (f : ℕ) (W H : Side) (l n : ℕ) (lim : Limits f W H l n) where
       unfolding drawReply
       stop-says = refl
 
-      draw-works-here : event (draw a) (world f W H l n lim d p e x) ≡ drew a (gives (heights (W .length))) after → SetsFit f W H (suc l) P 0 d
+      draw-works-here : event (draw n a) (world f W H l lim d p e x) ≡ drew a (gives (heights (W .length))) after → SetsFit f W H (suc l) P 0 d
       draw-works-here passes = go shown
         where
           no-row : (q : ℕ) → _≡_ {A = Reply Given} (refused q) (gives (heights (W .length))) → ⊥
@@ -543,7 +543,7 @@ module _ (f : ℕ) (W H : Side) (l n : ℕ) (lim : Limits f W H l n) where
               tried failed z = absurd (not-said _ (refused 14) passes (no-row 14) 14 stop-says (at ∙ fits-no _ z))
               tried (passed m) z = outcome-passed m (subst (Outcome (SetsFit f W H (suc l) P 0 d) _) z (draw-decides live due is-height))
 
-      draw-ends-here : event (draw a) (world f W H l n lim d p e x) ≡ drew a (refused 14) after → SetsFit f W H (suc l) P 0 d → ⊥
+      draw-ends-here : event (draw n a) (world f W H l lim d p e x) ≡ drew a (refused 14) after → SetsFit f W H (suc l) P 0 d → ⊥
       draw-ends-here ends fit = go shown
         where
           other : (q : ℕ) → eqb q 14 ≡ false → _≡_ {A = Reply Given} (refused q) (refused 14) → ⊥
@@ -635,7 +635,7 @@ module _ (f : ℕ) (W H : Side) (l n : ℕ) (lim : Limits f W H l n) where
       grid-rows : All (HasRow f W H grid) fs
       grid-rows = wholes-of grid grid-map fs (kept .good) grid-has
 
-    finished-then : event want (world f W H l n lim d p e x) ≡ wanted (gives done) →
+    finished-then : event want (world f W H l lim d p e x) ≡ wanted (gives done) →
         (g : Grid) × Map g × All (HasRow f W H g) fs × (length ds ≡ H .length) × FirstRows W g ds
     finished-then z =
         let w : _≡_ {A = Event} (wanted (gives (wantSays W e t))) (wanted (gives done)) = sym want-is ∙ z in
@@ -653,7 +653,7 @@ module _ (f : ℕ) (W H : Side) (l n : ℕ) (lim : Limits f W H l n) where
     not-ended true h = absurd (h refl)
     not-ended false h = refl
 
-    then-finished : (g : Grid) → Map g → All (HasRow f W H g) fs → length ds ≡ H .length → event want (world f W H l n lim d p e x) ≡ wanted (gives done)
+    then-finished : (g : Grid) → Map g → All (HasRow f W H g) fs → length ds ≡ H .length → event want (world f W H l lim d p e x) ≡ wanted (gives done)
     unfolding wantSays
     then-finished g m has all =
         let live : e ≡ false = not-ended e (λ z. none-has z g m has) in
@@ -661,9 +661,9 @@ module _ (f : ℕ) (W H : Side) (l n : ℕ) (lim : Limits f W H l n) where
         want-is ∙ ap₂ (λ u v. wanted (gives (wantSays W u v))) live over
 
   -- ---- the claim, for a world that is reached
-  claim : (w : World) (es : List Event) → Then es w → (countsFit (w .reader) ≡ true) × Demand3 f W H (suc l) es (λ c. event c w)
+  pub claim : (w : World) (es : List Event) → Then es w → (countsFit (w .reader) ≡ true) × Demand3 f W H (suc l) es (λ c. event c w)
   claim _ es (reached d p e x t fs ds kept) = (
-    counts f W H l n lim d p (kept .drawn-le) (kept .level-le) (kept .band-le) (kept .back-le) e,
+    counts f W H l lim d p (kept .drawn-le) (kept .level-le) (kept .band-le) (kept .back-le) e,
     record {
       rows-once = steps-once (ahead f) (looks f) W H (suc l) (omega arith);
       heights-once = steps-heights (ahead f) W H (suc l);
@@ -672,12 +672,12 @@ module _ (f : ℕ) (W H : Side) (l n : ℕ) (lim : Limits f W H l n) where
       feeds-on = feed-on d p e x t fs ds kept;
       draws = draw-is d p e x t fs ds kept;
       first = λ g has. first-rows d p e x t fs ds kept g (has .map) (has .rows);
-      feed-works = λ a y t′ goes P has. feed-works-here d p e x t fs ds kept a y t′ (goes .next) P has (goes .passes);
-      draw-works = λ a z passes P has.
-          subst (λ i. SetsFit f W H (suc l) P 0 i) (sym (kept .drawn)) (draw-works-here d p e x t fs ds kept a z P has passes);
-      feed-ends = λ a y t′ first ends P has. feed-ends-here d p e x t fs ds kept a y t′ first P has ends;
-      draw-ends = λ a z ends P has fit.
-          draw-ends-here d p e x t fs ds kept a z P has ends (subst (λ i. SetsFit f W H (suc l) P 0 i) (kept .drawn) fit);
+      feed-works = λ n a y t′ goes P has. feed-works-here d p e x t fs ds kept n a y t′ (goes .next) P has (goes .passes);
+      draw-works = λ n a z passes P has.
+          subst (λ i. SetsFit f W H (suc l) P 0 i) (sym (kept .drawn)) (draw-works-here d p e x t fs ds kept n a z P has passes);
+      feed-ends = λ n a y t′ first ends P has. feed-ends-here d p e x t fs ds kept n a y t′ first P has ends;
+      draw-ends = λ n a z ends P has fit.
+          draw-ends-here d p e x t fs ds kept n a z P has ends (subst (λ i. SetsFit f W H (suc l) P 0 i) (kept .drawn) fit);
       impossible = λ z g has. none-has d p e x t fs ds kept z g (has .map) (has .rows);
       finished = (
         λ z. let fr = finished-then d p e x t fs ds kept z in record { map = fr .0; has = record { map = fr .1; rows = fr .2 }; all = fr .3; first = fr .4 },
@@ -688,9 +688,9 @@ module _ (f : ℕ) (W H : Side) (l n : ℕ) (lim : Limits f W H l n) where
 
 -- ---- demand 3: a set-up that passes, of a map that starts on the grid, on a store of n numbers in which x stood, then any calls
 pub demand-3 : (f : ℕ) (W H : Side) (L n : ℕ) → W .start ≤ maxOrigin → H .start ≤ maxOrigin → setUpQuestion f W H L n ≡ 0 → (x : ℕ → ℤ) (cs : List Call) →
-    OfCalls f W H L n x cs
+    OfCalls f W H L x cs
 demand-3 f W H zero n across down ok x cs = absurd (no-levels f W H n ok)
 demand-3 f W H (suc l) n across down ok x cs =
     let lim = limits f W H l n across down ok in
-    let c = claim f W H l n lim _ _ (then-reached f W H l n lim x cs) in
+    let c = claim f W H l lim _ _ (then-reached f W H l lim x cs) in
     record { in-range = c .0; claim = c .1 }

@@ -207,6 +207,18 @@ module _ (f : ℕ) (W H : Side) (l : ℕ) (P : Rows) where
   got-same : (k n : ℕ) (c : Band) (m m′ : ℕ → ℤ) → SameMem f (sideAt k W) m m′ → Got k n m c → Got k n m′ c
   got-same k n c m m′ e s = laws f .got-reads (sideAt k W) (sideAt k H) (B k) n c m m′ e s
 
+  -- so do stores that agree in the part that the levels have
+  pub held-reads : (lev n b : ℕ) (x y : ℕ → ℤ) → ((j : ℕ) → j < stretchAt f W (suc l) → y j ≡ x j) → Held lev n b x → Held lev n b y
+  unfolding from
+  held-reads lev n b x y e h = record {
+    below = λ u k live q. leaves-same k (needed f H lev n (suc k)) (mem f W k x) (mem f W k y) (same k (live .0)) (h .below u k live q);
+    before = λ k live q. before-same k (waitsAt f H lev n (suc k)) (mem f W k x) (mem f W k y) (same k (live .0)) (h .before k live q);
+    got = λ k live q c kept less. got-same k n c (mem f W k x) (mem f W k y) (same k (live .0)) (h .got k live q c kept less);
+  }
+    where
+      same : (k : ℕ) → k ≤ l → SameMem f (sideAt k W) (mem f W k x) (mem f W k y)
+      same k p j b = e (stretchAt f W k + j) (omega (arith, stretch-end f W k (suc l) (omega arith)))
+
   -- a band that is not asked for has no row to be there
   got-none : (k n : ℕ) (m : ℕ → ℤ) (t : Bool) (c : Band) → keptAt t c ≡ true → (asked t (sideAt k W) (sideAt k H) n c ≡ true → ⊥) → Got k n m c
   unfolding asked

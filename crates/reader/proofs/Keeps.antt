@@ -163,8 +163,8 @@ holds-at f W H l d q P x ready h =
     (λ due. subst (λ r. HeldAt f W H l P r x) (sym (ready-back f W H (suc l) d q due (ready due) .0)) (h due))
 
 module _ (f : ℕ) (W H : Side) (l d : ℕ) (p : Place) (e : Bool) (n : ℕ) (x : ℕ → ℤ) where
-  limits-of : Inside f W H l d p → storeFits f W (suc l) n ≡ true → Limits f W H l n
-  limits-of i r = record { across = i .across; down = i .down; wide = i .wide; high = i .high; known = i .known; deep = i .deep; room = r }
+  limits-of : Inside f W H l d p → Limits f W H l
+  limits-of i = record { across = i .across; down = i .down; wide = i .wide; high = i .high; known = i .known; deep = i .deep }
 
   -- ---- feed
   module _ (a : Area) where
@@ -188,11 +188,11 @@ module _ (f : ℕ) (W H : Side) (l d : ℕ) (p : Place) (e : Bool) (n : ℕ) (x 
     onward ready never b g =
         let t = two-yes (countsFit (s f W H l d p e)) (storeFits f W (suc l) n) _ q refl b g in
         let i = inside f W H l d p e (t .0) in
-        go i (feed-view f W H l n (limits-of i (t .1)) d p (i .drawn-le) (i .level-le) (i .band-le) (i .back-le) e (stepsLeft f W H l d (at f W H l d p)) x a
+        go i (feed-view f W H l (limits-of i) d p (i .drawn-le) (i .level-le) (i .band-le) (i .back-le) n e (stepsLeft f W H l d (at f W H l d p)) x a
         (view f W H l d p (i .level-le) ready))
       where
-        go : (i : Inside f W H l d p) {lim : Limits f W H l n} →
-            FeedView f W H l n lim d p (i .drawn-le) (i .level-le) (i .band-le) (i .back-le) e (stepsLeft f W H l d (at f W H l d p)) x a → Onward
+        go : (i : Inside f W H l d p) {lim : Limits f W H l} →
+            FeedView f W H l lim d p (i .drawn-le) (i .level-le) (i .band-le) (i .back-le) n e (stepsLeft f W H l d (at f W H l d p)) x a → Onward
         go i (feed-away r _ z y at) = absurd (never (ap (λ j. eqb j 0) at ∙ z) (ap (λ j. eqb j 14) at ∙ y))
         go i (feed-onward k u c live o head long in-range _ at) = record { k = k; u = u; c = c; level-le = i .level-le; row = o; asks = at }
 
@@ -281,11 +281,11 @@ module _ (f : ℕ) (W H : Side) (l d : ℕ) (p : Place) (e : Bool) (n : ℕ) (x 
     drawing ready never b g idle =
         let t = two-yes (countsFit (s f W H l d p e)) (storeFits f W (suc l) n) _ o₀ refl b g in
         let i = inside f W H l d p e (t .0) in
-        go i (draw-view f W H l n (limits-of i (t .1)) d p (i .drawn-le) (i .level-le) (i .band-le) (i .back-le) e (stepsLeft f W H l d (at f W H l d p)) x a
+        go i (draw-view f W H l (limits-of i) d p (i .drawn-le) (i .level-le) (i .band-le) (i .back-le) n e (stepsLeft f W H l d (at f W H l d p)) x a
         (view f W H l d p (i .level-le) ready))
       where
-        go : (i : Inside f W H l d p) {lim : Limits f W H l n} →
-            DrawView f W H l n lim d p (i .drawn-le) (i .level-le) (i .band-le) (i .back-le) e (stepsLeft f W H l d (at f W H l d p)) x a → Drawing
+        go : (i : Inside f W H l d p) {lim : Limits f W H l} →
+            DrawView f W H l lim d p (i .drawn-le) (i .level-le) (i .band-le) (i .back-le) n e (stepsLeft f W H l d (at f W H l d p)) x a → Drawing
         go i (draw-away r z y _ at) = absurd (never (ap (λ j. eqb j 0) at ∙ z) (ap (λ j. eqb j 14) at ∙ y))
         go i (draw-idle live z _ at) = absurd (idle z at)
         go i (draw-onward live due at-height head to-draw _ at) =

@@ -17,5 +17,6 @@ pub mod Reached
 pub mod SetSteps
 pub mod Rebuilt
 pub mod Demand3
+pub mod AnyPast
 pub mod Played
 pub mod Surplus

@@ -14,7 +14,7 @@ use Rattle.wavelet.specs.Bands.{Grid, Band}
 use Rattle.lifting.specs.Grid.{Side}
 use Rattle.wavelet.specs.Levels.{levelBand}
 use Rattle.numbers.proofs.Sweep.{both}
-use Rattle.wavelet.specs.Limits.{maxOrigin, range}
+use Rattle.wavelet.specs.Limits.{maxWidth, maxHeight, maxOrigin, range}
 use Rattle.wavelet.specs.View.{bandRows, bandColumns}
 use Rattle.wavelet.specs.ViewCall.{bandRowExists, keptAt}
 use Rattle.wavelet.specs.Steps.{steps, Step, bandRowsOf}
@@ -28,13 +28,14 @@ use Rattle.calls.specs.Lists.{Reply, gives, refused, Area, All, all-none, all-m
 use Rattle.calls.specs.Lists as lists
 use Rattle.calls.proofs.AllLaws.{all-append, In, first, later, in-left, in-right, all-in, in-all}
 use Rattle.calls.proofs.ListLaws.{ever-append, final-append, events-append, events-length}
-use Rattle.nine_seven.specs.Filters.{filterOf}
+use Rattle.calls.proofs.QuestionLaws.{asked-yes}
+use Rattle.nine_seven.specs.Filters.{filterOf, isFilter}
 use Rattle.nine_seven.proofs.Filters.{filter-laws}
 use Rattle.reader.specs.Answers.{row, drawNow, done, ended}
-use Rattle.reader.specs.Questions.{runFits, setUpQuestion}
+use Rattle.reader.specs.Questions.{runFits, storeFits, setUpQuestion}
 use Rattle.reader.specs.Demand3.{Call, want, feed, draw, Given, heights, Event, wanted, fed, drew, World, event, events}
 use Rattle.reader.specs.Demand3.{final, freshWorld, goesOn, rest, leftBy, left, ends, endedBy, FedRow, fedBy, fedRows, HasRow}
-use Rattle.reader.specs.Demand3.{IsRow, HasFed, wantSays, feedTurned, drawSays, OneOf, this, that, Draws, Demand3}
+use Rattle.reader.specs.Demand3.{IsRow, HasFed, wantSays, feedAway, feedTurned, drawGives, drawSays, OneOf, this, that, Draws, Demand3}
 use Rattle.reader.specs.Demand3 as demand
 use Rattle.reader.specs.Played.{asWanted, answering, played, Sized, HasAll, Back, Stopped, Refusal, seven, fed-fourteen, drawn-fourteen, after, Played}
 use Rattle.reader_steps.proofs.Looks.{named-code}
@@ -81,16 +82,16 @@ left-length t (e ∷ es) = go (goesOn e) (left-length (rest t) es) (left-length 
     go true a b = omega (arith, rest-length t)
     go false a b = omega arith
 
-played-length : (rows : RowName → Area) (outs : ℕ → Area) (m : ℕ) (w : World) → length (played rows outs m w) ≤ m
+played-length : (n : ℕ) (rows : RowName → Area) (outs : ℕ → Area) (m : ℕ) (w : World) → length (played n rows outs m w) ≤ m
 unfolding played
-played-length rows outs zero w = omega arith
-played-length rows outs (suc m) w =
-    let now = answering rows (outs m) (event want w) in
-    let then = played rows outs m (final now w) in
-    omega (arith, played-length rows outs m (final now w), length-append now then, one (event want w))
+played-length n rows outs zero w = omega arith
+played-length n rows outs (suc m) w =
+    let now = answering n rows (outs m) (event want w) in
+    let then = played n rows outs m (final now w) in
+    omega (arith, played-length n rows outs m (final now w), length-append now then, one (event want w))
   where
-    one : (e : Event) → length (answering rows (outs m) e) ≤ 1
-    one (wanted (gives (row k c r n))) = unfold answering asWanted in omega arith
+    one : (e : Event) → length (answering n rows (outs m) e) ≤ 1
+    one (wanted (gives (row k c r j))) = unfold answering asWanted in omega arith
     one (wanted (gives drawNow)) = unfold answering asWanted in omega arith
     one (wanted (gives done)) = unfold answering asWanted in omega arith
     one (wanted (gives ended)) = unfold answering asWanted in omega arith
@@ -126,13 +127,26 @@ row-in-range f W H L g m y e = let p = exists-parts W H L (y .level) (y .band) (
         let z : suc k - 1 ≡ k = omega arith in
         map-band-range (filterOf f) (filter-laws f) W H g m k (y .band) (y .row) i (rw z at r) (rw z at p)
 
+-- a set-up that passed was lent a store that is long enough
+set-up-room : (f : ℕ) (W H : Side) (L n : ℕ) → setUpQuestion f W H L n ≡ 0 → storeFits f W L n ≡ true
+unfolding setUpQuestion
+set-up-room f W H L n e =
+    let a = asked-yes (within 1 maxWidth (W .length)) 1 _ e in
+    let b = asked-yes (within 1 maxHeight (H .length)) 2 _ (a .1) in
+    let k = asked-yes (isFilter f) 17 _ (b .1) in
+    let c = asked-yes (within 1 (filterOf f .levels) L) 3 _ (k .1) in
+    asked-yes (storeFits f W L n) 4 _ (c .1) .0
+
 module _ (f : ℕ) (W H : Side) (L n : ℕ) (across : W .start ≤ maxOrigin) (down : H .start ≤ maxOrigin) (ok : setUpQuestion f W H L n ≡ 0) (rows : RowName → Area)
     (sized : Sized W H L rows) (outs : ℕ → Area) (room : (i : ℕ) → W .length ≤ outs i .size) (x : ℕ → ℤ) where
   abbrev w₀ : World
-  w₀ = freshWorld f W H L n x
+  w₀ = freshWorld f W H L x
 
   abbrev T₀ : List Step
   T₀ = steps (ahead f) W H L
+
+  room-for : storeFits f W L n ≡ true
+  room-for = set-up-room f W H L n ok
 
   claim : (cs : List Call) → Demand3 f W H L (events cs w₀) (λ c. event c (final cs w₀))
   claim cs = demand-3 f W H L n across down ok x cs .claim
@@ -248,14 +262,14 @@ module _ (f : ℕ) (W H : Side) (L n : ℕ) (across : W .start ≤ maxOrigin) (d
           names-more = ap (λ u. namesOf (fedRows T₀ es) ++ u) (sym (ap bandRowsOf head ∙ unfold bandRowsOf in refl))
 
       -- where 14 comes no map has all rows
-      fed-none : event (feed (rows y)) w ≡ fed (rows y) (refused 14) → (g : Grid) → IsMap (W .length) (H .length) g → HasAll f W H L g rows → ⊥
+      fed-none : event (feed n (rows y)) w ≡ fed (rows y) (refused 14) → (g : Grid) → IsMap (W .length) (H .length) g → HasAll f W H L g rows → ⊥
       fed-none e g m h =
-          none-fourteen cs (feed (rows y)) (ap endedBy on ∙ ever-append ends es _ ∙ rw (fair .live) (unfold lists.ever ends in refl)) g m
+          none-fourteen cs (feed n (rows y)) (ap endedBy on ∙ ever-append ends es _ ∙ rw (fair .live) (unfold lists.ever ends in refl)) g m
           (subst (All (HasRow f W H g)) (sym (ap (fedRows T₀) on ∙ rows-are))
           (all-append (has-fed es fair g m h) (all-more (h .are y (next-exists es fair y t head)) all-none)))
         where
-          on : events (cs ++ (feed (rows y) ∷ [])) w₀ ≡ es ++ (fed (rows y) (refused 14) ∷ [])
-          on = events-on (feed (rows y)) _ e
+          on : events (cs ++ (feed n (rows y) ∷ [])) w₀ ≡ es ++ (fed (rows y) (refused 14) ∷ [])
+          on = events-on (feed n (rows y)) _ e
 
           rows-are : fedRows T₀ (es ++ (fed (rows y) (refused 14) ∷ [])) ≡ fedRows T₀ es ++ (fr ∷ [])
           rows-are = fed-append T₀ es _ ∙ ap (λ u. fedRows T₀ es ++ fedRows u (fed (rows y) (refused 14) ∷ [])) head ∙ unfold fedRows fedBy in refl
@@ -281,113 +295,117 @@ module _ (f : ℕ) (W H : Side) (L n : ℕ) (across : W .start ≤ maxOrigin) (d
           names-same : namesOf (fedRows T₀ es) ++ bandRowsOf t ≡ namesOf (fedRows T₀ es) ++ bandRowsOf (left T₀ es)
           names-same = ap (λ u. namesOf (fedRows T₀ es) ++ u) (sym (ap bandRowsOf head ∙ unfold bandRowsOf in refl))
 
-      drawn-none : event (draw a) w ≡ drew a (refused 14) b → (g : Grid) → IsMap (W .length) (H .length) g → HasAll f W H L g rows → ⊥
+      drawn-none : event (draw n a) w ≡ drew a (refused 14) b → (g : Grid) → IsMap (W .length) (H .length) g → HasAll f W H L g rows → ⊥
       drawn-none e g m h =
-          none-fourteen cs (draw a) (ap endedBy on ∙ ever-append ends es _ ∙ rw (fair .live) (unfold lists.ever ends in refl)) g m
+          none-fourteen cs (draw n a) (ap endedBy on ∙ ever-append ends es _ ∙ rw (fair .live) (unfold lists.ever ends in refl)) g m
           (subst (All (HasRow f W H g)) (sym (ap (fedRows T₀) on ∙ drawn-same _)) (has-fed es fair g m h))
         where
-          on : events (cs ++ (draw a ∷ [])) w₀ ≡ es ++ (drew a (refused 14) b ∷ [])
-          on = events-on (draw a) _ e
+          on : events (cs ++ (draw n a ∷ [])) w₀ ≡ es ++ (drew a (refused 14) b ∷ [])
+          on = events-on (draw n a) _ e
 
     -- ---- the call that is wanted
-    wanted-row : (a : Area) (y : RowName) (t : List Step) → left T₀ es ≡ step.feed y ∷ t → answering rows a (event want w) ≡ feed (rows y) ∷ []
+    wanted-row : (a : Area) (y : RowName) (t : List Step) → left T₀ es ≡ step.feed y ∷ t → answering n rows a (event want w) ≡ feed n (rows y) ∷ []
     unfolding answering asWanted wantSays
     wanted-row a y t head =
-        ap (answering rows a) (claim cs .wants ∙ ap₂ (λ u v. wanted (gives (wantSays W u v))) (fair .live) head)
-        ∙ ap (λ c. feed (rows (rowName (y .level) c (y .row))) ∷ []) (named-code (y .band))
+        ap (answering n rows a) (claim cs .wants ∙ ap₂ (λ u v. wanted (gives (wantSays W u v))) (fair .live) head)
+        ∙ ap (λ c. feed n (rows (rowName (y .level) c (y .row))) ∷ []) (named-code (y .band))
 
-    wanted-draw : (a : Area) (r : ℕ) (t : List Step) → left T₀ es ≡ step.draw r ∷ t → answering rows a (event want w) ≡ draw a ∷ []
+    wanted-draw : (a : Area) (r : ℕ) (t : List Step) → left T₀ es ≡ step.draw r ∷ t → answering n rows a (event want w) ≡ draw n a ∷ []
     unfolding answering asWanted wantSays
-    wanted-draw a r t head = ap (answering rows a) (claim cs .wants ∙ ap₂ (λ u v. wanted (gives (wantSays W u v))) (fair .live) head)
+    wanted-draw a r t head = ap (answering n rows a) (claim cs .wants ∙ ap₂ (λ u v. wanted (gives (wantSays W u v))) (fair .live) head)
 
     -- the turn as a call more
-    played-on : (m : ℕ) (c : Call) → answering rows (outs m) (event want w) ≡ c ∷ [] → played rows outs (suc m) w ≡ c ∷ played rows outs m (demand.next c w)
+    played-on : (m : ℕ) (c : Call) → answering n rows (outs m) (event want w) ≡ c ∷ [] →
+        played n rows outs (suc m) w ≡ c ∷ played n rows outs m (demand.next c w)
     unfolding played lists.final
-    played-on m c e = ap (λ u. u ++ played rows outs m (final u w)) e
+    played-on m c e = ap (λ u. u ++ played n rows outs m (final u w)) e
 
-    later-calls : (m : ℕ) (c : Call) → answering rows (outs m) (event want w) ≡ c ∷ [] →
-        cs ++ played rows outs (suc m) w ≡ (cs ++ (c ∷ [])) ++ played rows outs m (final (cs ++ (c ∷ [])) w₀)
+    later-calls : (m : ℕ) (c : Call) → answering n rows (outs m) (event want w) ≡ c ∷ [] →
+        cs ++ played n rows outs (suc m) w ≡ (cs ++ (c ∷ [])) ++ played n rows outs m (final (cs ++ (c ∷ [])) w₀)
     unfolding lists.final
     later-calls m c e =
         ap (λ u. cs ++ u) (played-on m c e)
-        ∙ sym (append-assoc cs (c ∷ []) (played rows outs m (demand.next c w)))
-        ∙ ap (λ v. (cs ++ (c ∷ [])) ++ played rows outs m v) (sym (final-append demand.next cs (c ∷ []) w₀))
+        ∙ sym (append-assoc cs (c ∷ []) (played n rows outs m (demand.next c w)))
+        ∙ ap (λ v. (cs ++ (c ∷ [])) ++ played n rows outs m v) (sym (final-append demand.next cs (c ∷ []) w₀))
 
     -- a call that goes on, and one that is refused
-    goes : (m : ℕ) (c : Call) (v : Event) (t : List Step) → answering rows (outs m) (event want w) ≡ c ∷ [] → event c w ≡ v → Fair (es ++ (v ∷ [])) →
+    goes : (m : ℕ) (c : Call) (v : Event) (t : List Step) → answering n rows (outs m) (event want w) ≡ c ∷ [] → event c w ≡ v → Fair (es ++ (v ∷ [])) →
         left T₀ (es ++ (v ∷ [])) ≡ t → length t ≡ m →
-        ((ds : List Call) → length (left T₀ (events ds w₀)) ≡ m → Fair (events ds w₀) → Verdict (ds ++ played rows outs m (final ds w₀))) →
-        Verdict (cs ++ played rows outs (suc m) w)
+        ((ds : List Call) → length (left T₀ (events ds w₀)) ≡ m → Fair (events ds w₀) → Verdict (ds ++ played n rows outs m (final ds w₀))) →
+        Verdict (cs ++ played n rows outs (suc m) w)
     goes m c v t a e on is len ih =
         let z = events-on c v e in
         subst Verdict (sym (later-calls m c a)) (ih (cs ++ (c ∷ [])) (ap (λ u. length (left T₀ u)) z ∙ ap length is ∙ len) (subst Fair (sym z) on))
 
-    refuses : (m : ℕ) (c : Call) (v : Event) → answering rows (outs m) (event want w) ≡ c ∷ [] → event c w ≡ v → length (left T₀ es) ≡ suc m →
+    refuses : (m : ℕ) (c : Call) (v : Event) → answering n rows (outs m) (event want w) ≡ c ∷ [] → event c w ≡ v → length (left T₀ es) ≡ suc m →
         goesOn v ≡ false → ((vs : List Event) → Refusal (v ∷ vs)) → ((g : Grid) → IsMap (W .length) (H .length) g → HasAll f W H L g rows → ⊥) →
-        Verdict (cs ++ played rows outs (suc m) w)
+        Verdict (cs ++ played n rows outs (suc m) w)
     refuses m c v a e len off r no-g =
         subst Verdict (ap (λ u. cs ++ u) (sym (played-on m c a)))
-        (bad (refused-in c v _ e r) (too-few m cs c _ len (ap goesOn e ∙ off) (played-length rows outs m (demand.next c w))) no-g)
+        (bad (refused-in c v _ e r) (too-few m cs c _ len (ap goesOn e ∙ off) (played-length n rows outs m (demand.next c w))) no-g)
+
+  turned-as : (cs : List Call) → Fair (events cs w₀) → (y : RowName) (t : List Step) → left T₀ (events cs w₀) ≡ step.feed y ∷ t → (q : ℕ) →
+      feedAway f W false (step.feed y ∷ t) (rows y) ≡ q → feedTurned f W L (endedBy (events cs w₀)) (left T₀ (events cs w₀)) n (rows y) ≡ q
+  unfolding feedTurned
+  turned-as cs fair y t head q e = rw room-for (ap₂ (λ u v. feedAway f W u v (rows y)) (fair .live) head ∙ e)
 
   -- ---- turn after turn
   turn : (m : ℕ) (cs : List Call) → length (left T₀ (events cs w₀)) ≡ suc m → Fair (events cs w₀) →
-      ((ds : List Call) → length (left T₀ (events ds w₀)) ≡ m → Fair (events ds w₀) → Verdict (ds ++ played rows outs m (final ds w₀))) →
-      Verdict (cs ++ played rows outs (suc m) (final cs w₀))
+      ((ds : List Call) → length (left T₀ (events ds w₀)) ≡ m → Fair (events ds w₀) → Verdict (ds ++ played n rows outs m (final ds w₀))) →
+      Verdict (cs ++ played n rows outs (suc m) (final cs w₀))
   turn m cs len fair ih = go (left T₀ (events cs w₀)) refl
     where
       at-draw : (r : ℕ) (t : List Step) → left T₀ (events cs w₀) ≡ step.draw r ∷ t →
-          Draws W (endedBy (events cs w₀)) (left T₀ (events cs w₀)) (outs m) (event (draw (outs m)) (final cs w₀)) →
-          Verdict (cs ++ played rows outs (suc m) (final cs w₀))
+          Draws f W L (endedBy (events cs w₀)) (left T₀ (events cs w₀)) n (outs m) (event (draw n (outs m)) (final cs w₀)) →
+          Verdict (cs ++ played n rows outs (suc m) (final cs w₀))
       at-draw r t head d = says (d .says)
         where
-          gave : drawSays W (endedBy (events cs w₀)) (left T₀ (events cs w₀)) (outs m .size) ≡ gives (heights (W .length))
-          gave = ap₂ (λ u v. drawSays W u v (outs m .size)) (fair .live) head ∙ (unfold drawSays in rw (le-leb (W .length) (outs m .size) (room m)) refl)
+          gave : drawSays f W L (endedBy (events cs w₀)) (left T₀ (events cs w₀)) n (outs m .size) ≡ gives (heights (W .length))
+          gave = ap₂ (λ u v. drawSays f W L u v n (outs m .size)) (fair .live) head
+              ∙ (unfold drawSays drawGives in rw (room-for, le-leb (W .length) (outs m .size) (room m)) refl)
 
-          says : OneOf (d .answer) (drawSays W (endedBy (events cs w₀)) (left T₀ (events cs w₀)) (outs m .size)) (refused 14) →
-              Verdict (cs ++ played rows outs (suc m) (final cs w₀))
+          says : OneOf (d .answer) (drawSays f W L (endedBy (events cs w₀)) (left T₀ (events cs w₀)) n (outs m .size)) (refused 14) →
+              Verdict (cs ++ played n rows outs (suc m) (final cs w₀))
           says (this e) =
               let on = drawn-goes cs fair (outs m) (d .after) r t head in
-              goes cs fair m (draw (outs m)) (drew (outs m) (gives (heights (W .length))) (d .after)) t (wanted-draw cs fair (outs m) r t head) (d .is
+              goes cs fair m (draw n (outs m)) (drew (outs m) (gives (heights (W .length))) (d .after)) t (wanted-draw cs fair (outs m) r t head) (d .is
               ∙ ap (λ u. drew (outs m) u (d .after)) (e ∙ gave)) (on .0) (on .1) (omega (arith, ap length head)) ih
           says (that e) =
-              let is : event (draw (outs m)) (final cs w₀) ≡ drew (outs m) (refused 14) (d .after) = d .is ∙ ap (λ u. drew (outs m) u (d .after)) e in
-              refuses cs fair m (draw (outs m)) (drew (outs m) (refused 14) (d .after)) (wanted-draw cs fair (outs m) r t head) is len (unfold goesOn in
+              let is : event (draw n (outs m)) (final cs w₀) ≡ drew (outs m) (refused 14) (d .after) = d .is ∙ ap (λ u. drew (outs m) u (d .after)) e in
+              refuses cs fair m (draw n (outs m)) (drew (outs m) (refused 14) (d .after)) (wanted-draw cs fair (outs m) r t head) is len (unfold goesOn in
               refl) (λ vs. drawn-fourteen) (drawn-none cs fair (outs m) (d .after) r t head is)
 
       at-feed : (y : RowName) (t : List Step) → left T₀ (events cs w₀) ≡ step.feed y ∷ t → (u : Bool) →
-          runFits f (y .level) (rows y .size) (rows y .numbers) ≡ u → Verdict (cs ++ played rows outs (suc m) (final cs w₀))
+          runFits f (y .level) (rows y .size) (rows y .numbers) ≡ u → Verdict (cs ++ played n rows outs (suc m) (final cs w₀))
       at-feed y t head false z =
-          let is : event (feed (rows y)) (final cs w₀) ≡ fed (rows y) (refused 7) =
-          claim cs .feeds-turned (rows y) 6 (turned 7 (unfold feedTurned in
+          let is : event (feed n (rows y)) (final cs w₀) ≡ fed (rows y) (refused 7) =
+          claim cs .feeds-turned n (rows y) 6 (turned-as cs fair y t head 7 (unfold feedAway in
           rw (eq-eqb (rows y .size) (bandColumns W (y .level) (y .band)) (sized .size y (next-exists (events cs w₀) fair y t head)), z) refl)) in
-          refuses cs fair m (feed (rows y)) (fed (rows y) (refused 7)) (wanted-row cs fair (outs m) y t head) is len (unfold goesOn in
+          refuses cs fair m (feed n (rows y)) (fed (rows y) (refused 7)) (wanted-row cs fair (outs m) y t head) is len (unfold goesOn in
           refl) (λ vs. seven) (λ g mp h. subst T (sym (run-fits y (next-exists (events cs w₀) fair y t head) g mp h) ∙ z) tt)
-        where
-          turned : (q : ℕ) → feedTurned f W false (step.feed y ∷ t) (rows y) ≡ q → feedTurned f W (endedBy (events cs w₀)) (left T₀ (events cs w₀)) (rows y) ≡ q
-          turned q e = ap₂ (λ u v. feedTurned f W u v (rows y)) (fair .live) head ∙ e
-      at-feed y t head true z = says (claim cs .feeds-on (rows y) (ap₂ (λ u v. feedTurned f W u v (rows y)) (fair .live) head
-          ∙ (unfold feedTurned in rw (eq-eqb (rows y .size) (bandColumns W (y .level) (y .band)) (sized .size y (next-exists (events cs w₀) fair y t head)), z)
+      at-feed y t head true z = says (claim cs .feeds-on n (rows y) (turned-as cs fair y t head 0
+          (unfold feedAway in rw (eq-eqb (rows y .size) (bandColumns W (y .level) (y .band)) (sized .size y (next-exists (events cs w₀) fair y t head)), z)
           refl)))
         where
-          says : OneOf (event (feed (rows y)) (final cs w₀)) (fed (rows y) (gives tt)) (fed (rows y) (refused 14)) →
-              Verdict (cs ++ played rows outs (suc m) (final cs w₀))
+          says : OneOf (event (feed n (rows y)) (final cs w₀)) (fed (rows y) (gives tt)) (fed (rows y) (refused 14)) →
+              Verdict (cs ++ played n rows outs (suc m) (final cs w₀))
           says (this e) =
               let on = fed-goes cs fair y t head in
-              goes cs fair m (feed (rows y)) (fed (rows y) (gives tt)) t (wanted-row cs fair (outs m) y t head) e (on .0) (on .1)
+              goes cs fair m (feed n (rows y)) (fed (rows y) (gives tt)) t (wanted-row cs fair (outs m) y t head) e (on .0) (on .1)
               (omega (arith, ap length head)) ih
-          says (that e) = refuses cs fair m (feed (rows y)) (fed (rows y) (refused 14)) (wanted-row cs fair (outs m) y t head) e len (unfold goesOn in
+          says (that e) = refuses cs fair m (feed n (rows y)) (fed (rows y) (refused 14)) (wanted-row cs fair (outs m) y t head) e len (unfold goesOn in
               refl) (λ vs. fed-fourteen) (fed-none cs fair y t head e)
 
-      go : (t : List Step) → left T₀ (events cs w₀) ≡ t → Verdict (cs ++ played rows outs (suc m) (final cs w₀))
+      go : (t : List Step) → left T₀ (events cs w₀) ≡ t → Verdict (cs ++ played n rows outs (suc m) (final cs w₀))
       go [] e = absurd (omega (arith, ap length e))
       go (step.feed y ∷ t) e = at-feed y t e (runFits f (y .level) (rows y .size) (rows y .numbers)) refl
-      go (step.draw r ∷ t) e = at-draw r t e (claim cs .draws (outs m))
+      go (step.draw r ∷ t) e = at-draw r t e (claim cs .draws n (outs m))
 
   no-length : (t : List Step) → length t ≡ 0 → t ≡ []
   no-length [] e = refl
   no-length (y ∷ t) e = absurd (omega arith)
 
-  turns : (m : ℕ) (cs : List Call) → length (left T₀ (events cs w₀)) ≡ m → Fair (events cs w₀) → Verdict (cs ++ played rows outs m (final cs w₀))
+  turns : (m : ℕ) (cs : List Call) → length (left T₀ (events cs w₀)) ≡ m → Fair (events cs w₀) → Verdict (cs ++ played n rows outs m (final cs w₀))
   unfolding played
   turns zero cs len fair = subst Verdict (sym (append-nil cs)) (fine fair (no-length _ len))
   turns (suc m) cs len fair = turn m cs len fair (turns m)
@@ -397,7 +415,7 @@ module _ (f : ℕ) (W H : Side) (L n : ℕ) (across : W .start ≤ maxOrigin) (d
   fair-first = record { live = refl; from-rows = all-none; names = refl }
 
   abbrev all : List Call
-  all = played rows outs (length T₀) w₀
+  all = played n rows outs (length T₀) w₀
 
   verdict : Verdict all
   unfolding lists.events lists.final left
@@ -441,9 +459,9 @@ module _ (f : ℕ) (W H : Side) (L n : ℕ) (across : W .start ≤ maxOrigin) (d
 module _ (f : ℕ) (W H : Side) (L n : ℕ) (across : W .start ≤ maxOrigin) (down : H .start ≤ maxOrigin) (ok : setUpQuestion f W H L n ≡ 0) (rows : RowName → Area)
     (outs : ℕ → Area) (room : (i : ℕ) → W .length ≤ outs i .size) (x : ℕ → ℤ) where
   abbrev turnsOf : List Call
-  turnsOf = played rows outs (length (steps (ahead f) W H L)) (freshWorld f W H L n x)
+  turnsOf = played n rows outs (length (steps (ahead f) W H L)) (freshWorld f W H L x)
 
-  pub played-holds : Played f W H L rows (events turnsOf (freshWorld f W H L n x)) (λ c. event c (final turnsOf (freshWorld f W H L n x)))
+  pub played-holds : Played f W H L rows (events turnsOf (freshWorld f W H L x)) (λ c. event c (final turnsOf (freshWorld f W H L x)))
   played-holds = record {
     map-back = λ g m h. let sized : Sized W H L rows = record { size = λ y e. h .are y e .size } in
         handed-back f W H L n across down ok rows sized outs room x g m h (verdict f W H L n across down ok rows sized outs room x);

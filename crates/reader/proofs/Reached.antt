@@ -134,9 +134,9 @@ module _ (f : ℕ) (W H : Side) (l : ℕ) where
     pub names : e ≡ false → namesOf fs ++ bandRowsOf t ≡ bandRowsOf (steps (ahead f) W H (suc l))
     pub rows : (P : Rows) → All (HasFedRow W P) fs → Agrees P d p e x ds
 
-  module _ (n : ℕ) (lim : Limits f W H l n) where
+  module _ (lim : Limits f W H l) where
     abbrev pub world : ℕ → Place → Bool → (ℕ → ℤ) → World
-    world d p e x = record { reader = here f W H l d p e; length = n; store = x }
+    world d p e x = record { reader = here f W H l d p e; store = x }
 
     wide : 0 < W .length
     wide = within-true 1 maxWidth (W .length) (lim .wide) .0
@@ -156,13 +156,13 @@ module _ (f : ℕ) (W H : Side) (l : ℕ) where
       stays : Reached (world d p e x) e t (fs ++ []) (ds ++ [])
       stays = rw (append-nil fs, append-nil ds) (reached d p e x t fs ds kept)
 
-      -- ---- a feed
-      module _ (a : Area) where
+      -- ---- a feed, lent a store of n numbers
+      module _ (n : ℕ) (a : Area) where
         abbrev fedEvent : ℕ → Event
         fedEvent q = fed a (said (λ _. tt) (feedReply s q))
 
         abbrev FedTo : ℕ → Type 0
-        FedTo q = Reached (record { reader = leaves (λ t. t) s (feedReply s q); length = n; store = feedStore s q (a .numbers) x })
+        FedTo q = Reached (record { reader = leaves (λ t. t) s (feedReply s q); store = feedStore s q (a .numbers) x })
             (pick (ends (fedEvent q)) true e) (leftBy t (fedEvent q)) (fs ++ fedBy t (fedEvent q)) (ds ++ drawnBy (fedEvent q))
 
         fed-away : (q : ℕ) → eqb q 0 ≡ false → eqb q 14 ≡ false → FedTo q
@@ -288,9 +288,9 @@ module _ (f : ℕ) (W H : Side) (l : ℕ) where
               reached d stored false y (stepsLeft f W H l d to) (fs ++ (fr ∷ [])) ds (on-kept y z₁))
 
         feed-reached : FedTo (feedQuestion s n x (a .size) (a .numbers))
-        feed-reached = go (feed-view f W H l n lim d p (kept .drawn-le) (kept .level-le) (kept .band-le) (kept .back-le) e t x a viewed)
+        feed-reached = go (feed-view f W H l lim d p (kept .drawn-le) (kept .level-le) (kept .band-le) (kept .back-le) n e t x a viewed)
           where
-            go : FeedView f W H l n lim d p (kept .drawn-le) (kept .level-le) (kept .band-le) (kept .back-le) e t x a
+            go : FeedView f W H l lim d p (kept .drawn-le) (kept .level-le) (kept .band-le) (kept .back-le) n e t x a
                 → FedTo (feedQuestion s n x (a .size) (a .numbers))
             go (feed-away q _ z fr at) = subst FedTo (sym at) (fed-away q z fr)
             go (feed-onward k u c live o head long in-range _ at) = subst FedTo (sym at) (tried (feeds s (a .numbers) x) refl)
@@ -300,12 +300,12 @@ module _ (f : ℕ) (W H : Side) (l : ℕ) where
                 tried (passed y) z = unfold fits in fed-goes k u c live o head long in-range y z
 
       -- ---- a draw
-      module _ (a : Area) where
+      module _ (n : ℕ) (a : Area) where
         abbrev drawnEvent : ℕ → Event
         drawnEvent q = drew a (said given (drawReply s q)) (record { size = a .size; numbers = drawArea s q x (a .numbers) })
 
         abbrev DrawnTo : ℕ → Type 0
-        DrawnTo q = Reached (record { reader = leaves (drawnTo s) s (drawReply s q); length = n; store = drawStore s q x }) (pick (ends (drawnEvent q)) true e)
+        DrawnTo q = Reached (record { reader = leaves (drawnTo s) s (drawReply s q); store = drawStore s q x }) (pick (ends (drawnEvent q)) true e)
             (leftBy t (drawnEvent q)) (fs ++ fedBy t (drawnEvent q)) (ds ++ drawnBy (drawnEvent q))
 
         drawn-away : (q : ℕ) → eqb q 0 ≡ false → eqb q 14 ≡ false → DrawnTo q
@@ -429,9 +429,9 @@ module _ (f : ℕ) (W H : Side) (l : ℕ) where
                 (reached (suc d) kept-as false y (stepsLeft f W H l (suc d) into) fs (ds ++ (out ∷ [])) given-kept)
 
         draw-reached : DrawnTo (drawQuestion s n x (a .size))
-        draw-reached = go (draw-view f W H l n lim d p (kept .drawn-le) (kept .level-le) (kept .band-le) (kept .back-le) e t x a viewed)
+        draw-reached = go (draw-view f W H l lim d p (kept .drawn-le) (kept .level-le) (kept .band-le) (kept .back-le) n e t x a viewed)
           where
-            go : DrawView f W H l n lim d p (kept .drawn-le) (kept .level-le) (kept .band-le) (kept .back-le) e t x a → DrawnTo (drawQuestion s n x (a .size))
+            go : DrawView f W H l lim d p (kept .drawn-le) (kept .level-le) (kept .band-le) (kept .back-le) n e t x a → DrawnTo (drawQuestion s n x (a .size))
             go (draw-away q z fr _ at) = subst DrawnTo (sym at) (drawn-away q z fr)
             go (draw-idle live z _ at) = subst DrawnTo (sym at) (drawn-idle z)
             go (draw-onward live due at-height head to-draw _ at) = subst DrawnTo (sym at) (tried (settles s x) refl)
@@ -445,5 +445,5 @@ module _ (f : ℕ) (W H : Side) (l : ℕ) where
         Reached (demand.next c w) (pick (ends (event c w)) true e) (leftBy t (event c w)) (fs ++ fedBy t (event c w)) (ds ++ drawnBy (event c w))
     unfolding demand.next event
     call-reached want _ e t fs ds (reached d p _ x _ _ _ kept) = unfold ends leftBy goesOn fedBy drawnBy in stays d p e x t fs ds kept
-    call-reached (feed a) _ e t fs ds (reached d p _ x _ _ _ kept) = feed-reached d p e x t fs ds kept a
-    call-reached (draw a) _ e t fs ds (reached d p _ x _ _ _ kept) = draw-reached d p e x t fs ds kept a
+    call-reached (feed n a) _ e t fs ds (reached d p _ x _ _ _ kept) = feed-reached d p e x t fs ds kept n a
+    call-reached (draw n a) _ e t fs ds (reached d p _ x _ _ _ kept) = draw-reached d p e x t fs ds kept n a

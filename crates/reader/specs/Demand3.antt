@@ -29,22 +29,22 @@ use Rattle.reader_steps.specs.Sets.{ahead, hasRow}
 use Rattle.reader.specs.Rebuilt.{Rows, SetFits, SetsFit}
 use Rattle.reader.specs.Answers.{Want, row, drawNow, done, ended, Handed, aRow}
 use Rattle.reader.specs.Answers as answer
-use Rattle.reader.specs.Questions.{runFits, countsFit, wantQuestion, feedQuestion, drawQuestion}
+use Rattle.reader.specs.Questions.{runFits, storeFits, countsFit, wantQuestion, feedQuestion, drawQuestion}
 use Rattle.reader.specs.Calls.{fresh, setUpStore, wantReply, feedReply, feedStore, drawReply, drawStore, drawArea}
 
 -- ---- calls, and what is seen of them
--- a call with its arguments
+-- a call with its arguments; the number is the length of the line store that it is lent, in each call its own, long enough or not. A want is lent none.
 pub data Call : Type 0 where
   want : Call
-  feed : Area → Call
-  draw : Area → Call
+  feed : ℕ → Area → Call
+  draw : ℕ → Area → Call
 
 -- what a draw gives: so many heights in the output area, or Nothing
 pub data Given : Type 0 where
   heights : ℕ → Given
   nothing : Given
 
--- a call's arguments, its answer, and after a draw the output area
+-- a call's run or area, its answer, and after a draw the output area
 pub data Event : Type 0 where
   wanted : Reply Want → Event
   fed : Area → Reply (Unit {0}) → Event
@@ -60,10 +60,9 @@ abbrev pub given : Handed → Given
 given (aRow n s) = heights n
 given answer.nothing = nothing
 
--- ---- each call is made on the state and store that the one before left
+-- ---- each call is made on the state and store that the one before left. Of the store it is lent the first numbers, as many as it says.
 pub record World : Type 0 where
   pub reader : Reader
-  pub length : ℕ
   pub store : ℕ → ℤ
 
 -- the state that a call leaves: its own before where it was turned away or gave Nothing
@@ -76,35 +75,33 @@ abbrev pub drawnTo : Reader → Handed → Reader
 drawnTo s (aRow n t) = t
 drawnTo s answer.nothing = s
 
-module _ (w : World) where
-  -- the number of the question that turns a feed or a draw away
+module _ (w : World) (n : ℕ) where
+  -- the number of the question that turns a feed or a draw away, which is lent a store of n numbers
   abbrev pub feedAsked : Area → ℕ
-  feedAsked a = feedQuestion (w .reader) (w .length) (w .store) (a .size) (a .numbers)
+  feedAsked a = feedQuestion (w .reader) n (w .store) (a .size) (a .numbers)
 
   abbrev pub drawAsked : Area → ℕ
-  drawAsked a = drawQuestion (w .reader) (w .length) (w .store) (a .size)
+  drawAsked a = drawQuestion (w .reader) n (w .store) (a .size)
 
   abbrev pub areaAfter : Area → Area
   areaAfter a = record { size = a .size; numbers = drawArea (w .reader) (drawAsked a) (w .store) (a .numbers) }
 
 unfoldable pub event : Call → World → Event
 event want w = wanted (said (λ v. v) (wantReply (w .reader) (wantQuestion (w .reader))))
-event (feed a) w = fed a (said (λ _. tt) (feedReply (w .reader) (feedAsked w a)))
-event (draw a) w = drew a (said given (drawReply (w .reader) (drawAsked w a))) (areaAfter w a)
+event (feed n a) w = fed a (said (λ _. tt) (feedReply (w .reader) (feedAsked w n a)))
+event (draw n a) w = drew a (said given (drawReply (w .reader) (drawAsked w n a))) (areaAfter w n a)
 
 unfoldable pub next : Call → World → World
 next want w = w
-next (feed a) w =
+next (feed n a) w =
     record {
-      reader = leaves (λ t. t) (w .reader) (feedReply (w .reader) (feedAsked w a));
-      length = w .length;
-      store = feedStore (w .reader) (feedAsked w a) (a .numbers) (w .store);
+      reader = leaves (λ t. t) (w .reader) (feedReply (w .reader) (feedAsked w n a));
+      store = feedStore (w .reader) (feedAsked w n a) (a .numbers) (w .store);
     }
-next (draw a) w =
+next (draw n a) w =
     record {
-      reader = leaves (drawnTo (w .reader)) (w .reader) (drawReply (w .reader) (drawAsked w a));
-      length = w .length;
-      store = drawStore (w .reader) (drawAsked w a) (w .store);
+      reader = leaves (drawnTo (w .reader)) (w .reader) (drawReply (w .reader) (drawAsked w n a));
+      store = drawStore (w .reader) (drawAsked w n a) (w .store);
     }
 
 abbrev pub events : List Call → World → List Event
@@ -113,10 +110,9 @@ events = lists.events event next
 abbrev pub final : List Call → World → World
 final = lists.final next
 
--- "Fresh means the state and line store of a set-up that passed": of the filter f, the columns W and the rows H at L levels, on a store of n
--- numbers in which x stood
-abbrev pub freshWorld : ℕ → Side → Side → ℕ → ℕ → (ℕ → ℤ) → World
-freshWorld f W H L n x = record { reader = fresh f W H L; length = n; store = setUpStore f W L 0 x }
+-- "Fresh means the state and line store of a set-up that passed": of the filter f, the columns W and the rows H at L levels, on a store in which x stood
+abbrev pub freshWorld : ℕ → Side → Side → ℕ → (ℕ → ℤ) → World
+freshWorld f W H L x = record { reader = fresh f W H L; store = setUpStore f W L 0 x }
 
 -- ---- how far the steps are gone
 -- one step on: a feed that passed, a draw that gave a row
@@ -215,22 +211,30 @@ wantSays W false [] = done
 wantSays W false (step.feed x ∷ t) = row (x .level) (code (x .band)) (x .row) (bandColumns W (x .level) (x .band))
 wantSays W false (step.draw r ∷ t) = drawNow
 
--- the number of the question before 14 that turns a feed away: 9, 8, 13, 7, or 0
-unfoldable pub feedTurned : ℕ → Side → Bool → List Step → Area → ℕ
-feedTurned f W true t a = 9
-feedTurned f W false [] a = 8
-feedTurned f W false (step.draw r ∷ t) a = 8
-feedTurned f W false (step.feed x ∷ t) a =
+-- the number of the question after 5 and before 14 that turns a feed away: 9, 8, 13, 7, or 0
+unfoldable pub feedAway : ℕ → Side → Bool → List Step → Area → ℕ
+feedAway f W true t a = 9
+feedAway f W false [] a = 8
+feedAway f W false (step.draw r ∷ t) a = 8
+feedAway f W false (step.feed x ∷ t) a =
     ask (eqb (a .size) (bandColumns W (x .level) (x .band))) 13
     (ask (runFits f (x .level) (a .size) (a .numbers)) 7
     0)
 
--- what a draw into an area of m heights gives, unless it gives 14: 9, 12, a row or Nothing
-unfoldable pub drawSays : Side → Bool → List Step → ℕ → Reply Given
-drawSays W true t m = refused 9
-drawSays W false [] m = gives nothing
-drawSays W false (step.feed x ∷ t) m = gives nothing
-drawSays W false (step.draw r ∷ t) m = pick (leb (W .length) m) (gives (heights (W .length))) (refused 12)
+-- lent a store of n numbers: 5, or that
+unfoldable pub feedTurned : ℕ → Side → ℕ → Bool → List Step → ℕ → Area → ℕ
+feedTurned f W L e t n a = ask (storeFits f W L n) 5 (feedAway f W e t a)
+
+-- what a draw into an area of m heights gives, unless it gives 5 or 14: 9, 12, a row or Nothing
+unfoldable pub drawGives : Side → Bool → List Step → ℕ → Reply Given
+drawGives W true t m = refused 9
+drawGives W false [] m = gives nothing
+drawGives W false (step.feed x ∷ t) m = gives nothing
+drawGives W false (step.draw r ∷ t) m = pick (leb (W .length) m) (gives (heights (W .length))) (refused 12)
+
+-- lent a store of n numbers: 5, or that
+unfoldable pub drawSays : ℕ → Side → ℕ → Bool → List Step → ℕ → ℕ → Reply Given
+drawSays f W L e t n m = pick (storeFits f W L n) (drawGives W e t m) (refused 5)
 
 -- one of two answers
 pub data OneOf {A : Type 0} (x : A) (a b : A) : Type 0 where
@@ -243,16 +247,16 @@ written (gives (heights n)) = n
 written (gives nothing) = 0
 written (refused q) = 0
 
--- what is seen of a draw into a: its answer, or 14 in place of a row; the area past what was written is as it was
-pub record Draws (W : Side) (e : Bool) (t : List Step) (a : Area) (seen : Event) : Type 0 where
+-- what is seen of a draw into a, lent a store of n numbers: its answer, or 14 in place of a row; the area past what was written is as it was
+pub record Draws (f : ℕ) (W : Side) (L : ℕ) (e : Bool) (t : List Step) (n : ℕ) (a : Area) (seen : Event) : Type 0 where
   pub answer : Reply Given
   pub after : Area
   pub is : seen ≡ drew a answer after
   pub size : after .size ≡ a .size
   pub untouched : (i : ℕ) → written answer ≤ i → after .numbers i ≡ a .numbers i
-  pub says : OneOf answer (drawSays W e t (a .size)) (refused 14)
+  pub says : OneOf answer (drawSays f W L e t n (a .size)) (refused 14)
   -- 14 only where a row would be given
-  pub possible : answer ≡ refused 14 → drawSays W e t (a .size) ≡ gives (heights (W .length))
+  pub possible : answer ≡ refused 14 → drawSays f W L e t n (a .size) ≡ gives (heights (W .length))
 
 -- ---- "A set completed by a fed row is worked out in that feed", one without a fed row of its own in the next call that goes on
 -- band rows by their names that have those fed
@@ -276,9 +280,9 @@ pub record FeedFits (f : ℕ) (W H : Side) (L : ℕ) (P : Rows) (x : RowName) (t
   pub above : hasRow H (x .level) (setNumber H x) ≡ true → SetsFit f W H L P (x .level) (setNumber H x)
 
 -- a feed of the run a as row x goes on, with the steps t after it
-pub record FeedGoes (f : ℕ) (W H : Side) (L : ℕ) (es : List Event) (then : Call → Event) (a : Area) (x : RowName) (t : List Step) : Type 0 where
+pub record FeedGoes (f : ℕ) (W H : Side) (L : ℕ) (es : List Event) (then : Call → Event) (n : ℕ) (a : Area) (x : RowName) (t : List Step) : Type 0 where
   pub next : left (steps (ahead f) W H L) es ≡ step.feed x ∷ t
-  pub passes : then (feed a) ≡ fed a (gives tt)
+  pub passes : then (feed n a) ≡ fed a (gives tt)
 
 -- ---- the claim, of the events es of any list of calls; `then` is what would be seen of a further call
 pub record Demand3 (f : ℕ) (W H : Side) (L : ℕ) (es : List Event) (then : Call → Event) : Type 0 where
@@ -287,33 +291,34 @@ pub record Demand3 (f : ℕ) (W H : Side) (L : ℕ) (es : List Event) (then : Ca
   pub heights-once : heightRowsOf (steps (ahead f) W H L) ≡ inTurn (H .length) (λ r. r ∷ [])
   -- the want
   pub wants : then want ≡ wanted (gives (wantSays W (endedBy es) (left (steps (ahead f) W H L) es)))
-  -- "A feed of the length that the want names goes one step on or gives 7 or 14"; any other is turned away
-  pub feeds-turned : (a : Area) (q : ℕ) → feedTurned f W (endedBy es) (left (steps (ahead f) W H L) es) a ≡ suc q → then (feed a) ≡ fed a (refused (suc q))
-  pub feeds-on : (a : Area) → feedTurned f W (endedBy es) (left (steps (ahead f) W H L) es) a ≡ 0 →
-      OneOf (then (feed a)) (fed a (gives tt)) (fed a (refused 14))
+  -- "A feed of the length that the want names goes one step on or gives 7 or 14"; any other is turned away. Each call is lent a store of n numbers.
+  pub feeds-turned : (n : ℕ) (a : Area) (q : ℕ) → feedTurned f W L (endedBy es) (left (steps (ahead f) W H L) es) n a ≡ suc q →
+      then (feed n a) ≡ fed a (refused (suc q))
+  pub feeds-on : (n : ℕ) (a : Area) → feedTurned f W L (endedBy es) (left (steps (ahead f) W H L) es) n a ≡ 0 →
+      OneOf (then (feed n a)) (fed a (gives tt)) (fed a (refused 14))
   -- "a draw at Draw goes one step on or gives 12 or 14; no other call goes on"
-  pub draws : (a : Area) → Draws W (endedBy es) (left (steps (ahead f) W H L) es) a (then (draw a))
+  pub draws : (n : ℕ) (a : Area) → Draws f W L (endedBy es) (left (steps (ahead f) W H L) es) n a (then (draw n a))
   -- the heights drawn are the first of every map that has the rows fed
   pub first : (g : Grid) → HasFed f W H L g es → FirstRows W g (drawnRows es)
   -- "14 comes only if no map has them."
   pub impossible : endedBy es ≡ true → (g : Grid) → HasFed f W H L g es → ⊥
   -- a call that goes on has worked out what is due, and it fits: 14 comes no later
-  pub feed-works : (a : Area) (x : RowName) (t : List Step) → FeedGoes f W H L es then a x t →
+  pub feed-works : (n : ℕ) (a : Area) (x : RowName) (t : List Step) → FeedGoes f W H L es then n a x t →
       (P : Rows) → All (HasFedRow W P) (fedRows (steps (ahead f) W H L) es ++ (record { row = x; run = a } ∷ [])) →
       FeedFits f W H L P x t
-  pub draw-works : (a b : Area) → then (draw a) ≡ drew a (gives (heights (W .length))) b →
+  pub draw-works : (n : ℕ) (a b : Area) → then (draw n a) ≡ drew a (gives (heights (W .length))) b →
       (P : Rows) → All (HasFedRow W P) (fedRows (steps (ahead f) W H L) es) → SetsFit f W H L P 0 (length (drawnRows es))
   -- and in a call that gives 14 something due then does not fit: 14 comes no earlier. Document 02, Q-8: a row "counts as made, and is asked 14, with the set
   -- that brings the last value that it or any row above it needs."
-  pub feed-ends : (a : Area) (x : RowName) (t : List Step) → left (steps (ahead f) W H L) es ≡ step.feed x ∷ t → then (feed a) ≡ fed a (refused 14) →
+  pub feed-ends : (n : ℕ) (a : Area) (x : RowName) (t : List Step) → left (steps (ahead f) W H L) es ≡ step.feed x ∷ t → then (feed n a) ≡ fed a (refused 14) →
       (P : Rows) → All (HasFedRow W P) (fedRows (steps (ahead f) W H L) es ++ (record { row = x; run = a } ∷ [])) →
       FeedFits f W H L P x t → ⊥
-  pub draw-ends : (a b : Area) → then (draw a) ≡ drew a (refused 14) b →
+  pub draw-ends : (n : ℕ) (a b : Area) → then (draw n a) ≡ drew a (refused 14) b →
       (P : Rows) → All (HasFedRow W P) (fedRows (steps (ahead f) W H L) es) → SetsFit f W H L P 0 (length (drawnRows es)) → ⊥
   -- it says Done exactly when the heights drawn are all of such a map
   pub finished : then want ≡ wanted (gives done) ↔ AllDrawn f W H L es
 
 -- of a list of calls on a fresh reader: "a state reached by calls always passes" question 1, and the claim
-pub record OfCalls (f : ℕ) (W H : Side) (L n : ℕ) (x : ℕ → ℤ) (cs : List Call) : Type 0 where
-  pub in-range : countsFit (final cs (freshWorld f W H L n x) .reader) ≡ true
-  pub claim : Demand3 f W H L (events cs (freshWorld f W H L n x)) (λ c. event c (final cs (freshWorld f W H L n x)))
+pub record OfCalls (f : ℕ) (W H : Side) (L : ℕ) (x : ℕ → ℤ) (cs : List Call) : Type 0 where
+  pub in-range : countsFit (final cs (freshWorld f W H L x) .reader) ≡ true
+  pub claim : Demand3 f W H L (events cs (freshWorld f W H L x)) (λ c. event c (final cs (freshWorld f W H L x)))

@@ -8,4 +8,5 @@ pub mod Inside
 pub mod Rebuilt
 pub mod Holds
 pub mod Demand3
+pub mod Past
 pub mod Played

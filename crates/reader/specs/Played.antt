@@ -1,6 +1,6 @@
 -- The reader fed and drawn as it wants, for the theorem that joins writer and reader.
 -- Each band row that it names is fed as the run that `rows` has under that name, with that run's own length; each height row is drawn into an area of its own
--- turn.
+-- turn, and each call is lent the n numbers of the reader's store.
 -- `want` may be asked at any time and changes nothing, so it is no call of the list.
 use mathlib.Core.Path.{_≡_}
 use mathlib.Core.Bool.{true}
@@ -18,11 +18,11 @@ use Rattle.reader_steps.specs.Asked.{named}
 use Rattle.reader.specs.Answers.{Want, row, drawNow, done, ended}
 use Rattle.reader.specs.Demand3.{Call, want, feed, draw, Event, wanted, fed, drew, World, event, final, drawnRows, IsRow, FirstRows}
 
-module _ (rows : RowName → Area) where
+module _ (n : ℕ) (rows : RowName → Area) where
   -- the call that an answer to `want` asks for, with the output area a
   unfoldable pub asWanted : Area → Want → List Call
-  asWanted a (row k c r n) = feed (rows (rowName k (named c) r)) ∷ []
-  asWanted a drawNow = draw a ∷ []
+  asWanted a (row k c r j) = feed n (rows (rowName k (named c) r)) ∷ []
+  asWanted a drawNow = draw n a ∷ []
   asWanted a done = []
   asWanted a ended = []
 

@@ -17,6 +17,7 @@ ghost use lib.ListN.{length};
 ghost use Rattle.numbers.specs.Signal.{at};
 ghost use Rattle.wavelet.specs.Limits.{maxWidth, maxHeight, maxLevels, maxOrigin};
 ghost use Rattle.wavelet.specs.Shape as shape;
+ghost use Rattle.nine_seven.specs.Filters.{filterOf};
 ghost use Rattle.areas.specs.Areas.{heightsAt};
 ghost use Rattle.lifting.specs.Halves.{fronted};
 ghost use Rattle.reader_steps.specs.Places.{spot, placeOf};
@@ -80,7 +81,10 @@ impl Reader {
 
     pub const MAX_HEIGHT: usize = 4294967295;
 
+    // by the 5/3, and by the integer 9/7
     pub const MAX_LEVELS: usize = 5;
+
+    pub const MAX_LEVELS_NINE_SEVEN: usize = 4;
 
     pub const MAX_ORIGIN: usize = 65535;
 
@@ -101,6 +105,17 @@ impl Reader {
         ensures { λ r. ⌜ r ≡ maxLevels ⌝ }
     {
         Reader::MAX_LEVELS
+    }
+
+    // by the filter's number
+    pub fn most_levels(filter: usize) -> usize
+        ensures { λ r. ⌜ r ≡ filterOf filter .levels ⌝ }
+    {
+        if filter == 0 {
+            Reader::MAX_LEVELS
+        } else {
+            Reader::MAX_LEVELS_NINE_SEVEN
+        }
     }
 
     pub fn max_origin() -> usize

@@ -27,7 +27,7 @@ pub fn counts_fit(s: Reader) -> bool
     if !figures::is_filter(s.filter) {
         return false;
     }
-    if !limits::is_within(s.levels, figures::most_levels(s.filter)) {
+    if !limits::is_within(s.levels, Reader::most_levels(s.filter)) {
         return false;
     }
     if Reader::MAX_ORIGIN < s.x {
@@ -69,7 +69,7 @@ pub fn set_up_question(
     if !figures::is_filter(filter) {
         return 18;
     }
-    if !limits::is_within(levels, figures::most_levels(filter)) {
+    if !limits::is_within(levels, Reader::most_levels(filter)) {
         return 4;
     }
     if length < figures::store_length(filter, width, x, levels) {

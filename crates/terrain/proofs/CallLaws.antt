@@ -3,7 +3,7 @@ use mathlib.Core.Path.{_≡_, refl, sym, ap, _∙_}
 use mathlib.Core.Bool.{Bool, true, false, not}
 use Prim.Native.Nat.{ℕ}
 use native.Mathlib.Omega.{arith}
-use Rattle.numbers.specs.Signal.{pick}
+use Rattle.numbers.specs.Signal.{pick, both}
 use Rattle.calls.proofs.QuestionLaws.{not-yes}
 
 -- what a test chooses
@@ -23,3 +23,8 @@ module _ (is b : Bool) (told : b ≡ is) where
   -- it is one: w is what was unpacked, r what the call on it says
   pub went : {S A : Type 0} (f : S → A) (s w : S) (y r : A) → not b ≡ false → w ≡ s → r ≡ f w → pick is (f s) y ≡ r
   went f s w y r e of g = let t : is ≡ true = sym told ∙ not-no b e in rw t (ap f (sym of) ∙ sym g)
+
+-- the state that the array holds, if it is of its kind, is turned away: r is whether its counts are in range
+pub pick-off : {A : Type 0} (is r : Bool) (a b : A) → both is r ≡ false → (r ≡ false → a ≡ b) → pick is a b ≡ b
+pick-off true r a b e h = h e
+pick-off false r a b e h = refl

@@ -5,3 +5,4 @@ pub mod MovedWords
 pub mod WriterListsHold
 pub mod TurnsListsHold
 pub mod ReaderListsHold
+pub mod RoundTripsHold

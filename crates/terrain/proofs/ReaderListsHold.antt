@@ -1,23 +1,34 @@
--- A list of C calls on a state array shows what the list of Rattle's calls shows, told in C's numbers: so what is proved of the lists
--- of a reader (demand 3) holds of them. Assumes nothing.
-use mathlib.Core.Path.{_≡_, refl, ap}
+-- A list of C calls on a state array shows what the list of Rattle's calls shows, told in C's numbers (`reader-lists`), and leaves in array and store what
+-- that leaves (`reader-left`); after a set-up that answered 0 the claim of demand 3 holds of it (`reader-c`). Assumes nothing.
+use mathlib.Core.Bool.{Bool, true, false}
+use mathlib.Core.Path.{_≡_, refl, ap, _∙_}
 use mathlib.Core.List.{List}
-use Prim.Native.Nat.{ℕ}
+use Prim.Native.Nat.{ℕ, _≤_}
 use lib.IntN.{ℤ}
-use Rattle.calls.specs.Lists.{Area}
-use Rattle.calls.proofs.ListLaws.{told-events}
+use lib.Dec.{eqb}
+use borrow.Author.Tests.{eqb-true}
+use Rattle.numbers.specs.Signal.{pick}
+use Rattle.lifting.specs.Grid.{Side}
+use Rattle.wavelet.specs.Limits.{maxOrigin}
+use Rattle.calls.specs.Lists.{Area, Mixed, mine, stray}
+use Rattle.calls.proofs.ListLaws.{told-final, told-events}
 use Rattle.reader.specs.declared.Reader.{Reader}
 use Rattle.reader.specs.Answers.{Reply, gives, refused, impossible, number, Want, Handed, aRow, nothing}
-use Rattle.reader.specs.Questions.{wantQuestion}
-use Rattle.reader.specs.Calls.{wantReply, feedReply, feedStore, drawReply, drawStore}
-use Rattle.reader.specs.Demand3.{Call, World, event, next, events}
+use Rattle.reader.specs.Questions.{countsFit, setUpQuestion, wantQuestion, feedQuestion, drawQuestion}
+use Rattle.reader.specs.Calls as reader
+use Rattle.reader.specs.Calls.{setUpReply, setUpStore, wantReply, feedReply, feedStore, storeAfter, drawReply, drawStore, drawArea}
+use Rattle.reader.specs.Demand3.{Call, World, event, next, events, final, freshWorld}
 use Rattle.reader.specs.Demand3 as rattle
+use Rattle.reader.proofs.Demand3.{demand-3}
 use Rattle.terrain.specs.Memories.{Memories}
-use Rattle.states.specs.ReaderState.{readerWords}
+use Rattle.states.specs.ReaderState.{isReader, readerOf, readerWords}
 use Rattle.states.specs.ReaderAnswers.{countOf}
 use Rattle.terrain.specs.ReaderCalls as c
-use Rattle.terrain.specs.ReaderLists.{CCall, wanted, fed, drew, seenOf, leaves, seenAll, told, toldAll, holding, calls}
+use Rattle.terrain.specs.ReaderLists as after
+use Rattle.terrain.specs.ReaderLists.{CCall, holdsReader, Stray, wanted, fed, drew, strayed, seenOf, arrayAfter, shows, leaves, seenAll, leavesAll}
+use Rattle.terrain.specs.ReaderLists.{setUpAsked, setUp, told, tell, turned, say, toldAll, holding, calls, OfCalls}
 use Rattle.states.proofs.StateTheorems.{reader-back, reader-is}
+use Rattle.terrain.proofs.CallLaws.{pick-off}
 
 -- an answer told, and the state array that it leaves. No want answers 14 with an ended reader, but that need not be known here: the number is 14 too
 want-told : (q : List ℕ) (z : ℕ) (r : Reply Want) → wanted (number r) (c.wantOf r q) ≡ told q z (rattle.wanted (rattle.said (λ v. v) r))
@@ -50,35 +61,126 @@ drawn-left s (gives nothing) = refl
 drawn-left s (refused k) = refl
 drawn-left s (impossible t) = refl
 
--- one call
+-- ---- one call on the reader's own array
 module _ (w : World) where
-  abbrev feeds : Area → Reply Reader
-  feeds a = feedReply (w .reader) (rattle.feedAsked w a)
+  abbrev feeds : ℕ → Area → Reply Reader
+  feeds n a = feedReply (w .reader) (rattle.feedAsked w n a)
 
-  abbrev draws : Area → Reply Handed
-  draws a = drawReply (w .reader) (rattle.drawAsked w a)
+  abbrev draws : ℕ → Area → Reply Handed
+  draws n a = drawReply (w .reader) (rattle.drawAsked w n a)
 
   abbrev memories : (ℕ → ℤ) → List ℕ → Memories
-  memories x s = record { state = s; length = w .length; store = x }
+  memories x s = record { state = s; store = x }
 
-  seen-told : (d : Call) (q : List ℕ) (z : ℕ) → seenOf (holding w) d q z ≡ told q z (event d w)
+  seen-told : (d : Call) (q : List ℕ) (z : ℕ) → seenOf (readerWords (w .reader)) (w .store) d q z ≡ told q z (event d w)
   unfolding seenOf event
   seen-told rattle.want q z =
       rw (reader-is (w .reader), reader-back (w .reader)) (want-told q z (wantReply (w .reader) (wantQuestion (w .reader))))
-  seen-told (rattle.feed a) q z = rw (reader-is (w .reader), reader-back (w .reader)) (feed-told a q z (feeds a))
-  seen-told (rattle.draw a) q z = rw (reader-is (w .reader), reader-back (w .reader)) (draw-told a (rattle.areaAfter w a) q z (draws a))
+  seen-told (rattle.feed n a) q z = rw (reader-is (w .reader), reader-back (w .reader)) (feed-told a q z (feeds n a))
+  seen-told (rattle.draw n a) q z = rw (reader-is (w .reader), reader-back (w .reader)) (draw-told a (rattle.areaAfter w n a) q z (draws n a))
 
-  leaves-next : (d : Call) → leaves (holding w) d ≡ holding (next d w)
-  unfolding leaves next
-  leaves-next rattle.want = refl
-  leaves-next (rattle.feed a) =
-      rw (reader-is (w .reader), reader-back (w .reader))
-      (ap (memories (feedStore (w .reader) (rattle.feedAsked w a) (a .numbers) (w .store))) (fed-left (w .reader) (feeds a)))
-  leaves-next (rattle.draw a) =
-      rw (reader-is (w .reader), reader-back (w .reader))
-      (ap (memories (drawStore (w .reader) (rattle.drawAsked w a) (w .store))) (drawn-left (w .reader) (draws a)))
+  leaves-next : (d : CCall) → leaves (mine d) (holding w) ≡ holding (next (d .call) w)
+  unfolding leaves
+  leaves-next d = go (d .call)
+    where
+      go : (k : Call) →
+          _≡_ {A = Memories}
+          (record { state = arrayAfter (readerWords (w .reader)) (w .store) k; store = after.storeAfter (readerWords (w .reader)) (w .store) k })
+          (holding (next k w))
+      go rattle.want = unfold arrayAfter after.storeAfter next in refl
+      go (rattle.feed n a) =
+          unfold arrayAfter after.storeAfter next in rw (reader-is (w .reader), reader-back (w .reader))
+          (ap (memories (feedStore (w .reader) (rattle.feedAsked w n a) (a .numbers) (w .store))) (fed-left (w .reader) (feeds n a)))
+      go (rattle.draw n a) =
+          unfold arrayAfter after.storeAfter next in rw (reader-is (w .reader), reader-back (w .reader))
+          (ap (memories (drawStore (w .reader) (rattle.drawAsked w n a) (w .store))) (drawn-left (w .reader) (draws n a)))
 
-pub reader-lists : (ds : List CCall) (w : World) → seenAll ds (holding w) ≡ toldAll ds (events (calls ds) w)
+  shows-told : (d : CCall) → shows (mine d) (holding w) ≡ tell d (event (d .call) w)
+  unfolding shows
+  shows-told d = seen-told (d .call) (d .want) (d .drawn)
+
+-- ---- a stray: 1, and nothing changes
+module _ (s : List ℕ) (x : ℕ → ℤ) (off : holdsReader s ≡ false) where
+  turned-away : {A : Type 0} (a b : A) → (countsFit (readerOf s) ≡ false → a ≡ b) → pick (isReader s) a b ≡ b
+  turned-away a b = pick-off (isReader s) (countsFit (readerOf s)) a b off
+
+  want-off : c.wanting s ≡ refused 1
+  unfolding wantReply wantQuestion
+  want-off = turned-away _ _ (λ z. rw z refl)
+
+  feed-off : (n : ℕ) (a : Area) → (c.feeding s n x (a .size) (a .numbers) ≡ refused 1) × (c.feedingStore s n x (a .size) (a .numbers) ≡ x)
+  unfolding feedReply feedStore storeAfter feedQuestion
+  feed-off n a = (turned-away _ _ (λ z. rw z refl), turned-away _ _ (λ z. rw z refl))
+
+  draw-off : (n : ℕ) (a : Area) → (c.drawing s n x (a .size) ≡ refused 1) × (c.drawingStore s n x (a .size) ≡ x) ×
+      (c.drawingArea s n x (a .size) (a .numbers) ≡ a .numbers)
+  unfolding drawReply drawStore storeAfter drawArea drawQuestion
+  draw-off n a = (turned-away _ _ (λ z. rw z refl), turned-away _ _ (λ z. rw z refl), turned-away _ _ (λ z. rw z refl))
+
+  stray-told : (k : Call) (q : List ℕ) (z : ℕ) → seenOf s x k q z ≡ told q z (turned k)
+  unfolding seenOf told turned
+  stray-told rattle.want q z = rw want-off refl
+  stray-told (rattle.feed n a) q z = rw (feed-off n a .0) refl
+  stray-told (rattle.draw n a) q z = rw (draw-off n a .0, draw-off n a .2) refl
+
+  stray-array : (k : Call) → arrayAfter s x k ≡ s
+  unfolding arrayAfter
+  stray-array rattle.want = refl
+  stray-array (rattle.feed n a) = rw (feed-off n a .0) refl
+  stray-array (rattle.draw n a) = rw (draw-off n a .0) refl
+
+  stray-store : (k : Call) → after.storeAfter s x k ≡ x
+  unfolding after.storeAfter
+  stray-store rattle.want = refl
+  stray-store (rattle.feed n a) = feed-off n a .1
+  stray-store (rattle.draw n a) = draw-off n a .1
+
+stray-says : (b : Stray) (w : World) → shows (stray b) (holding w) ≡ say b
+unfolding shows
+stray-says b w =
+    rw (
+      stray-array (b .array) (w .store) (b .no-reader) (b .given .call),
+      stray-told (b .array) (w .store) (b .no-reader) (b .given .call) (b .given .want) (b .given .drawn),
+    ) refl
+
+stray-stays : (b : Stray) (w : World) → leaves (stray b) (holding w) ≡ holding w
+unfolding leaves
+stray-stays b w = rw (stray-store (b .array) (w .store) (b .no-reader) (b .given .call)) refl
+
+-- ---- every list
+pub reader-lists : (ds : List (Mixed CCall Stray)) (w : World) → seenAll ds (holding w) ≡ toldAll ds (events (calls ds) w)
 reader-lists =
-    told-events event next (λ d m. seenOf m (d .call) (d .want) (d .drawn)) (λ d m. leaves m (d .call)) (λ d. d .call) holding (λ d w. leaves-next w (d .call))
-    (λ d e. told (d .want) (d .drawn) e) (λ d w. seen-told w (d .call) (d .want) (d .drawn))
+    told-events event next shows leaves (λ d. d .call) holding (λ d w. leaves-next w d) stray-stays tell say (λ d w. shows-told w d) stray-says
+
+pub reader-left : (ds : List (Mixed CCall Stray)) (w : World) → leavesAll ds (holding w) ≡ holding (final (calls ds) w)
+reader-left = told-final event next shows leaves (λ d. d .call) holding (λ d w. leaves-next w d) stray-stays
+
+-- ---- a set-up that answered 0 passed, and what it leaves is the fresh reader
+module _ (f : ℕ) (W H : Side) (L n : ℕ) where
+  pub passed : setUpAsked f W H L n ≡ 0 → setUpQuestion f W H L n ≡ 0
+  unfolding setUpReply
+  passed = go (setUpQuestion f W H L n)
+    where
+      go : (q : ℕ) → number (pick (eqb q 0) (gives (reader.fresh f W H L)) (refused q)) ≡ 0 → q ≡ 0
+      go q = by (eqb q 0) refl
+        where
+          by : (t : Bool) → eqb q 0 ≡ t → number (pick t (gives (reader.fresh f W H L)) (refused q)) ≡ 0 → q ≡ 0
+          by true z e = eqb-true q 0 z
+          by false z e = e
+
+  pub set-up-fresh : (m : Memories) → setUpAsked f W H L n ≡ 0 → setUp f W H L n m ≡ holding (freshWorld f W H L (m .store))
+  set-up-fresh m e = let z = passed e in unfold setUpReply in rw z refl
+
+  pub reader-c : W .start ≤ maxOrigin → H .start ≤ maxOrigin → setUpAsked f W H L n ≡ 0 → (m : Memories) (ds : List (Mixed CCall Stray)) →
+      OfCalls f W H L n m ds
+  reader-c across down e m ds =
+      let w = freshWorld f W H L (m .store) in
+      let fresh = set-up-fresh m e in
+      let left = ap (leavesAll ds) fresh ∙ reader-left ds w in
+      record {
+        set-up = fresh;
+        shown = ap (seenAll ds) fresh ∙ reader-lists ds w;
+        claim = demand-3 f W H L n across down (passed e) (m .store) (calls ds) .claim;
+        next = λ d. ap (shows (mine d)) left ∙ shows-told (final (calls ds) w) d;
+        left = left;
+      }

@@ -6,3 +6,4 @@ pub mod ReaderLists
 pub mod Version
 pub mod TurnsCalls
 pub mod TurnsLists
+pub mod RoundTrips

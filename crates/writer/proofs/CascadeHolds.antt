@@ -137,7 +137,7 @@ module _ (K : LevelKind) (Held : Meaning) (Ended : Ending) (laws : LevelLaws K H
 
   -- ---- what is read of a store
   module _ (W H : Side) (g : Grid) (x y : Memory) (e : (j : ℕ) → j < K .stretch W → y j ≡ x j) where
-    level-reads : (c m j : ℕ) → j ≤ W .length → Here W H g c m j x → Here W H g c m j y
+    pub level-reads : (c m j : ℕ) → j ≤ W .length → Here W H g c m j x → Here W H g c m j y
     unfolding LevelHolds
     level-reads zero m j h v = (v .0, held-reads W H g m j x y h e (v .1))
     level-reads (suc c) m j h v = (v .0, v .1, λ p. ended-reads W H g _ x y e (v .2 p))

@@ -27,7 +27,7 @@ use Rattle.calls.proofs.AllLaws.{all-map, all-take, all-at}
 use Rattle.nine_seven.specs.Filters.{filterOf}
 use Rattle.nine_seven.proofs.Filters.{filter-laws}
 use Rattle.level.specs.Level.{Memory, rest}
-use Rattle.figures.specs.Figures.{storeBy, streamable}
+use Rattle.figures.specs.Figures.{streamable}
 use Rattle.figures.proofs.FigureLaws.{streams}
 use Rattle.filters.proofs.ForwardLaws.{laws-of}
 use Rattle.writer.specs.Taking.{columnsOf}
@@ -38,7 +38,7 @@ use Rattle.progress.proofs.CountLaws.{code-one}
 use Rattle.writer.proofs.StateHolds.{differ, st}
 use Rattle.writer.proofs.CallLaws.{set-up-passed}
 use Rattle.writer.proofs.CallList.{Fits, coming, Right, At, own-sound, in-ranges, rows-all}
-use Rattle.writer.proofs.Reached.{rows-are, waiting-coming, offer-turned, offer-takes, finish-answer, draw-says, then-reached}
+use Rattle.writer.proofs.Reached.{rows-are, waiting-coming, offer-turned, offer-takes, finish-answer, draw-says, look-says, Reached, then-reached}
 
 -- a drawn row of words is a row of the filter's whole numbers, for a map; φ is the number of the filter
 right-values : (φ L : ℕ) (W : Side) (top H : ℕ) (g : Grid) → L ≤ filterOf φ .levels → (es : List Event) → Begins W H g es → (d : DrawnRow) →
@@ -113,7 +113,7 @@ made-prefix φ W top L H r h =
     )
 
 module _ (φ l : ℕ) (W : Side) (top : ℕ) (from : W .start ≤ maxOrigin) (low : top ≤ maxOrigin) (sized : streamable φ W (suc l) ≡ true)
-    (es : List Event) (n r c cl v i : ℕ) (x : Memory) (long : storeBy φ W (suc l) ≤ n)
+    (es : List Event) (r c cl v i : ℕ) (x : Memory)
     (a : At φ (suc l) W top (taken es) (finishedBy es) (drawn es) r c cl v i x) where
   abbrev M : ℕ
   M = suc l
@@ -128,13 +128,13 @@ module _ (φ l : ℕ) (W : Side) (top : ℕ) (from : W .start ≤ maxOrigin) (lo
   g₀ = finishedBy es
 
   abbrev w₀ : World
-  w₀ = record { writer = st φ W top M r c g₀ cl v i; length = n; store = x }
+  w₀ = record { writer = st φ W top M r c g₀ cl v i; store = x }
 
   rows-here : wholeRows W es ≡ r
-  rows-here = rows-are φ l W top from low sized es n r c cl v i x long a
+  rows-here = rows-are φ l W top from low sized es r c cl v i x a
 
   waiting-here : waitingOf φ W top M es ≡ coming φ M W top g₀ cl v i r
-  waiting-here = waiting-coming φ l W top from low sized es n r c cl v i x long a
+  waiting-here = waiting-coming φ l W top from low sized es r c cl v i x a
 
   made-here : madeOf φ W top M es ≡ made (filterOf φ .ahead) W top M r g₀
   unfolding madeOf
@@ -226,14 +226,26 @@ module _ (φ l : ℕ) (W : Side) (top : ℕ) (from : W .start ≤ maxOrigin) (lo
     some-map = map-there;
     finished-map = whole-map;
     all-drawn = drew-all;
-    draws = draw-says φ l W top from low sized es n r c cl v i x long a;
-    offers-turned = λ run. offer-turned φ l W top from low sized es n r c cl v i x long a run;
-    offers-taken = λ run. offer-takes φ l W top from low sized es n r c cl v i x long a run;
-    finishes = finish-answer φ l W top from low sized es n r c cl v i x long a;
+    draws = λ n b. draw-says φ l W top from low sized es n r c cl v i x a b _ refl;
+    offers-turned = offer-turned φ l W top from low sized es r c cl v i x a;
+    offers-taken = offer-takes φ l W top from low sized es r c cl v i x a;
+    finishes = finish-answer φ l W top from low sized es r c cl v i x a;
+    looks = look-says φ l W top from low sized es r c cl v i x a;
   }
 
+-- so it is of every world that is reached, and its state passes question 1
+pub reached-claim : (f l : ℕ) (W : Side) (top : ℕ) (from : W .start ≤ maxOrigin) (low : top ≤ maxOrigin) (sized : streamable f W (suc l) ≡ true) →
+    (es : List Event) (w : World) → Reached f l W top from low sized es w →
+    (inRanges (w .writer) ≡ true) × Demand3 f W top (suc l) es (λ k. event k w)
+reached-claim f l W top from low sized es w m =
+    subst (λ s. (inRanges s ≡ true) × Demand3 f W top (suc l) es (λ k. event k (record { writer = s; store = w .store })))
+    (sym (m .writer-is)) (
+      in-ranges f (m .at) from low sized,
+      claim f l W top from low sized es (m .rows) (m .column) (m .closed) (m .level) (m .rest) (w .store) (m .at),
+    )
+
 -- ---- the theorem
-some-level : (φ : ℕ) (W : Side) → streamable φ W 0 ≡ true → ⊥
+pub some-level : (φ : ℕ) (W : Side) → streamable φ W 0 ≡ true → ⊥
 some-level φ W e = omega (arith, streams φ W 0 e .levels .0)
 
 -- every list of calls on a fresh writer: the state passes question 1, and demand 3 holds
@@ -243,14 +255,8 @@ demand-3 f W top zero n x from low h cs = absurd (some-level f W (set-up-passed 
 demand-3 f W top (suc l) n x from low h cs =
     let p = set-up-passed f W (suc l) n h in
     let w = freshWorld f W top (suc l) n x in
-    let m = then-reached f l W top from low (p .0) n (w .store) (streams f W (suc l) (p .0) .width .0) (p .1) cs in
-    let e = final cs w in
-    subst (λ s. (inRanges s ≡ true) × Demand3 f W top (suc l) (events cs w) (λ k. event k (record { writer = s; length = e .length; store = e .store })))
-    (sym (m .writer-is)) (
-      in-ranges f (m .at) from low (p .0),
-      claim f l W top from low (p .0) (events cs w) (e .length) (m .rows) (m .column) (m .closed) (m .level) (m .rest)
-          (e .store) (m .long) (m .at),
-    )
+    reached-claim f l W top from low (p .0) (events cs w) (final cs w)
+    (then-reached f l W top from low (p .0) (w .store) (streams f W (suc l) (p .0) .width .0) cs)
 
 -- and it is still a writer of the set-up's filter and columns
 pub set-up-stays : (f : ℕ) (W : Side) (top L n : ℕ) (x : Memory) → W .start ≤ maxOrigin → top ≤ maxOrigin → setUpQuestion f W L n ≡ 0 → (cs : List Call) →
@@ -259,5 +265,5 @@ set-up-stays f W top zero n x from low h cs = absurd (some-level f W (set-up-pas
 set-up-stays f W top (suc l) n x from low h cs =
     let p = set-up-passed f W (suc l) n h in
     let w = freshWorld f W top (suc l) n x in
-    let m = then-reached f l W top from low (p .0) n (w .store) (streams f W (suc l) (p .0) .width .0) (p .1) cs in
+    let m = then-reached f l W top from low (p .0) (w .store) (streams f W (suc l) (p .0) .width .0) cs in
     (ap (λ s. s .filter) (m .writer-is), ap columnsOf (m .writer-is))

@@ -6,6 +6,7 @@ pub mod CallList
 pub mod CallsKeep
 pub mod Reached
 pub mod Demand3
+pub mod AnyPast
 pub mod Offset
 pub mod LookLaws
 pub mod CascadeLaws

@@ -3,10 +3,9 @@
 -- Assumes nothing.
 use mathlib.Core.Bool.{Bool, true, false, not}
 use mathlib.Core.Path.{_≡_, refl, sym, ap, _∙_}
-use mathlib.Core.List.{List, [], _∷_}
+use mathlib.Core.List.{List}
 use Prim.Native.Nat.{ℕ, zero, suc, _≤_, _<_}
 use native.Mathlib.Omega.{arith}
-use lib.IntN.{pos}
 use lib.Dec.{leb, eqb}
 use borrow.Author.Tests.{not-true, not-false, le-leb, ne-eqb}
 use Rattle.numbers.specs.Signal.{pick}
@@ -14,19 +13,17 @@ use Rattle.wavelet.specs.Questions.{ask}
 use Rattle.lifting.specs.Grid.{Side}
 use Rattle.wavelet.specs.Limits.{maxOrigin}
 use Rattle.figures.specs.Figures.{storeBy}
-use Rattle.wavelet.specs.View.{bandColumns}
-use Rattle.wavelet.specs.Order.{RowName}
-use Rattle.calls.specs.Lists.{Reply, gives, refused, unless, seen, Area}
+use Rattle.calls.specs.Lists.{gives, refused, unless}
 use Rattle.level.specs.Level.{Memory}
 use Rattle.writer.specs.declared.Writer.{Writer}
 use Rattle.writer.specs.declared.BandRow.{BandRow}
 use Rattle.writer.specs.Taking.{columnsOf}
 use Rattle.writer.specs.Questions.{either, inRanges, longEnough, waitingRow, setUpQuestion, drawQuestion, waitsQuestion}
-use Rattle.writer.specs.Answers.{Handed, aRow, nothing}
+use Rattle.writer.specs.Answers.{Handed, nothing}
 use Rattle.writer.specs.Gate.{stateQuestion}
 use Rattle.writer.specs.Calls.{handed, drawReply, bandRow, noRow, awaited, waitsReply, rowHanded}
-use Rattle.writer.specs.History.{Call, Given, row, none, World, given, event, events, final, freshWorld}
-use Rattle.writer.specs.Demand3.{waitingOf, answered, drawSays, nextRow}
+use Rattle.writer.specs.History.{Call, event, events, final, freshWorld}
+use Rattle.writer.specs.Demand3.{waitingOf, nextRow}
 use Rattle.writer.proofs.GateLaws.{Sound, sound}
 use Rattle.writer.proofs.Demand3.{demand-3}
 
@@ -86,41 +83,7 @@ module _ (s : Writer) (n k : ℕ) (x : Memory) where
       go false v l e = let z : _≡_ {A = ℕ} 0 1 = cc in absurd (omega arith)
 
 -- ---- by the history: of the rows that wait the first
-named : (r : Reply Handed) (g : Given) → seen given r ≡ gives g → (h : Handed) × (r ≡ gives h) × (given h ≡ g)
-named (gives h) g e = (h, refl, cc)
-named (refused q) g e = let z : _≡_ {A = ℕ} 0 1 = cc in absurd (omega arith)
-
-row-is : (h : Handed) (b : BandRow) → given h ≡ row b → rowHanded h ≡ b
-row-is (aRow c t) b e = cc
-row-is nothing b e = let z : _≡_ {A = ℕ} 0 1 = cc in absurd (omega arith)
-
-none-is : (h : Handed) → given h ≡ none → rowHanded h ≡ noRow
-none-is (aRow c t) e = let z : _≡_ {A = ℕ} 0 1 = cc in absurd (omega arith)
-none-is nothing e = refl
-
 pub look-waits : (f : ℕ) (W : Side) (top L n : ℕ) (x : Memory) → W .start ≤ maxOrigin → top ≤ maxOrigin → setUpQuestion f W L n ≡ 0 → (cs : List Call) →
     (let w = freshWorld f W top L n x in waitsReply (final cs w .writer) ≡ gives (nextRow W (waitingOf f W top L (events cs w))))
 unfolding event
-look-waits f W top L n x from low s cs = go (waitingOf f W top L (events cs w)) refl
-  where
-    w : World
-    w = freshWorld f W top L n x
-
-    e : World
-    e = final cs w
-
-    area : ℕ → Area
-    area k = record { size = k; numbers = λ _. pos 0 }
-
-    drawn-as : (k : ℕ) (g : Given) → drawSays W (waitingOf f W top L (events cs w)) k ≡ gives g →
-        seen given (drawReply (e .writer) (e .length) k (e .store)) ≡ gives g
-    drawn-as k g z = let d = demand-3 f W top L n x from low s cs .1 .draws (area k) .says in cc (d, z)
-
-    go : (l : List RowName) → waitingOf f W top L (events cs w) ≡ l → waitsReply (e .writer) ≡ gives (nextRow W l)
-    go [] z =
-        let h = named _ none (drawn-as 0 none (ap (λ l. drawSays W l 0) z)) in
-        look-says (e .writer) (e .length) 0 (e .store) (h .0) (h .1) ∙ ap gives (none-is (h .0) (h .2))
-    go (y ∷ l) z =
-        let k = bandColumns W (y .level) (y .band) in
-        let h = named _ (row (answered W y)) (drawn-as k _ (ap (λ l. drawSays W l k) z ∙ simp (le-leb k k (omega arith)))) in
-        look-says (e .writer) (e .length) k (e .store) (h .0) (h .1) ∙ ap gives (row-is (h .0) (answered W y) (h .2))
+look-waits f W top L n x from low s cs = let e = demand-3 f W top L n x from low s cs .1 .looks in cc e

@@ -17,11 +17,11 @@ use Rattle.writer.specs.declared.Writer.{Writer}
 use Rattle.progress.specs.Counts.{startOf}
 use Rattle.writer.specs.Machine.{Out}
 use Rattle.writer.specs.Taking.{kind, columnsOf, Taking, takes, offering}
-use Rattle.writer.specs.Questions.{inRanges, longEnough, setUpQuestion, offerQuestion, drawQuestion, finishQuestion}
+use Rattle.writer.specs.Questions.{inRanges, longEnough, setUpQuestion, offerQuestion, drawQuestion, waitsQuestion, finishQuestion}
 use Rattle.writer.specs.Holds.{left, after}
 use Rattle.writer.specs.Calls.{setUpStore, took, waits, closing, resumed, handed, handedStore, handedArea, offerReply, offerStore, drawReply, drawStore}
-use Rattle.writer.specs.Calls.{drawArea, finishReply, finishStore}
-use Rattle.writer.specs.History.{Call, offer, draw, finish, offered, drew, finished, World, given, event, next, events, final, freshWorld}
+use Rattle.writer.specs.Calls.{drawArea, awaited, waitsReply, finishReply, finishStore}
+use Rattle.writer.specs.History.{Call, offer, draw, finish, look, offered, drew, finished, looked, World, given, event, next, events, final, freshWorld}
 use Rattle.writer.specs.Before as before
 use Rattle.writer.specs.Before.{Before}
 use Rattle.writer.proofs.StateHolds.{st, fresh-st}
@@ -33,7 +33,7 @@ abbrev carry : Before → Writer
 carry b = st (b .filter) (b .columns) (b .start) (b .levels) (b .rows) (b .column) (b .finished) (b .closed) (b .level) (b .left)
 
 abbrev carries : before.World → World
-carries w = record { writer = carry (w .writer); length = w .length; store = w .store }
+carries w = record { writer = carry (w .writer); store = w .store }
 
 abbrev taking : before.Taking → Taking
 taking t = record { taken = t .taken; writer = carry (t .writer); store = t .store }
@@ -83,6 +83,10 @@ module _ (b : Before) where
   unfolding finishQuestion before.finishQuestion longEnough before.longEnough
   same-finish n = rw same-ranges refl
 
+  same-look : waitsQuestion (carry b) ≡ before.lookQuestion b
+  unfolding waitsQuestion before.lookQuestion
+  same-look = rw same-ranges refl
+
   same-resumed : (f : Bool) (o : Out) (v : ℕ) → resumed f (carry b) o v ≡ before.resumed f b o v
   unfolding resumed before.resumed
   same-resumed false o v = refl
@@ -90,9 +94,9 @@ module _ (b : Before) where
   same-resumed true o (suc v) = refl
 
 -- ---- what is seen of a call, and what it leaves, by the number of the question
-module _ (b : Before) (n : ℕ) (x : Memory) where
+module _ (b : Before) (x : Memory) where
   abbrev w : before.World
-  w = before.world b n x
+  w = before.world b x
 
   offer-event : (run : List ℕ) (q : ℕ) (t : Taking) → t ≡ taking (before.offering run b x) →
       offered run (seen (λ k. k .taken) (unless q (took t))) ≡ before.offerEvent w run q
@@ -101,10 +105,10 @@ module _ (b : Before) (n : ℕ) (x : Memory) where
   offer-event run (suc q) t e = refl
 
   offer-next : (run : List ℕ) (q : ℕ) (t : Taking) → t ≡ taking (before.offering run b x) →
-      record { writer = left (λ k. k .writer) (carry b) (unless q (took t)); length = n; store = changedUnless q (t .store) x } ≡ carries
+      record { writer = left (λ k. k .writer) (carry b) (unless q (took t)); store = changedUnless q (t .store) x } ≡ carries
       (before.offerNext w run q)
   unfolding before.offerNext
-  offer-next run zero t e = ap (λ k. record { writer = k .writer; length = n; store = k .store }) e
+  offer-next run zero t e = ap (λ k. record { writer = k .writer; store = k .store }) e
   offer-next run (suc q) t e = refl
 
   draw-event : (a : Area) (q v : ℕ) →
@@ -119,11 +123,11 @@ module _ (b : Before) (n : ℕ) (x : Memory) where
   draw-event a (suc q) v = refl
 
   draw-next : (q v : ℕ) →
-      record { writer = left (after (carry b)) (carry b) (unless q (handed v (carry b) x)); length = n; store = changedUnless q (handedStore v (carry b) x) x }
-      ≡ carries (before.world (changedUnless q (before.handedWriter v b x) b) n (changedUnless q (before.handedStore v b x) x))
+      record { writer = left (after (carry b)) (carry b) (unless q (handed v (carry b) x)); store = changedUnless q (handedStore v (carry b) x) x }
+      ≡ carries (before.world (changedUnless q (before.handedWriter v b x) b) (changedUnless q (before.handedStore v b x) x))
   draw-next zero zero = refl
   draw-next zero (suc v) =
-      ap (λ r. record { writer = waits (b .finished) (carry b) r; length = n; store = r .out .store }) (same-resumed b (b .finished)
+      ap (λ r. record { writer = waits (b .finished) (carry b) r; store = r .out .store }) (same-resumed b (b .finished)
       (before.pulled b x) (before.pulled b x .level))
   draw-next (suc q) v = refl
 
@@ -135,7 +139,6 @@ module _ (b : Before) (n : ℕ) (x : Memory) where
   finish-next : (q : ℕ) →
       record {
         writer = left (λ s. s) (carry b) (unless q (waits true (carry b) (closing (carry b) x)));
-        length = n;
         store = changedUnless q
             (closing (carry b) x .out .store) x;
       }
@@ -144,33 +147,39 @@ module _ (b : Before) (n : ℕ) (x : Memory) where
   finish-next zero = refl
   finish-next (suc q) = refl
 
+  look-event : (q v : ℕ) → looked (unless q (awaited v (carry b))) ≡ looked (unless q (before.awaited v b))
+  look-event q zero = refl
+  look-event q (suc v) = refl
+
   call-event : (k : Call) → event k (carries w) ≡ before.event k w
-  unfolding event before.event offerReply drawReply drawArea finishReply before.drawEvent
-  call-event (offer run) = rw (same-offer b n (length run)) (offer-event run (before.offerQuestion b n (length run)) _ (same-taking run b x))
-  call-event (draw a) = rw (same-draw b n (a .size)) (draw-event a (before.drawQuestion b n (a .size)) (b .level))
-  call-event finish = rw (same-finish b n) (finish-event (before.finishQuestion b n))
+  unfolding event before.event offerReply drawReply drawArea waitsReply finishReply before.drawEvent
+  call-event (offer n run) = rw (same-offer b n (length run)) (offer-event run (before.offerQuestion b n (length run)) _ (same-taking run b x))
+  call-event (draw n a) = rw (same-draw b n (a .size)) (draw-event a (before.drawQuestion b n (a .size)) (b .level))
+  call-event (finish n) = rw (same-finish b n) (finish-event (before.finishQuestion b n))
+  call-event look = rw (same-look b) (look-event (before.lookQuestion b) (b .level))
 
   call-next : (k : Call) → next k (carries w) ≡ carries (before.next k w)
   unfolding next before.next offerReply offerStore drawReply drawStore finishReply finishStore before.drawNext
-  call-next (offer run) = rw (same-offer b n (length run)) (offer-next run (before.offerQuestion b n (length run)) _ (same-taking run b x))
-  call-next (draw a) = rw (same-draw b n (a .size)) (draw-next (before.drawQuestion b n (a .size)) (b .level))
-  call-next finish = rw (same-finish b n) (finish-next (before.finishQuestion b n))
+  call-next (offer n run) = rw (same-offer b n (length run)) (offer-next run (before.offerQuestion b n (length run)) _ (same-taking run b x))
+  call-next (draw n a) = rw (same-draw b n (a .size)) (draw-next (before.drawQuestion b n (a .size)) (b .level))
+  call-next (finish n) = rw (same-finish b n) (finish-next (before.finishQuestion b n))
+  call-next look = refl
 
 -- ---- every list of calls
 list-events : (cs : List Call) (w : before.World) → events cs (carries w) ≡ before.events cs w
 unfolding lists.events
 list-events [] w = refl
 list-events (k ∷ cs) w =
-    ap₂ (λ e l. e ∷ l) (call-event (w .writer) (w .length) (w .store) k)
-    (ap (events cs) (call-next (w .writer) (w .length) (w .store) k) ∙ list-events cs (before.next k w))
+    ap₂ (λ e l. e ∷ l) (call-event (w .writer) (w .store) k)
+    (ap (events cs) (call-next (w .writer) (w .store) k) ∙ list-events cs (before.next k w))
 
 list-final : (cs : List Call) (w : before.World) → final cs (carries w) ≡ carries (before.final cs w)
 unfolding lists.final
 list-final [] w = refl
-list-final (k ∷ cs) w = ap (final cs) (call-next (w .writer) (w .length) (w .store) k) ∙ list-final cs (before.next k w)
+list-final (k ∷ cs) w = ap (final cs) (call-next (w .writer) (w .store) k) ∙ list-final cs (before.next k w)
 
 fresh-carries : (f : ℕ) (W : Side) (top L n : ℕ) (x : Memory) → freshWorld f W top L n x ≡ carries (before.freshWorld f W top L n x)
-fresh-carries f W top L n x = ap (λ s. record { writer = s; length = n; store = setUpStore f W L n x }) (fresh-st f W top L)
+fresh-carries f W top L n x = ap (λ s. record { writer = s; store = setUpStore f W L n x }) (fresh-st f W top L)
 
 -- ---- the theorems: of a set-up of the filter of number f, the columns W, rows that start at `top`, and L levels on a store of n numbers in which x stood,
 -- and any list of calls

@@ -22,8 +22,9 @@ use Rattle.writer.specs.Machine.{Out, arrive}
 use Rattle.writer.specs.Draws.{Waiting, waiting, pull}
 use Rattle.writer.specs.Closing.{Shut, shut}
 use Rattle.writer.specs.Questions.{either, onGrid}
-use Rattle.writer.specs.Calls.{setUpStore, bandRow}
-use Rattle.writer.specs.History.{Call, offer, draw, finish, Given, row, none, Event, offered, drew, finished}
+use Rattle.writer.specs.declared.BandRow.{BandRow}
+use Rattle.writer.specs.Calls.{setUpStore, bandRow, noRow}
+use Rattle.writer.specs.History.{Call, offer, draw, finish, look, Given, row, none, Event, offered, drew, finished, looked}
 
 pub record Before : Type 0 where
   pub filter : ℕ
@@ -114,6 +115,9 @@ drawQuestion s n k =
     (ask (either (eqb (s .level) 0) (leb (waitingRow s .length) k)) 12
     0))
 
+unfoldable pub lookQuestion : Before → ℕ
+lookQuestion s = ask (inRanges s) 1 0
+
 unfoldable pub finishQuestion : Before → ℕ → ℕ
 finishQuestion s n =
     ask (inRanges s) 1
@@ -146,6 +150,10 @@ abbrev pub handed : ℕ → Before → Given
 handed zero s = none
 handed (suc v) s = row (bandRow (waitingRow s))
 
+abbrev pub awaited : ℕ → Before → BandRow
+awaited zero s = noRow
+awaited (suc v) s = bandRow (waitingRow s)
+
 abbrev pub handedWriter : ℕ → Before → Memory → Before
 handedWriter zero s x = s
 handedWriter (suc v) s x = waits (s .finished) s (afterDraw s x)
@@ -161,11 +169,10 @@ handedArea (suc v) s x z = fronted (waitingRow s .length) (rest (waitingRow s .s
 -- ---- each call is made on the state and store that the one before left
 pub record World : Type 0 where
   pub writer : Before
-  pub length : ℕ
   pub store : Memory
 
-abbrev pub world : Before → ℕ → Memory → World
-world s n x = record { writer = s; length = n; store = x }
+abbrev pub world : Before → Memory → World
+world s x = record { writer = s; store = x }
 
 -- what is seen of a call, and what it leaves; q is the number of the question that turns it away, or 0
 module _ (w : World) where
@@ -179,7 +186,7 @@ module _ (w : World) where
   offerEvent run q = offered run (unless q (offering run s x .taken))
 
   unfoldable pub offerNext : List ℕ → ℕ → World
-  offerNext run q = world (changedUnless q (offering run s x .writer) s) (w .length) (changedUnless q (offering run s x .store) x)
+  offerNext run q = world (changedUnless q (offering run s x .writer) s) (changedUnless q (offering run s x .store) x)
 
   unfoldable pub drawEvent : Area → ℕ → Event
   drawEvent a q =
@@ -187,23 +194,25 @@ module _ (w : World) where
       (record { size = a .size; numbers = changedUnless q (handedArea (s .level) s x (a .numbers)) (a .numbers) })
 
   unfoldable pub drawNext : ℕ → World
-  drawNext q = world (changedUnless q (handedWriter (s .level) s x) s) (w .length) (changedUnless q (handedStore (s .level) s x) x)
+  drawNext q = world (changedUnless q (handedWriter (s .level) s x) s) (changedUnless q (handedStore (s .level) s x) x)
 
   unfoldable pub finishEvent : ℕ → Event
   finishEvent q = finished (unless q tt)
 
   unfoldable pub finishNext : ℕ → World
-  finishNext q = world (changedUnless q (waits true s (closing s x)) s) (w .length) (changedUnless q (closing s x .out .store) x)
+  finishNext q = world (changedUnless q (waits true s (closing s x)) s) (changedUnless q (closing s x .out .store) x)
 
 unfoldable pub event : Call → World → Event
-event (offer run) w = offerEvent w run (offerQuestion (w .writer) (w .length) (length run))
-event (draw a) w = drawEvent w a (drawQuestion (w .writer) (w .length) (a .size))
-event finish w = finishEvent w (finishQuestion (w .writer) (w .length))
+event (offer n run) w = offerEvent w run (offerQuestion (w .writer) n (length run))
+event (draw n a) w = drawEvent w a (drawQuestion (w .writer) n (a .size))
+event (finish n) w = finishEvent w (finishQuestion (w .writer) n)
+event look w = looked (unless (lookQuestion (w .writer)) (awaited (w .writer .level) (w .writer)))
 
 unfoldable pub next : Call → World → World
-next (offer run) w = offerNext w run (offerQuestion (w .writer) (w .length) (length run))
-next (draw a) w = drawNext w (drawQuestion (w .writer) (w .length) (a .size))
-next finish w = finishNext w (finishQuestion (w .writer) (w .length))
+next (offer n run) w = offerNext w run (offerQuestion (w .writer) n (length run))
+next (draw n a) w = drawNext w (drawQuestion (w .writer) n (a .size))
+next (finish n) w = finishNext w (finishQuestion (w .writer) n)
+next look w = w
 
 abbrev pub events : List Call → World → List Event
 events = lists.events event next
@@ -213,4 +222,4 @@ final = lists.final next
 
 -- a set-up that passed
 abbrev pub freshWorld : ℕ → Side → ℕ → ℕ → ℕ → Memory → World
-freshWorld f W s L n x = world (at f W s L 0 0 false 0 0 0) n (setUpStore f W L n x)
+freshWorld f W s L n x = world (at f W s L 0 0 false 0 0 0) (setUpStore f W L n x)

@@ -21,9 +21,10 @@ use Rattle.wavelet.specs.View.{bandColumns}
 use Rattle.wavelet.specs.ViewCall.{bandRowExists}
 use Rattle.calls.specs.Lists.{Reply, gives, refused, unless, Area, All}
 use Rattle.nine_seven.specs.Filters.{filterOf}
+use Rattle.figures.specs.Figures.{storeBy}
 use Rattle.writer.specs.declared.BandRow.{BandRow}
 use Rattle.writer.specs.Questions.{either}
-use Rattle.writer.specs.History.{Call, offer, draw, finish, Given, row, none, Event, offered, drew, finished}
+use Rattle.writer.specs.History.{Call, offer, draw, finish, look, Given, row, none, Event, offered, drew, finished, looked}
 use Rattle.writer.specs.History.{taken, finishedBy, DrawnRow, drawn}
 
 -- "Made: the rows that the writer's rules make of the whole rows taken and, once a finish passed, of the finish, in the order of those rules."
@@ -77,10 +78,18 @@ abbrev pub isNone : {A : Type 0} → List A → Bool
 isNone [] = true
 isNone (x ∷ l) = false
 
+-- question 5: a line store of n numbers is as long as is needed
+abbrev pub isLong : ℕ → Side → ℕ → ℕ → Bool
+isLong f W L n = leb (storeBy f W L) n
+
 -- a draw into an area of k numbers: "Nothing is answered exactly when none waits." Else the next row that waits, or 12
-abbrev pub drawSays : Side → List RowName → ℕ → Reply Given
-drawSays W [] k = gives none
-drawSays W (x ∷ l) k = pick (leb (bandColumns W (x .level) (x .band)) k) (gives (row (answered W x))) (refused 12)
+abbrev pub drawGives : Side → List RowName → ℕ → Reply Given
+drawGives W [] k = gives none
+drawGives W (x ∷ l) k = pick (leb (bandColumns W (x .level) (x .band)) k) (gives (row (answered W x))) (refused 12)
+
+-- lent a store of n numbers: 5, or that
+unfoldable pub drawSays : ℕ → Side → ℕ → ℕ → List Event → ℕ → ℕ → Reply Given
+drawSays f W s L es n k = pick (isLong f W L n) (drawGives W (waitingOf f W s L es) k) (refused 5)
 
 -- how many numbers of the output area it writes
 abbrev pub written : Reply Given → ℕ
@@ -89,11 +98,11 @@ written (gives none) = 0
 written (refused q) = 0
 
 -- what is seen of it: the answer, and the output area afterwards, its surplus untouched
-pub record DrawSeen (f : ℕ) (W : Side) (s L : ℕ) (es : List Event) (a : Area) (e : Event) : Type 0 where
+pub record DrawSeen (f : ℕ) (W : Side) (s L : ℕ) (es : List Event) (n : ℕ) (a : Area) (e : Event) : Type 0 where
   pub area : Area
-  pub says : e ≡ drew a (drawSays W (waitingOf f W s L es) (a .size)) area
+  pub says : e ≡ drew a (drawSays f W s L es n (a .size)) area
   pub size-is : area .size ≡ a .size
-  pub surplus : (i : ℕ) → written (drawSays W (waitingOf f W s L es) (a .size)) ≤ i → area .numbers i ≡ a .numbers i
+  pub surplus : (i : ℕ) → written (drawSays f W s L es n (a .size)) ≤ i → area .numbers i ≡ a .numbers i
 
 -- after j heights more no row would wait, and the row limit is not reached
 unfoldable pub takesOn : ℕ → Side → ℕ → ℕ → List Event → ℕ → Bool
@@ -101,13 +110,14 @@ takesOn f W s L es j =
     both (isNone (drop (length (drawn es)) (made (filterOf f .ahead) W s L ((length (taken es) + j) / W .length) false)))
     (ltb ((length (taken es) + j) / W .length) maxHeight)
 
--- an offer of k heights: 9, 8, 10, or it takes "heights until a band row waits, the row limit is reached or the run is used up"
-unfoldable pub offerTurned : ℕ → Side → ℕ → ℕ → List Event → ℕ → ℕ
-offerTurned f W s L es k =
-    ask (not (finishedBy es)) 9
+-- an offer of k heights: 5, 9, 8, 10, or it takes "heights until a band row waits, the row limit is reached or the run is used up"
+unfoldable pub offerTurned : ℕ → Side → ℕ → ℕ → List Event → ℕ → ℕ → ℕ
+offerTurned f W s L es n k =
+    ask (isLong f W L n) 5
+    (ask (not (finishedBy es)) 9
     (ask (isNone (waitingOf f W s L es)) 8
     (ask (either (eqb k 0) (ltb (wholeRows W es) maxHeight)) 10
-    0))
+    0)))
 
 pub record Takes (f : ℕ) (W : Side) (s L : ℕ) (es : List Event) (k n : ℕ) : Type 0 where
   pub most : n ≤ k
@@ -115,13 +125,14 @@ pub record Takes (f : ℕ) (W : Side) (s L : ℕ) (es : List Event) (k n : ℕ) 
   pub until : (j : ℕ) → j < n → takesOn f W s L es j ≡ true
   pub stop : n < k → takesOn f W s L es n ≡ false
 
--- a finish: 9, 8, 11
-unfoldable pub finishTurned : ℕ → Side → ℕ → ℕ → List Event → ℕ
-finishTurned f W s L es =
-    ask (not (finishedBy es)) 9
+-- a finish: 5, 9, 8, 11
+unfoldable pub finishTurned : ℕ → Side → ℕ → ℕ → List Event → ℕ → ℕ
+finishTurned f W s L es n =
+    ask (isLong f W L n) 5
+    (ask (not (finishedBy es)) 9
     (ask (isNone (waitingOf f W s L es)) 8
     (ask (both (ltb 0 (wholeRows W es)) (eqb (length (taken es) % W .length) 0)) 11
-    0))
+    0)))
 
 -- ---- the claim, of the events es of any list of calls; `then` is what would be seen of a further call
 pub record Demand3 (f : ℕ) (W : Side) (s L : ℕ) (es : List Event) (then : Call → Event) : Type 0 where
@@ -142,11 +153,13 @@ pub record Demand3 (f : ℕ) (W : Side) (s L : ℕ) (es : List Event) (then : Ca
       (1 ≤ wholeRows W es) × (wholeRows W es ≤ maxHeight) × (length (taken es) ≡ W .length * wholeRows W es)
   -- and once none waits, the rows drawn are its plane's band rows, each once
   pub all-drawn : finishedBy es ≡ true → waitingOf f W s L es ≡ [] → PlaneDrawn W s L es
-  -- a draw
-  pub draws : (a : Area) → DrawSeen f W s L es a (then (draw a))
+  -- a draw, lent a store of n numbers
+  pub draws : (n : ℕ) (a : Area) → DrawSeen f W s L es n a (then (draw n a))
   -- an offer
-  pub offers-turned : (run : List ℕ) (q : ℕ) → offerTurned f W s L es (length run) ≡ suc q → then (offer run) ≡ offered run (refused (suc q))
-  pub offers-taken : (run : List ℕ) → offerTurned f W s L es (length run) ≡ 0 →
-      (n : ℕ) × (then (offer run) ≡ offered run (gives n)) × Takes f W s L es (length run) n
+  pub offers-turned : (n : ℕ) (run : List ℕ) (q : ℕ) → offerTurned f W s L es n (length run) ≡ suc q → then (offer n run) ≡ offered run (refused (suc q))
+  pub offers-taken : (n : ℕ) (run : List ℕ) → offerTurned f W s L es n (length run) ≡ 0 →
+      (k : ℕ) × (then (offer n run) ≡ offered run (gives k)) × Takes f W s L es (length run) k
   -- a finish
-  pub finishes : then finish ≡ finished (unless (finishTurned f W s L es) tt)
+  pub finishes : (n : ℕ) → then (finish n) ≡ finished (unless (finishTurned f W s L es n) tt)
+  -- a look
+  pub looks : then look ≡ looked (gives (nextRow W (waitingOf f W s L es)))

@@ -2,6 +2,7 @@
 pub mod Answers
 pub mod History
 pub mod Demand3
+pub mod Past
 -- What each call asks, answers and leaves: the contracts of the public functions cite it. Of these, demand 3 proves what 01 asks of lists of calls.
 pub mod Questions
 pub mod Calls

@@ -74,7 +74,7 @@ fn is_sized(filter: usize, width: usize, x: usize, levels: usize) -> bool
     if !limits::is_within(width, Writer::MAX_WIDTH) {
         return false;
     }
-    limits::is_within(levels, figures::most_levels(filter))
+    limits::is_within(levels, Writer::most_levels(filter))
 }
 
 // Question 1: the counts' ranges.
@@ -142,7 +142,7 @@ pub fn set_up_question(filter: usize, width: usize, x: usize, levels: usize, n: 
     if !figures::is_filter(filter) {
         return 18;
     }
-    if !limits::is_within(levels, figures::most_levels(filter)) {
+    if !limits::is_within(levels, Writer::most_levels(filter)) {
         return 4;
     }
     if n < figures::store_length(filter, width, x, levels) {

@@ -14,6 +14,7 @@ ghost use lib.ListN.{length};
 ghost use Rattle.numbers.specs.Signal.{at};
 ghost use Rattle.wavelet.specs.Limits.{maxWidth, maxHeight, maxLevels, maxOrigin};
 ghost use Rattle.wavelet.specs.Shape.{columns};
+ghost use Rattle.nine_seven.specs.Filters.{filterOf};
 ghost use Rattle.writer.specs.Answers.{ofSetUp, ofOffered, ofDrawn, ofLook, ofFinished};
 ghost use Rattle.writer.specs.Calls.{setUpReply, setUpStore, offerReply, offerStore, drawReply, drawStore, drawArea, waitsReply, finishReply};
 ghost use Rattle.writer.specs.Calls.{finishStore};
@@ -82,7 +83,10 @@ impl Writer {
 
     pub const MAX_HEIGHT: usize = 4294967295;
 
+    // by the 5/3, and by the integer 9/7
     pub const MAX_LEVELS: usize = 5;
+
+    pub const MAX_LEVELS_NINE_SEVEN: usize = 4;
 
     pub const MAX_ORIGIN: usize = 65535;
 
@@ -103,6 +107,17 @@ impl Writer {
         ensures { λ r. ⌜ r ≡ maxLevels ⌝ }
     {
         Writer::MAX_LEVELS
+    }
+
+    // by the filter's number
+    pub fn most_levels(filter: usize) -> usize
+        ensures { λ r. ⌜ r ≡ filterOf filter .levels ⌝ }
+    {
+        if filter == 0 {
+            Writer::MAX_LEVELS
+        } else {
+            Writer::MAX_LEVELS_NINE_SEVEN
+        }
     }
 
     pub fn max_origin() -> usize
