@@ -9,3 +9,4 @@ pub mod Rebuilt
 pub mod Holds
 pub mod Demand3
 pub mod Played
+pub mod Plain
