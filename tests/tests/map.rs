@@ -80,6 +80,20 @@ fn larger_and_odd_sizes() {
     }
 }
 
+/// Document 02, Q-5: a whole map of more rows than 16 bits count.
+#[test]
+fn a_map_of_70_000_rows() {
+    let mut random = Random::new(70_000);
+    for (number, filter) in (0..).zip(&FILTERS) {
+        for (width, x, y) in [(1, 0, 0), (3, 1, 1)] {
+            let heights: Vec<u16> = (0..width * 70_000).map(|_| random.below(65_536) as u16).collect();
+            for levels in [1, filter.levels] {
+                there_and_back(&heights, Shape::new(width, 70_000, levels).at(x, y).by(number));
+            }
+        }
+    }
+}
+
 /// What backward must answer for a plane, by the definitions: 7, 14, or 0 with the map.
 fn check_backward(plane: &[i32], s: Shape) -> u32 {
     let n = s.width * s.height;

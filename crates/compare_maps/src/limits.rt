@@ -1,10 +1,9 @@
-// The samples of document 01 on either side of a limit: W, L, and the range of level-1 coefficients.
+// The samples of document 01 on either side of a limit: W, L, and the range of level-1 coefficients. Their numbers are 01's own, not the product's constants.
 use crate::reading;
 use reader::Reader;
 use second::area;
 use second::heights;
 use second::tally::Tally;
-use wavelet::limits;
 use writer::Writer;
 
 fn writer_answer(width: usize, levels: usize, store: &mut [i32]) -> u8 {
@@ -108,14 +107,12 @@ fn coefficient(t: Tally, band: usize, v: i32, expected: u8) -> Tally {
     t.more(2, area::sum(differ(a, expected), differ(b, expected)))
 }
 
-// The range of a level-1 coefficient.
-const RANGE: i32 = 4 * limits::MAX_SAMPLE;
-
+// "Level-1 coefficient 262,140 passes question 7, 262,141 does not."
 fn either_side(t: Tally, band: usize) -> Tally {
-    let a = coefficient(t, band, RANGE, 14);
-    let b = coefficient(a, band, RANGE + 1, 7);
-    let c = coefficient(b, band, -RANGE, 14);
-    coefficient(c, band, -RANGE - 1, 7)
+    let a = coefficient(t, band, 262140, 14);
+    let b = coefficient(a, band, 262141, 7);
+    let c = coefficient(b, band, -262140, 14);
+    coefficient(c, band, -262141, 7)
 }
 
 // Just inside its range a coefficient passes question 7; no map has it, so the answer is 14.
@@ -126,17 +123,17 @@ fn coefficients(t: Tally) -> Tally {
     either_side(c, 3)
 }
 
-// W on either side of its limits.
+// "W 2,049 passes, 2,050 gives 2; W 0 gives 2."
 fn widths(t: Tally) -> Tally {
-    let a = size(t, limits::MAX_WIDTH, limits::MAX_LEVELS, 0);
-    let b = size(a, limits::MAX_WIDTH + 1, limits::MAX_LEVELS, 2);
-    size(b, 0, limits::MAX_LEVELS, 2)
+    let a = size(t, 2049, 5, 0);
+    let b = size(a, 2050, 5, 2);
+    size(b, 0, 5, 2)
 }
 
-// L on either side of its limit.
+// "L 5 passes, 6 gives 4."
 fn levels(t: Tally) -> Tally {
-    let a = size(t, 1, limits::MAX_LEVELS, 0);
-    size(a, 1, limits::MAX_LEVELS + 1, 4)
+    let a = size(t, 1, 5, 0);
+    size(a, 1, 6, 4)
 }
 
 pub fn run() -> Tally {

@@ -1,2 +1,3 @@
 pub mod FigureLaws
 pub mod RangeLaws
+pub mod PlainFigures

@@ -8,6 +8,7 @@ pub mod WalkLaws
 pub mod EnterLaws
 pub mod StepLaws
 pub mod QuestionLaws
+pub mod SetUpPasses
 pub mod Holds
 pub mod CallLaws
 pub mod CallViews

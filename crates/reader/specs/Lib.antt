@@ -10,3 +10,4 @@ pub mod Holds
 pub mod Demand3
 pub mod Past
 pub mod Played
+pub mod Plain

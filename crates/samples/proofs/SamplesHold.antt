@@ -38,7 +38,9 @@ samples-hold =
     (also (holds-map refl)
     (also (holds-answer refl)
     (also (holds-answer refl)
-    none))))))))))
+    (also (holds-answer refl)
+    (also (holds-answer refl)
+    none))))))))))))
 
 pub odd-samples-hold : AllHold 0 oddTable
 unfolding values listed lineForward lowAt highAt before after half place mirror predicted updated count planeOf planeCell inCorner flat cells subband
@@ -53,9 +55,10 @@ odd-samples-hold =
     (also (holds-answer refl)
     (also (holds-answer refl)
     (also (holds-answer refl)
+    (also (holds-answer refl)
     (also (holds-order refl)
     (also (holds-wants refl)
-    none)))))))
+    none))))))))
 
 pub second-samples-hold : AllHold 1 secondTable
 unfolding values listed lineForward lowAt highAt before after half place mirror predicted updated count planeOf planeCell inCorner flat cells subband
@@ -77,6 +80,7 @@ second-samples-hold =
     (also (holds-answer refl)
     (also (holds-answer refl)
     (also (holds-answer refl)
+    (also (holds-answer refl)
     (also (holds-order refl)
     (also (holds-wants refl)
-    none))))))))))))
+    none)))))))))))))

@@ -86,6 +86,9 @@ table =
     ∷ map 5 (zeroed 1) (zeroed 1) (pos 65535 ∷ []) (pos 65535 ∷ [])
     ∷ answer 5 (zeroed 1) (zeroed 1) (pos 65535 ∷ []) 0
     ∷ answer 5 (zeroed 1) (zeroed 1) (pos 65536 ∷ []) 14
+    -- "Level-1 coefficient 262,140 passes question 7, 262,141 does not.": as LL it is no map's, as the only value, at odd coordinates, it is one's (oddTable)
+    ∷ answer 1 (zeroed 1) (zeroed 2) (pos 262140 ∷ pos 0 ∷ []) 14
+    ∷ answer 1 (zeroed 1) (zeroed 2) (pos 262141 ∷ pos 0 ∷ []) 7
     ∷ []
 
 -- samples of document 02, Q-3
@@ -97,6 +100,7 @@ oddTable =
     ∷ line 1 (pos 5 ∷ []) [] (pos 10 ∷ [])
     ∷ map 1 (side 1 1) (side 1 1) (pos 65535 ∷ []) (pos 262140 ∷ [])
     ∷ answer 1 (side 1 1) (side 1 1) (pos 262140 ∷ []) 0
+    ∷ answer 1 (side 1 1) (side 1 1) (pos 262141 ∷ []) 7
     -- halved once along the row, 2 is odd along the column
     ∷ answer 1 (side 1 1) (side 1 1) (pos 2 ∷ []) 14
     -- LH 8 and HH 6 are even, what the row is lifted back to is not
@@ -131,6 +135,7 @@ secondTable =
     -- LL row 1 is in level 1's range, height row 2 is not a height
     ∷ answer 1 (zeroed 1) (zeroed 7) (pos 0 ∷ pos 70000 ∷ pos 0 ∷ pos 0 ∷ pos 0 ∷ pos 0 ∷ pos 0 ∷ []) 14
     -- "±65,535 × 6^k": 393,210 at level 1
+    ∷ answer 1 (zeroed 1) (zeroed 2) (pos 393210 ∷ pos 0 ∷ []) 14
     ∷ answer 1 (zeroed 1) (zeroed 2) (pos 393211 ∷ pos 0 ∷ []) 7
     -- 2 columns, 12 rows, L = 2: set n comes with row 2n + 4; at the finish the sets left in order, each with all that it makes below before the next
     ∷ order 2 (zeroed 2) (zeroed 12)

@@ -1,5 +1,6 @@
 pub mod LimitLaws
 pub mod QuestionLaws
+pub mod AskLaws
 pub mod GridLaws
 pub mod SideLaws
 pub mod SideTurns
@@ -14,6 +15,7 @@ pub mod BandPlaces
 pub mod PlaneLayout
 pub mod PlanePlaces
 pub mod ViewLaws
+pub mod ViewAsks
 pub mod ViewTheory
 pub mod OrderLaws
 pub mod Weights

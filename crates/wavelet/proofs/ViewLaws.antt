@@ -17,12 +17,10 @@ use Rattle.lifting.specs.Grid.{Side, count}
 use Rattle.wavelet.specs.Limits.{maxWidth, maxHeight}
 use Rattle.wavelet.specs.Bands.{Band, LL, HL, LH, HH, code, across, down}
 use Rattle.wavelet.specs.Levels.{sideAt}
-use Rattle.wavelet.specs.View.{bandRows, bandColumns, bandStart}
+use Rattle.wavelet.specs.View.{bandRows, bandColumns, bandStart, Kept}
 use Rattle.wavelet.specs.Questions.{ask, within, sizeQuestion, Sized}
 use Rattle.wavelet.specs.ViewCall.{named, keptAt, bandRowExists, viewQuestion, viewStart, viewLength, viewRow, viewPlace}
-use Rattle.wavelet.specs.Span.{keptSpan, stretchOf, spanOf}
-use Rattle.wavelet.specs.declared.view.Span.{Span}
-use Rattle.wavelet.specs.declared.view.Span.the-variants.{At, Refused}
+use Rattle.wavelet.specs.Span.{Answer, gives, refused, keptSpan, stretchOf, spanOf}
 use Rattle.wavelet.proofs.SideLaws.{size-le, length-back, count-le, count-sum}
 use Rattle.wavelet.proofs.LimitLaws.{width-small, height-small}
 use Rattle.wavelet.proofs.QuestionLaws.{within-true, sized, size-no, size-yes}
@@ -63,14 +61,6 @@ named-true c f e = go (eqb c 0) (eqb c 1) (eqb c 2) (eqb c 3) refl refl refl ref
     go false false false false e0 e1 e2 e3 h = let z : _≡_ {A = ℕ} 0 1 = cc in absurd (omega arith)
 
 -- ---- question 6
--- row r of band b of level k, kept at L levels
-pub record Kept (W H : Side) (L k : ℕ) (b : Band) (r : ℕ) : Type 0 where
-  pub deep : 1 ≤ k
-  pub most : k ≤ L
-  pub last : b ≡ LL → k ≡ L
-  pub columns : 0 < bandColumns W k b
-  pub row : r < bandRows H k b
-
 kept-last : (L k : ℕ) (b : Band) → keptAt L k b ≡ true → b ≡ LL → k ≡ L
 unfolding keptAt
 kept-last L k LL e d = eqb-true k L e
@@ -124,13 +114,13 @@ module _ (W H : Side) (L k : ℕ) (b : Band) (r : ℕ) where
   unfolding bandRowExists
   exists-is e d = rw (e, d)
 
-  stretch-at : stretchOf W H L k (code b) r ≡ pick (bandRowExists W H L k b r) (At (bandStart W H k b r) (bandColumns W k b)) (Refused 6)
+  stretch-at : stretchOf W H L k (code b) r ≡ pick (bandRowExists W H L k b r) (gives (bandStart W H k b r) (bandColumns W k b)) (refused 6)
   unfolding stretchOf viewStart viewLength
   stretch-at = rw (named-at b (λ a. bandRowExists W H L k a r) false, named-at b (λ a. bandStart W H k a r) 0, named-at b (bandColumns W k) 0)
 
   kept-is : within 1 L k ≡ true → keptAt L k b ≡ true →
-      keptSpan r (bandRows H k b) (bandStart W H k b r) (bandColumns W k b) ≡ pick (bandRowExists W H L k b r) (At (bandStart W H k b r) (bandColumns W k b))
-      (Refused 6)
+      keptSpan r (bandRows H k b) (bandStart W H k b r) (bandColumns W k b) ≡ pick (bandRowExists W H L k b r) (gives (bandStart W H k b r) (bandColumns W k b))
+      (refused 6)
   unfolding keptSpan
   kept-is e d = rw (exists-is e d)
 
@@ -188,25 +178,25 @@ module _ (W H : Side) (L k c r w h low top : ℕ) (ew : w ≡ sideAt (k - 1) W .
 
 -- where no band's row exists
 module _ (W H : Side) (L k c r : ℕ) where
-  refused : named c (λ b. bandRowExists W H L k b r) false ≡ false → Refused 6 ≡ stretchOf W H L k c r
+  no-row : named c (λ b. bandRowExists W H L k b r) false ≡ false → refused 6 ≡ stretchOf W H L k c r
   unfolding stretchOf
-  refused e = ap (λ (t : Bool). pick t (At (viewStart W H k c r) (viewLength W k c)) (Refused 6)) (sym e)
+  no-row e = ap (λ (t : Bool). pick t (gives (viewStart W H k c r) (viewLength W k c)) (refused 6)) (sym e)
 
-  pub refused-level : within 1 L k ≡ false → Refused 6 ≡ stretchOf W H L k c r
-  refused-level h = refused (named-none c (λ b. bandRowExists W H L k b r) λ b. not-level W H L k b r h)
+  pub refused-level : within 1 L k ≡ false → refused 6 ≡ stretchOf W H L k c r
+  refused-level h = no-row (named-none c (λ b. bandRowExists W H L k b r) λ b. not-level W H L k b r h)
 
-  pub refused-row : H .length ≤ r → Refused 6 ≡ stretchOf W H L k c r
-  refused-row h = refused (named-none c (λ b. bandRowExists W H L k b r) λ b. not-row W H L k b r h)
+  pub refused-row : H .length ≤ r → refused 6 ≡ stretchOf W H L k c r
+  refused-row h = no-row (named-none c (λ b. bandRowExists W H L k b r) λ b. not-row W H L k b r h)
 
-  pub refused-last : c ≡ code LL → k < L → Refused 6 ≡ stretchOf W H L k c r
+  pub refused-last : c ≡ code LL → k < L → refused 6 ≡ stretchOf W H L k c r
   refused-last e h =
-      refused
+      no-row
       (ap (λ (x : ℕ). named x (λ b. bandRowExists W H L k b r) false) e
       ∙ named-at LL (λ b. bandRowExists W H L k b r) false
       ∙ not-last W H L k LL r refl h)
 
-  pub refused-code : (c ≡ 0 → ⊥) → (c ≡ 1 → ⊥) → (c ≡ 2 → ⊥) → (c ≡ 3 → ⊥) → Refused 6 ≡ stretchOf W H L k c r
-  refused-code n0 n1 n2 n3 = refused (named-other c (λ b. bandRowExists W H L k b r) n0 n1 n2 n3)
+  pub refused-code : (c ≡ 0 → ⊥) → (c ≡ 1 → ⊥) → (c ≡ 2 → ⊥) → (c ≡ 3 → ⊥) → refused 6 ≡ stretchOf W H L k c r
+  refused-code n0 n1 n2 n3 = no-row (named-other c (λ b. bandRowExists W H L k b r) n0 n1 n2 n3)
 
 -- ---- the questions in their order
 module _ (n : ℕ) (W H : Side) (L k c r : ℕ) where
@@ -228,18 +218,18 @@ module _ (n : ℕ) (W H : Side) (L k c r : ℕ) where
   question-row h g = question-more h ∙ ap (λ (t : Bool). ask t 5 (ask exists 6 0)) (le-leb (W .length * H .length) n g)
 
   -- the span that they leave
-  abbrev place : Span
-  place = At (viewStart W H k c r) (viewLength W k c)
+  abbrev place : Answer
+  place = gives (viewStart W H k c r) (viewLength W k c)
 
-  pub span-no : (q : ℕ) → viewQuestion n W H L k c r ≡ q → (q ≡ 0 → ⊥) → Refused q ≡ spanOf n W H L k c r
+  pub span-no : (q : ℕ) → viewQuestion n W H L k c r ≡ q → (q ≡ 0 → ⊥) → refused q ≡ spanOf n W H L k c r
   unfolding spanOf
-  span-no q e h = sym (ap (λ (x : ℕ). pick (eqb x 0) place (Refused x)) e ∙ ap (λ (t : Bool). pick t place (Refused q)) (ne-eqb q 0 h))
+  span-no q e h = sym (ap (λ (x : ℕ). pick (eqb x 0) place (refused x)) e ∙ ap (λ (t : Bool). pick t place (refused q)) (ne-eqb q 0 h))
 
   pub span-stretch : sizeQuestion (W .length) (H .length) L ≡ 0 → W .length * H .length ≤ n → stretchOf W H L k c r ≡ spanOf n W H L k c r
   unfolding spanOf stretchOf
-  span-stretch h g = go exists ∙ ap (λ (x : ℕ). pick (eqb x 0) place (Refused x)) (sym (question-row h g))
+  span-stretch h g = go exists ∙ ap (λ (x : ℕ). pick (eqb x 0) place (refused x)) (sym (question-row h g))
     where
-      go : (t : Bool) → pick t place (Refused 6) ≡ pick (eqb (ask t 6 0) 0) place (Refused (ask t 6 0))
+      go : (t : Bool) → pick t place (refused 6) ≡ pick (eqb (ask t 6 0) 0) place (refused (ask t 6 0))
       go true = refl
       go false = refl
 
@@ -249,19 +239,19 @@ module _ (n : ℕ) (W H : Side) (L k c r : ℕ) where
     pub starts : viewStart W H k c r ≡ a
     pub counts : viewLength W k c ≡ m
 
-  pub span-at : (a m : ℕ) → spanOf n W H L k c r ≡ At a m → Located a m
+  pub span-at : (a m : ℕ) → spanOf n W H L k c r ≡ gives a m → Located a m
   unfolding spanOf
   span-at a m e = go (eqb (viewQuestion n W H L k c r) 0) refl e
     where
-      go : (t : Bool) → eqb (viewQuestion n W H L k c r) 0 ≡ t → pick t place (Refused (viewQuestion n W H L k c r)) ≡ At a m → Located a m
+      go : (t : Bool) → eqb (viewQuestion n W H L k c r) 0 ≡ t → pick t place (refused (viewQuestion n W H L k c r)) ≡ gives a m → Located a m
       go true d h = record { passes = eqb-true (viewQuestion n W H L k c r) 0 d; starts = cc; counts = cc }
       go false d h = let z : _≡_ {A = ℕ} 0 1 = cc in absurd (omega arith)
 
-  pub span-refused : (q : ℕ) → spanOf n W H L k c r ≡ Refused q → (viewQuestion n W H L k c r ≡ q) × (eqb (viewQuestion n W H L k c r) 0 ≡ false)
+  pub span-refused : (q : ℕ) → spanOf n W H L k c r ≡ refused q → (viewQuestion n W H L k c r ≡ q) × (eqb (viewQuestion n W H L k c r) 0 ≡ false)
   unfolding spanOf
   span-refused q e = go (eqb (viewQuestion n W H L k c r) 0) refl e
     where
-      go : (t : Bool) → eqb (viewQuestion n W H L k c r) 0 ≡ t → pick t place (Refused (viewQuestion n W H L k c r)) ≡ Refused q
+      go : (t : Bool) → eqb (viewQuestion n W H L k c r) 0 ≡ t → pick t place (refused (viewQuestion n W H L k c r)) ≡ refused q
           → (viewQuestion n W H L k c r ≡ q) × (eqb (viewQuestion n W H L k c r) 0 ≡ false)
       go true d h = let z : _≡_ {A = ℕ} 0 1 = cc in absurd (omega arith)
       go false d h = (cc, d)
@@ -310,28 +300,28 @@ module _ (n : ℕ) (W H : Side) (L k c r : ℕ) (v : Viewed n W H L k c r) where
 
 -- ---- the two calls
 module _ (plane : List ℤ) (W H : Side) (L k c r : ℕ) where
-  pub located-in : (a m : ℕ) → spanOf (length plane) W H L k c r ≡ At a m → a + m ≤ length plane
+  pub located-in : (a m : ℕ) → spanOf (length plane) W H L k c r ≡ gives a m → a + m ≤ length plane
   located-in a m e =
       let l = span-at (length plane) W H L k c r a m e in
       omega (arith, view-in (length plane) W H L k c r (viewed (length plane) W H L k c r (l .passes)))
 
-  pub row-at : (a m : ℕ) → spanOf (length plane) W H L k c r ≡ At a m → take (a + m - a) (drop a plane) ≡ viewRow plane W H L k c r
+  pub row-at : (a m : ℕ) → spanOf (length plane) W H L k c r ≡ gives a m → take (a + m - a) (drop a plane) ≡ viewRow plane W H L k c r
   unfolding viewRow
   row-at a m e =
       let l = span-at (length plane) W H L k c r a m e in
       let i : a + m - a ≡ m = omega arith in
       rw (i, eq-eqb _ _ (l .passes), l .starts, l .counts)
 
-  pub place-at : (a m : ℕ) → spanOf (length plane) W H L k c r ≡ At a m → a ≡ viewPlace (length plane) W H L k c r
+  pub place-at : (a m : ℕ) → spanOf (length plane) W H L k c r ≡ gives a m → a ≡ viewPlace (length plane) W H L k c r
   unfolding viewPlace
   place-at a m e =
       let l = span-at (length plane) W H L k c r a m e in
       rw (eq-eqb _ _ (l .passes)) (sym (l .starts))
 
-  pub place-none : (q : ℕ) → spanOf (length plane) W H L k c r ≡ Refused q → 0 ≡ viewPlace (length plane) W H L k c r
+  pub place-none : (q : ℕ) → spanOf (length plane) W H L k c r ≡ refused q → 0 ≡ viewPlace (length plane) W H L k c r
   unfolding viewPlace
   place-none q e = rw (span-refused (length plane) W H L k c r q e .1)
 
-  pub row-none : (q : ℕ) → spanOf (length plane) W H L k c r ≡ Refused q → [] ≡ viewRow plane W H L k c r
+  pub row-none : (q : ℕ) → spanOf (length plane) W H L k c r ≡ refused q → [] ≡ viewRow plane W H L k c r
   unfolding viewRow
   row-none q e = rw (span-refused (length plane) W H L k c r q e .1)

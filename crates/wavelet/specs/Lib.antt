@@ -8,6 +8,7 @@ pub mod View
 pub mod ViewCall
 pub mod Span
 pub mod Store
+pub mod Asks
 pub mod Shape
 pub mod Order
 pub mod Steps

@@ -10,7 +10,7 @@ ghost use Rattle.wavelet.specs.Limits.{maxWidth, maxHeight, maxLevels};
 ghost use Rattle.wavelet.specs.Levels.{sideAt};
 ghost use Rattle.wavelet.specs.Shape.{columns, rows};
 ghost use Rattle.wavelet.specs.ViewCall.{viewQuestion, viewRow, viewPlace, addressOf};
-ghost use Rattle.wavelet.specs.Span.{keptSpan, stretchOf, spanOf};
+ghost use Rattle.wavelet.specs.Span.{ofSpan, keptSpan, stretchOf, spanOf};
 
 // Where a band row stands in its plane: start and length, or the number of the question that turned it away.
 pub enum Span {
@@ -20,7 +20,7 @@ pub enum Span {
 
 // A row of a band that has `rows` rows, each of `length` numbers.
 fn keep(row: usize, rows: usize, start: usize, length: usize) -> Span
-    ensures { λ r. ⌜ r ≡ keptSpan row rows start length ⌝ }
+    ensures { λ r. ⌜ ofSpan r ≡ keptSpan row rows start length ⌝ }
 {
     if 0 < length {
         if row < rows {
@@ -42,7 +42,7 @@ fn size_within(level: usize, start: usize, n: usize) -> usize
 // Question 6, and the stretch: of a plane within the limits.
 fn stretch(shape: Shape, level: usize, band: usize, row: usize) -> Span
     requires { ⌜ (shape .width ≤ maxWidth) × (shape .height ≤ maxHeight) × (shape .levels ≤ maxLevels) ⌝ }
-    ensures { λ r. ⌜ r ≡ stretchOf (columns shape) (rows shape) (shape .levels) level band row ⌝ }
+    ensures { λ r. ⌜ ofSpan r ≡ stretchOf (columns shape) (rows shape) (shape .levels) level band row ⌝ }
 {
     let width = shape.width;
     let height = shape.height;
@@ -75,7 +75,7 @@ fn stretch(shape: Shape, level: usize, band: usize, row: usize) -> Span
 
 // Where the named band row stands in a plane of `length` numbers. The questions are 2, 3, 4, 5 and 6.
 pub fn locate(length: usize, shape: Shape, level: usize, band: usize, row: usize) -> Span
-    ensures { λ r. ⌜ r ≡ spanOf length (columns shape) (rows shape) (shape .levels) level band row ⌝ }
+    ensures { λ r. ⌜ ofSpan r ≡ spanOf length (columns shape) (rows shape) (shape .levels) level band row ⌝ }
 {
     let no = limits::size_question(shape.width, shape.height, shape.levels);
     if no != 0 {

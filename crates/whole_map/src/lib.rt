@@ -22,17 +22,13 @@ pub fn forward(heights: &[u16], shape: Shape, plane: &mut [i32], work: &mut [i32
         (at (now (plane .entry))) ⌝ }
     ensures { λ r. ⌜ at (now (work .exit)) ≡ passed r (shape .width * shape .height) zeros (at (now (work .entry))) ⌝ }
 {
-    map_levels::lift_map(
-        heights,
-        shape.x as usize,
-        shape.width,
-        shape.y as usize,
-        shape.height,
-        shape.levels,
-        plane,
-        work,
-        shape.filter as usize,
-    )
+    let x = shape.x as usize;
+    let width = shape.width;
+    let y = shape.y as usize;
+    let height = shape.height;
+    let levels = shape.levels;
+    let filter = shape.filter as usize;
+    map_levels::lift_map(heights, x, width, y, height, levels, plane, work, filter)
 }
 
 // The map that has a plane, by the filter of its shape. It answers 0, or the number of the question that turned it away: 7 or 14 where no map has it.

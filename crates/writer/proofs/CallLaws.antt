@@ -13,7 +13,7 @@ use Rattle.wavelet.specs.Limits.{maxWidth, maxHeight}
 use Rattle.wavelet.proofs.LimitLaws.{width-small, height-small}
 use Rattle.wavelet.specs.Questions.{ask, within}
 use Rattle.lifting.specs.Grid.{Side}
-use Rattle.nine_seven.specs.Filters.{filterOf, isFilter}
+use Rattle.nine_seven.specs.Filters.{filterOf}
 use Rattle.figures.specs.Figures.{storeBy, streamable}
 use Rattle.calls.specs.Lists.{gives, refused, unless, changedUnless}
 use Rattle.calls.proofs.QuestionLaws.{asked-yes, not-yes}
@@ -25,13 +25,13 @@ use Rattle.writer.specs.declared.draws.Spot.{Spot}
 use Rattle.writer.specs.Closing.{Shut, shut}
 use Rattle.progress.specs.Counts.{startOf}
 use Rattle.writer.specs.Taking.{kind, columnsOf, takes}
-use Rattle.writer.specs.Questions.{either, inRanges, longEnough, waitingRow, setUpQuestion, offerQuestion, drawQuestion, finishQuestion}
+use Rattle.writer.specs.Questions.{either, inRanges, longEnough, waitingRow, known, setUpQuestion, offerQuestion, drawQuestion, finishQuestion}
 use Rattle.writer.specs.Gate.{stateQuestion}
 use Rattle.writer.specs.Answers.{Handed, aRow, nothing}
 use Rattle.writer.specs.Calls.{fresh, setUpReply, setUpStore, waits, closing, finishReply, finishStore, resumed, pulled, afterDraw, bandRow, handed}
 use Rattle.writer.specs.Calls.{handedStore, handedArea, drawReply, drawStore, drawArea}
 use Rattle.writer.specs.Steps.{Room, Left, Walk, Found, Closed, Drawable, Drew}
-use Rattle.writer.proofs.GateLaws.{Sound, sound, state-no, state-yes}
+use Rattle.writer.proofs.GateLaws.{known-filter, Sound, sound, state-no, state-yes}
 use Rattle.level.specs.Level.{Memory, rest}
 
 -- ---- by the number of the question
@@ -56,9 +56,9 @@ pub set-up-passed : (f : ℕ) (W : Side) (L n : ℕ) → setUpQuestion f W L n �
 unfolding setUpQuestion streamable
 set-up-passed f W L n e =
     let a = asked-yes (within 1 maxWidth (W .length)) _ _ e in
-    let k = asked-yes (isFilter f) _ _ (a .1) in
+    let k = asked-yes (known f) _ _ (a .1) in
     let b = asked-yes (within 1 (filterOf f .levels) L) _ _ (k .1) in
-    (simp (a .0, k .0, b .0), leb-true (storeBy f W L) n (asked-yes _ _ _ (b .1) .0))
+    (simp (a .0, known-filter f (k .0), b .0), leb-true (storeBy f W L) n (asked-yes _ _ _ (b .1) .0))
 
 pub record Fits (f : ℕ) (W : Side) (L n k : ℕ) : Type 0 where
   pub needed : k ≡ storeBy f W L

@@ -18,7 +18,7 @@ use Rattle.figures.proofs.FigureLaws.{streams, levels-most}
 use Rattle.writer.specs.declared.Writer.{Writer}
 use Rattle.progress.specs.Counts.{mostLeft, startOf}
 use Rattle.writer.specs.Taking.{columnsOf}
-use Rattle.writer.specs.Questions.{either, onGrid, inRanges, longEnough, offerQuestion, finishQuestion}
+use Rattle.writer.specs.Questions.{either, onGrid, inRanges, longEnough, known, offerQuestion, finishQuestion}
 use Rattle.writer.specs.Gate.{stateQuestion, openQuestion}
 use Rattle.progress.proofs.CountLaws.{start-first, start-more}
 
@@ -41,6 +41,11 @@ module _ (p q : ℕ) where
   asked-all true true h = (refl, refl)
   asked-all true false h = absurd (omega arith)
   asked-all false b h = absurd (omega arith)
+
+-- ---- question 18 of a set-up lets no other number through than question 1's
+pub known-filter : (f : ℕ) → known f ≡ true → isFilter f ≡ true
+unfolding isFilter
+known-filter f e = le-leb f 1 (omega (arith, leb-true, eqb-true))
 
 -- ---- question 1, the tests of sizes and counts passed: what waits is left
 pub ranges-last : (s : Writer) → onGrid (s .x) (s .y) ≡ true → streamable (s .filter) (columnsOf s) (s .levels) ≡ true →

@@ -13,6 +13,7 @@ pub mod CascadeLaws
 pub mod DrawLaws
 pub mod ClosingLaws
 pub mod GateLaws
+pub mod SetUpPasses
 pub mod CallLaws
 pub mod Surplus
 pub mod OfferLaws

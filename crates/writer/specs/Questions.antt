@@ -40,11 +40,15 @@ longEnough n s = leb (storeBy (s .filter) (columnsOf s) (s .levels)) n
 abbrev pub waitingRow : Writer → Waiting
 waitingRow s = waiting (kind s) (s .levels) (columnsOf s) (s .y) (s .closed) (s .level) (s .left) (s .rows)
 
+-- question 18 of a set-up
+abbrev pub known : ℕ → Bool
+known f = isFilter f
+
 -- of the filter of number f, the columns W and L levels. Document 02, Q-8: "Refused: 18, before 4, if the filter is unknown."
 unfoldable pub setUpQuestion : ℕ → Side → ℕ → ℕ → ℕ
 setUpQuestion f W L n =
     ask (within 1 maxWidth (W .length)) 2
-    (ask (isFilter f) 18
+    (ask (known f) 18
     (ask (within 1 (filterOf f .levels) L) 4
     (ask (leb (storeBy f W L) n) 5
     0)))

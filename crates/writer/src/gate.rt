@@ -12,7 +12,7 @@ ghost use Rattle.lifting.specs.Grid.{side};
 ghost use Rattle.figures.specs.Figures.{streamable};
 ghost use Rattle.progress.specs.Counts.{mostLeft, startOf};
 ghost use Rattle.writer.specs.Taking.{columnsOf};
-ghost use Rattle.writer.specs.Questions.{onGrid, inRanges, setUpQuestion, offerQuestion, finishQuestion};
+ghost use Rattle.writer.specs.Questions.{onGrid, inRanges, known, setUpQuestion, offerQuestion, finishQuestion};
 ghost use Rattle.writer.specs.Gate.{stateQuestion, openQuestion};
 
 // Does the stretch of level v begin at place o? The stretches before it are taken off: added up first, they would cost the short calls more.
@@ -132,6 +132,13 @@ fn open_question(s: Writer) -> u8
     0
 }
 
+// Question 18 of a set-up.
+fn is_filter(filter: usize) -> bool
+    ensures { λ r. ⌜ r ≡ known filter ⌝ }
+{
+    figures::is_filter(filter)
+}
+
 // Of columns from x on.
 pub fn set_up_question(filter: usize, width: usize, x: usize, levels: usize, n: usize) -> u8
     ensures { λ r. ⌜ r ≡ setUpQuestion filter (side x width) levels n ⌝ }
@@ -139,7 +146,7 @@ pub fn set_up_question(filter: usize, width: usize, x: usize, levels: usize, n: 
     if !limits::is_within(width, Writer::MAX_WIDTH) {
         return 2;
     }
-    if !figures::is_filter(filter) {
+    if !is_filter(filter) {
         return 18;
     }
     if !limits::is_within(levels, Writer::most_levels(filter)) {

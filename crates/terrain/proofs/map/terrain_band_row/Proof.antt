@@ -5,6 +5,7 @@ use Prim.Native.Nat.{ℕ}
 use lib.Dec.{eqb}
 use borrow.Author.Needs.{needs}
 use Rattle.wavelet.specs.Shape.{columns, rows}
+use Rattle.wavelet.specs.Span.{ofSpan}
 use Rattle.wavelet.proofs.ViewLaws.{span-at, span-refused}
 use Rattle.terrain.proofs.CallLaws.{pick-no}
 use Rattle.terrain.proofs.map.terrain_band_row.Statement.{statement}
@@ -28,7 +29,7 @@ returns c =
     let a = l .before .args in
     let e = c .before .first .given in
     let s = span-at (a .len) (columns (a .shape)) (rows (a .shape)) (a .shape .levels) (a .level) (a .band) (a .row) (e .0 .0) (e .0 .1 .0)
-    (sym (l .locate .ensures) ∙ e .1) in
+    (sym (l .locate .ensures) ∙ ap ofSpan (e .1)) in
     (sym (s .passes), (sym (s .starts), sym (s .counts)))
 
 returns-2 : tie.Need-returns-2
@@ -37,7 +38,7 @@ returns-2 c =
     let a = l .before .args in
     let e = c .before .no .given in
     let s = span-refused (a .len) (columns (a .shape)) (rows (a .shape)) (a .shape .levels) (a .level) (a .band) (a .row) (e .0 .0)
-    (sym (l .locate .ensures) ∙ e .1) in
+    (sym (l .locate .ensures) ∙ ap ofSpan (e .1)) in
     let n : eqb (e .0 .0) 0 ≡ false = ap (λ (q : ℕ). eqb q 0) (sym (s .0)) ∙ s .1 in
     (sym (s .0), (sym (pick-no (eqb (e .0 .0) 0) _ _ n), sym (pick-no (eqb (e .0 .0) 0) _ _ n)))
 

@@ -4,6 +4,7 @@ use native.Mathlib.Omega.{arith}
 use borrow.Author.Needs.{needs}
 use Rattle.wavelet.specs.ViewCall.{addressOf}
 use Rattle.wavelet.specs.Shape.{columns, rows}
+use Rattle.wavelet.specs.Span.{ofSpan}
 use Rattle.wavelet.proofs.ViewLaws.{located-in, row-at, row-none, place-at, place-none}
 use Rattle.wavelet.proofs.view.band_row.Statement.{statement}
 use Rattle.wavelet.proofs.view.band_row.Tie as tie
@@ -22,7 +23,7 @@ add-result c =
     let W = columns (a .shape) in
     let H = rows (a .shape) in
     let p = located-in (a .plane .now) W H (a .shape .levels) (a .level) (a .band) (a .row) (s .0 .0) (s .0 .1 .0)
-    (sym (l .locate .ensures) ∙ s .1) in
+    (sym (l .locate .ensures) ∙ ap ofSpan (s .1)) in
     omega arith
 
 mul-result : tie.Need-mul-result
@@ -33,7 +34,7 @@ mul-result c =
     let W = columns (a .shape) in
     let H = rows (a .shape) in
     let p = located-in (a .plane .now) W H (a .shape .levels) (a .level) (a .band) (a .row) (s .0 .0) (s .0 .1 .0)
-    (sym (l .locate .ensures) ∙ s .1) in
+    (sym (l .locate .ensures) ∙ ap ofSpan (s .1)) in
     omega arith
 
 sub-result : tie.Need-sub-result
@@ -49,7 +50,7 @@ part-result-end c =
     let a = l .before .args in
     let W = columns (a .shape) in
     let H = rows (a .shape) in
-    located-in (a .plane .now) W H (a .shape .levels) (a .level) (a .band) (a .row) (s .0 .0) (s .0 .1 .0) (sym (l .locate .ensures) ∙ s .1)
+    located-in (a .plane .now) W H (a .shape .levels) (a .level) (a .band) (a .row) (s .0 .0) (s .0 .1 .0) (sym (l .locate .ensures) ∙ ap ofSpan (s .1))
 
 enum-told : tie.Need-enum-told
 enum-told c = search needs
@@ -71,7 +72,7 @@ returns c =
     let a = l .before .args in
     let W = columns (a .shape) in
     let H = rows (a .shape) in
-    let e = sym (l .locate .ensures) ∙ s .1 in (
+    let e = sym (l .locate .ensures) ∙ ap ofSpan (s .1) in (
       row-at (a .plane .now) W H (a .shape .levels) (a .level) (a .band) (a .row) (s .0 .0) (s .0 .1 .0) e,
       ap (addressOf (a .plane .ptr)) (place-at (a .plane .now) W H (a .shape .levels) (a .level) (a .band) (a .row) (s .0 .0) (s .0 .1 .0) e),
     )
@@ -84,7 +85,7 @@ returns-2 c =
     let W = columns (a .shape) in
     let H = rows (a .shape) in
     let g = c .before .enum-told .given in
-    let e = sym (l .locate .ensures) ∙ g .1 in (
+    let e = sym (l .locate .ensures) ∙ ap ofSpan (g .1) in (
       row-none (a .plane .now) W H (a .shape .levels) (a .level) (a .band) (a .row) (g .0 .0) e,
       ap (addressOf (a .plane .ptr)) (place-none (a .plane .now) W H (a .shape .levels) (a .level) (a .band) (a .row) (g .0 .0) e),
     )

@@ -1,8 +1,9 @@
 -- `view::band_row_question` meets its contract: the number in `locate`'s answer. Assumes nothing.
-use mathlib.Core.Path.{sym, _∙_}
+use mathlib.Core.Path.{sym, ap, _∙_}
 use lib.ListN.{length}
 use borrow.Author.Needs.{needs}
 use Rattle.wavelet.specs.Shape.{columns, rows}
+use Rattle.wavelet.specs.Span.{ofSpan}
 use Rattle.wavelet.proofs.ViewLaws.{span-at, span-refused}
 use Rattle.wavelet.proofs.view.band_row_question.Statement.{statement}
 use Rattle.wavelet.proofs.view.band_row_question.Tie as tie
@@ -22,14 +23,14 @@ returns c =
     let a = l .before .args in
     let e = c .enum-told .given in
     sym (span-at (length (a .plane .now)) (columns (a .shape)) (rows (a .shape)) (a .shape .levels) (a .level) (a .band) (a .row) (e .0 .0) (e .0 .1 .0)
-    (sym (l .locate .ensures) ∙ e .1) .passes)
+    (sym (l .locate .ensures) ∙ ap ofSpan (e .1)) .passes)
 
 returns-2 : tie.Need-returns-2
 returns-2 c =
     let l = c .before .before .before in
     let a = l .before .args in
     sym (span-refused (length (a .plane .now)) (columns (a .shape)) (rows (a .shape)) (a .shape .levels) (a .level) (a .band) (a .row) _
-    (sym (l .locate .ensures) ∙ c .before .no .given .1) .0)
+    (sym (l .locate .ensures) ∙ ap ofSpan (c .before .no .given .1)) .0)
 
 pub band-row-question-spec : {M : Type 1} → statement M
 band-row-question-spec =

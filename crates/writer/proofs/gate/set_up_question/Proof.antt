@@ -8,17 +8,18 @@ use Rattle.numbers.specs.Signal.{pick}
 use Rattle.lifting.specs.Grid.{Side}
 use Rattle.wavelet.specs.Limits.{maxWidth}
 use Rattle.wavelet.specs.Questions.{within}
-use Rattle.nine_seven.specs.Filters.{filterOf, isFilter}
+use Rattle.nine_seven.specs.Filters.{filterOf}
 use Rattle.figures.specs.Figures.{storeBy, streamable}
-use Rattle.writer.specs.Questions.{setUpQuestion}
+use Rattle.writer.specs.Questions.{known, setUpQuestion}
+use Rattle.writer.proofs.GateLaws.{known-filter}
 use Rattle.writer.proofs.gate.set_up_question.Statement.{statement}
 use Rattle.writer.proofs.gate.set_up_question.Tie as tie
 
-module _ (f : ℕ) (W : Side) (L n k : ℕ) (w : within 1 maxWidth (W .length) ≡ true) (i : isFilter f ≡ true) (l : within 1 (filterOf f .levels) L ≡ true)
+module _ (f : ℕ) (W : Side) (L n k : ℕ) (w : within 1 maxWidth (W .length) ≡ true) (i : known f ≡ true) (l : within 1 (filterOf f .levels) L ≡ true)
     (e : k ≡ pick (streamable f W L) (storeBy f W L) 0) where
   needed : k ≡ storeBy f W L
   unfolding streamable
-  needed = e ∙ simp (i, w, l)
+  needed = e ∙ simp (known-filter f i, w, l)
 
   short : n < k → 5 ≡ setUpQuestion f W L n
   unfolding setUpQuestion

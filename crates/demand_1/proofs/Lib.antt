@@ -1,0 +1,5 @@
+pub mod WordLaws
+pub mod Writers
+pub mod Readers
+pub mod Maps
+pub mod Lines

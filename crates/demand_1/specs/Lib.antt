@@ -1,0 +1,5 @@
+pub mod Words
+pub mod Writers
+pub mod Readers
+pub mod Maps
+pub mod Lines
