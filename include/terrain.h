@@ -148,7 +148,8 @@ uint32_t terrain_ccsds_line_backward(const int32_t *coefficients, size_t coeffic
 /* The smooth profile of one row of 1 to 2,049 heights, at the front of `out`, in the samples' own order: the 9/7 lifting of ITU-T T.800
  * without its scaling, in 32-bit floats. Four passes add c * (left + right), the bracket first, to the odd, even, odd and even samples, with
  * c = -1.586134342, -0.052980118, 0.882911075 and 0.443506852, each the nearest 32-bit float; the row is mirrored at both ends, and one
- * height alone stays as it is. Every operation rounds once and none is fused, so every machine gives the same bits.
+ * height alone stays as it is. Every operation rounds once and none is fused, so every machine gives the same bits in round-to-nearest, the
+ * mode in which a thread starts.
  * 2: the row has no height or more than 2,049; 5: `out` is shorter than the row. */
 TERRAIN_CHECKED
 uint32_t terrain_profile(const uint16_t *row, size_t row_len, float *out, size_t out_len);

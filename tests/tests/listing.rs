@@ -4,41 +4,16 @@ use std::fs::{self, File};
 use std::io::{Read, Write};
 use std::os::fd::OwnedFd;
 use std::os::unix::net::{UnixDatagram, UnixStream};
-use std::path::{Path, PathBuf};
+use std::path::Path;
 use std::process::{Child, Command, Stdio};
 use std::thread;
 use std::time::{Duration, Instant};
-use terrain_tests::built;
 use terrain_tests::listing::listing;
+use terrain_tests::programs::{self, said, Said};
 use terrain_tests::random::Random;
 
-fn program() -> PathBuf {
-    built::program("list")
-}
-
-/// What the program wrote, and what it said on standard error.
-struct Said {
-    out: Vec<u8>,
-    error: String,
-}
-
-fn said(mut child: Child) -> Said {
-    let mut error = child.stderr.take().expect("it has a standard error");
-    let telling = thread::spawn(move || {
-        let mut text = String::new();
-        error.read_to_string(&mut text).expect("the errors are read");
-        text
-    });
-    let mut out = Vec::new();
-    if let Some(mut output) = child.stdout.take() {
-        output.read_to_end(&mut out).expect("the output is read");
-    }
-    assert!(child.wait().expect("it ends").success());
-    Said { out, error: telling.join().expect("the errors are read") }
-}
-
 fn start(input: Stdio, output: Stdio) -> Child {
-    Command::new(program()).stdin(input).stdout(output).stderr(Stdio::piped()).spawn().expect("the program starts")
+    programs::start("list", input, output)
 }
 
 fn run(input: Stdio) -> Said {
@@ -296,9 +271,7 @@ fn an_output_that_is_full() {
 #[test]
 fn descriptors_that_are_closed() {
     let closed = |which: &str, name: &str| {
-        let line = format!("exec \"$0\" {which}");
-        let child = Command::new("sh").args(["-c", &line]).arg(program()).stdin(Stdio::null()).stdout(Stdio::piped()).stderr(Stdio::piped()).spawn();
-        let found = said(child.expect("the program starts"));
+        let found = programs::closed("list", which);
         assert_eq!((found.out.as_slice(), found.error), (&b""[..], format!("{name}: Bad file descriptor\n")));
     };
     closed("<&-", "standard input");

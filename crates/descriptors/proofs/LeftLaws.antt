@@ -4,16 +4,41 @@ use mathlib.Core.Bool.{Bool, true, false}
 use mathlib.Core.List.{List, [], _∷_, _++_, append-nil}
 use Prim.Native.Nat.{ℕ, zero, suc, _+_, _-_, _≤_, _<_}
 use native.Mathlib.Omega.{arith}
+use native.Mathlib.Nat.{min-le-right}
 use borrow.Author.Tests.{leb-true, le-leb, lt-leb}
+use lib.Dec.{eqb}
+use lib.IntN.{ℤ, pos, negsuc}
+use lib.Signed.{ltZ}
 use lib.ListN.{length, take, drop, length-drop}
 use lib.Seq.{drop-nil, take-nil, length-take-le}
+use Rattle.io.specs.Counts.{clamped}
 use Rattle.descriptors.specs.Left.{leftIn, Within, usedOf, readsNow, came, Fills, keeps, reads}
 use Rattle.descriptors.specs.declared.input.Left.{Left}
 use Rattle.descriptors.specs.declared.input.Filled.{Filled}
 
-pub fills-read : {w : Bool} {l : Left} {c c′ : List ℕ} {r : Filled} (n : ℕ) (f : Bool) → readsNow w l ≡ true → r ≡ came n f → n ≤ length c′
-    → (f ≡ true → n ≡ 0) → Fills w l c c′ r
-fills-read {w} {l} {c} {c′} n f e q h z = subst (λ r. Fills w l c c′ r) (sym q) (reads e refl h z)
+pub fills-read : {w : Bool} {l : Left} {c c′ : List ℕ} {r : Filled} (got : ℤ) → readsNow w l ≡ true → r ≡ came got (length c′) → Fills w l c c′ r
+fills-read {w} {l} {c} {c′} got e q = subst (λ r. Fills w l c c′ r) (sym q) (reads e refl)
+
+pub came-failed : (g z : ℤ) (n k : ℕ) → z ≡ g → k ≡ clamped z n → ltZ z (pos 0) ≡ true
+    → record { left = record { from = 0; to = k }; got = z; read = k; ended = false; failed = ltZ z (pos 0) } ≡ came g n
+came-failed g z n k e h f = rw (← e, h, f)
+
+pub came-some : (g z : ℤ) (n k : ℕ) → z ≡ g → k ≡ clamped z n → ltZ z (pos 0) ≡ false
+    → record { left = record { from = 0; to = k }; got = z; read = k; ended = eqb k 0; failed = ltZ z (pos 0) } ≡ came g n
+came-some g z n k e h f = rw (← e, h, f)
+
+-- a read answers no more than the chunk holds
+pub clamped-most : (got : ℤ) (n : ℕ) → clamped got n ≤ n
+clamped-most (pos k) n = omega (arith, min-le-right k n)
+clamped-most (negsuc k) n = omega arith
+
+-- a write of the bytes from place f on, which took k of them
+pub put-to : (z : ℤ) (f : ℕ) (l : List ℕ) (k : ℕ) → f ≤ length l → k ≡ clamped z (length (take (length l - f) (drop f l)))
+    → f + k ≡ f + clamped z (length l - f)
+put-to z f l k h e = ap (λ n. f + n) (e ∙ ap (clamped z) (length-take-le (length l - f) (drop f l) (omega (arith, length-drop f l))))
+
+pub put-most : (z : ℤ) (f n t : ℕ) → f ≤ n → t ≡ f + clamped z (n - f) → t ≤ n
+put-most z f n t h e = omega (arith, clamped-most z (n - f))
 
 -- nothing is left where the end is not after the start
 pub none-left : (c : List ℕ) (l : Left) → l .to ≤ l .from → leftIn c l ≡ []
@@ -32,12 +57,15 @@ from-start c n = let e : n - 0 ≡ n = omega arith in rw e refl
 -- what is left after a fill is what was left, and what was read
 pub fills-left : {w : Bool} {l : Left} {c c′ : List ℕ} {r : Filled} → Fills w l c c′ r → leftIn c′ (r .left) ≡ leftIn c l ++ take (r .read) c′
 fills-left {c = c} (keeps e q k) = rw (q, k) (sym (append-nil (leftIn c _)))
-fills-left {w} {l} {c} {c′} {r} (reads e q h z) = rw (ap (λ x. x .left) q) (from-start c′ (r .read))
+fills-left {w} {l} {c} {c′} {r} (reads e q) = ap (leftIn c′) (ap (λ x. x .left) q)
+    ∙ from-start c′ (clamped (r .got) (length c′))
+    ∙ ap (λ n. take n c′) (sym (ap (λ x. x .read) q))
     ∙ sym (ap (λ x. x ++ take (r .read) c′) (none-left c l (reads-none w l e)))
 
 pub fills-within : {w : Bool} {l : Left} {c c′ : List ℕ} {r : Filled} → Within c l → Fills w l c c′ r → Within c′ (r .left)
 fills-within i (keeps e q k) = rw (q, k) i
-fills-within {c′ = c′} {r = r} i (reads e q h z) = rw (ap (λ x. x .left) q) (record { start = omega arith; end = h })
+fills-within {c′ = c′} {r = r} i (reads e q) =
+    subst (Within c′) (sym (ap (λ x. x .left) q)) (record { start = omega arith; end = clamped-most (r .got) (length c′) })
 
 -- ---- some is used
 pub length-left : {c : List ℕ} {l : Left} → Within c l → length (leftIn c l) ≡ l .to - l .from

@@ -4,6 +4,9 @@ use mathlib.Core.Bool.{Bool, true, false, cond}
 use mathlib.Core.List.{List}
 use Prim.Native.Nat.{ℕ, _+_, _-_, _≤_}
 use lib.Dec.{leb, eqb}
+use lib.Signed.{ltZ}
+use lib.IntN.{ℤ, pos}
+use Rattle.io.specs.Counts.{clamped}
 use lib.ListN.{length, take, drop}
 use Rattle.descriptors.specs.declared.input.Left.{Left}
 use Rattle.descriptors.specs.declared.input.Filled.{Filled}
@@ -25,14 +28,15 @@ usedOf l n = record { from = cond (leb (l .from + n) (l .to)) (l .from + n) (l .
 unfoldable pub readsNow : Bool → Left → Bool
 readsNow w l = cond w (leb (l .to) (l .from)) false
 
--- n bytes came, or a failure: that is not the end of the input, which is no byte without a failure
-abbrev pub came : ℕ → Bool → Filled
-came n failed = record { left = record { from = 0; to = n }; read = n; ended = cond failed false (eqb n 0); failed = failed }
+-- what is so once a read of a chunk of n bytes answered `got`: so many bytes came, and none at the input's end; below 0 it failed, which is not the end
+abbrev pub came : ℤ → ℕ → Filled
+came got n =
+    record { left = record { from = 0; to = clamped got n }; got = got; read = clamped got n; ended = cond (ltZ got (pos 0)) false (eqb (clamped got n) 0); failed = ltZ got (pos 0) }
 
 abbrev pub nothingNew : Left → Filled
-nothingNew l = record { left = l; read = 0; ended = false; failed = false }
+nothingNew l = record { left = l; got = pos 0; read = 0; ended = false; failed = false }
 
 -- what a fill leaves where l was left of the chunk c; c′ stands there then
 pub data Fills (w : Bool) (l : Left) (c c′ : List ℕ) (r : Filled) : Type 0 where
   keeps : readsNow w l ≡ false → r ≡ nothingNew l → c′ ≡ c → Fills w l c c′ r
-  reads : readsNow w l ≡ true → r ≡ came (r .read) (r .failed) → r .read ≤ length c′ → (r .failed ≡ true → r .read ≡ 0) → Fills w l c c′ r
+  reads : readsNow w l ≡ true → r ≡ came (r .got) (length c′) → Fills w l c c′ r

@@ -1,8 +1,6 @@
 // An input read in chunks. What was read and is not used yet stands in the chunk, which is read anew only when nothing of it is left.
 use crate::again;
 ghost use mathlib.Core.Path.{_≡_};
-ghost use mathlib.Core.Bool.{true};
-ghost use Prim.Native.Nat.{_≤_};
 ghost use lib.ListN.{length};
 ghost use Rattle.descriptors.specs.Left.{usedOf, readsNow, came, Fills};
 
@@ -12,9 +10,11 @@ pub struct Left {
     pub to: usize,
 }
 
-// What a fill left: what is to be used now, how many bytes of it were read by this call, and whether the input has ended or has failed.
+// What a fill left: what is to be used now, what `read` answered (0 where it was not called), how many bytes were read so, and whether the input has
+// ended or has failed.
 pub struct Filled {
     pub left: Left,
+    pub got: isize,
     pub read: usize,
     pub ended: bool,
     pub failed: bool,
@@ -38,46 +38,35 @@ pub fn used(left: Left, count: usize) -> Left
     }
 }
 
+// What a call of `read` answered, and whether it is to be made again.
 struct Tried {
-    count: usize,
-    failed: bool,
+    got: isize,
     again: bool,
 }
 
-fn try_read(fd: i32, chunk: &mut [u8]) -> Tried
-    ensures { λ r. ⌜ r .count ≤ length (now (chunk .exit)) ⌝ }
-    ensures { λ r. ⌜ (r .failed ≡ true → r .count ≡ 0) ⌝ }
-{
+fn try_read(fd: i32, chunk: &mut [u8]) -> Tried {
     let got = libc::read(fd, chunk);
     if got < 0 {
         return Tried {
-            count: 0,
-            failed: true,
+            got,
             again: again::again(),
         };
     }
-    Tried {
-        count: io::count(got, chunk),
-        failed: false,
-        again: false,
-    }
+    Tried { got, again: false }
 }
 
 // A proved loop has to end, so it counts its turns down from a number that no run uses up.
-fn read_some(fd: i32, name: &[u8], chunk: &mut [u8]) -> Tried
-    ensures { λ r. ⌜ r .count ≤ length (now (chunk .exit)) ⌝ }
-    ensures { λ r. ⌜ (r .failed ≡ true → r .count ≡ 0) ⌝ }
-{
+fn read_some(fd: i32, name: &[u8], chunk: &mut [u8]) -> isize {
     let mut now = try_read(fd, chunk);
     let mut turns = u64::MAX;
     while turns > 0 && now.again {
         now = try_read(fd, chunk);
         turns -= 1;
     }
-    if now.failed {
+    if now.got < 0 {
         os::fail(name);
     }
-    now
+    now.got
 }
 
 fn reads_now(left: Left, wanted: bool) -> bool
@@ -89,11 +78,15 @@ fn reads_now(left: Left, wanted: bool) -> bool
     false
 }
 
-fn came(count: usize, failed: bool) -> Filled
-    ensures { λ r. ⌜ r ≡ came count failed ⌝ }
+// What is so once a read of the chunk answered `got`.
+fn came(got: isize, chunk: &[u8]) -> Filled
+    ensures { λ r. ⌜ r ≡ came got (length (now (chunk .entry))) ⌝ }
 {
+    let count = io::count(got, chunk);
+    let failed = got < 0;
     Filled {
         left: Left { from: 0, to: count },
+        got,
         read: count,
         ended: if failed { false } else { count == 0 },
         failed,
@@ -106,10 +99,11 @@ pub fn fill(left: Left, wanted: bool, fd: i32, name: &[u8], chunk: &mut [u8]) ->
 {
     if reads_now(left, wanted) {
         let got = read_some(fd, name, chunk);
-        return came(got.count, got.failed);
+        return came(got, chunk);
     }
     Filled {
         left,
+        got: 0,
         read: 0,
         ended: false,
         failed: false,

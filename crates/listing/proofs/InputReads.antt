@@ -15,8 +15,8 @@ use Rattle.pgm.specs.Header.{Read, found, short, wrong, andThen, is, one, Size,
 use Rattle.pgm.specs.Steps.{begun, stepOf, feed, stepped, readBy}
 use Rattle.pgm.specs.Samples.{wide, sampleSize, pairsOf, samplesOf, fitting, exceeds, heightsOf}
 use Rattle.pgm.specs.declared.header.Header.{Header}
-use Rattle.pgm.specs.declared.header.Next.{Next}
-use Rattle.pgm.specs.declared.header.Next.the-variants as next
+use Rattle.pgm.specs.NextAnswer.{NextAnswer}
+use Rattle.pgm.specs.NextAnswer as next
 use Rattle.pgm.specs.Limits.{sizeFits}
 use Rattle.pgm.specs.Heights.{heightsTaken, tooLarge, refusalIn}
 use Rattle.pgm.proofs.HeaderReads.{reads}
@@ -28,8 +28,8 @@ use Rattle.pgm.specs.InputSteps.{levelDigit, readByte, inputEnded}
 use Rattle.listing.specs.Events.{begins, height, refusal, whole, over, Reading, withEvent, heightsReading}
 use Rattle.listing.specs.Events.{nothingYet, refusedReading, headReading, readingOf, andOn, stepThen, readAll, sum}
 use Rattle.pgm.specs.declared.input.Input.{Input}
-use Rattle.pgm.specs.declared.input.Step.{Step}
-use Rattle.pgm.specs.declared.input.Step.the-variants as steps
+use Rattle.pgm.specs.StepAnswer.{StepAnswer}
+use Rattle.pgm.specs.StepAnswer as steps
 
 -- ---- nothing more is read
 after-refusal : (L : ℕ) (h : Header) (n m : ℕ) (x : Bool) (v : ℕ) (s : List ℕ) → sum (readAll (at 4 L h n m x v) s) ≡ record { events = []; ending = over }
@@ -83,7 +83,7 @@ unfolding readAll inputEnded
 too-few L h n m x v = rw (lt-ltb 0 (suc n) (omega arith))
 
 -- what the bytes s bring after a byte
-abbrev then : List ℕ → Step → Reading
+abbrev then : List ℕ → StepAnswer → Reading
 then s x = sum (stepThen (λ j. readAll j s) x)
 
 -- after the last byte of a sample
@@ -138,11 +138,11 @@ sizeReading L (found z r) = shapeReading L (z .width) (z .height) (z .largest) r
 sizeReading L short = nothingYet
 sizeReading L wrong = refusedReading
 
-stepReading : (L : ℕ) (k : Header) (x : Next) (s : List ℕ) → ((k : Header) → sum (readAll (early 2 L k) s) ≡ sizeReading L (readBy (feed k s)))
+stepReading : (L : ℕ) (k : Header) (x : NextAnswer) (s : List ℕ) → ((k : Header) → sum (readAll (early 2 L k) s) ≡ sizeReading L (readBy (feed k s)))
     → sum (stepThen (λ j. readAll j s) (nextRead (early 2 L k) x)) ≡ sizeReading L (readBy (stepped (λ y. feed y s) s x))
 stepReading L k (next.More y) s e = e y
 stepReading L k (next.Done w h m) s e = shape L k w h m s (sizeFits w h) refl
-stepReading L k next.Refused s e = refused 15 L k 0 0 false 0 s
+stepReading L k next.No15 s e = refused 15 L k 0 0 false 0 s
 
 header : (s : List ℕ) (L : ℕ) (k : Header) → sum (readAll (early 2 L k) s) ≡ sizeReading L (readBy (feed k s))
 unfolding readAll readByte headerRead inputEnded feed
@@ -181,19 +181,19 @@ read-all [] = refl
 read-all (b ∷ s) = digits b s (levelDigit maxLevels b) refl
 
 -- ---- cut anywhere
-events-step : (x : Step) (s t : List ℕ) → ((i : Input) → readAll i (s ++ t) .events ≡ readAll i s .events ++ readAll (readAll i s .input) t .events)
+events-step : (x : StepAnswer) (s t : List ℕ) → ((i : Input) → readAll i (s ++ t) .events ≡ readAll i s .events ++ readAll (readAll i s .input) t .events)
     → stepThen (λ i. readAll i (s ++ t)) x .events ≡ stepThen (λ i. readAll i s) x .events ++ readAll (stepThen (λ i. readAll i s) x .input) t .events
 events-step (steps.More i) s t e = e i
 events-step (steps.Begun i w h) s t e = ap (λ l. begins (record { width = w; height = h; levels = i .levels }) ∷ l) (e i)
 events-step (steps.Height i v) s t e = ap (λ l. height v ∷ l) (e i)
-events-step (steps.Refused i q) s t e = ap (λ l. refusal q ∷ l) (e i)
+events-step (steps.No i q) s t e = ap (λ l. refusal q ∷ l) (e i)
 
-input-step : (x : Step) (s t : List ℕ) → ((i : Input) → readAll i (s ++ t) .input ≡ readAll (readAll i s .input) t .input)
+input-step : (x : StepAnswer) (s t : List ℕ) → ((i : Input) → readAll i (s ++ t) .input ≡ readAll (readAll i s .input) t .input)
     → stepThen (λ i. readAll i (s ++ t)) x .input ≡ readAll (stepThen (λ i. readAll i s) x .input) t .input
 input-step (steps.More i) s t e = e i
 input-step (steps.Begun i w h) s t e = e i
 input-step (steps.Height i v) s t e = e i
-input-step (steps.Refused i q) s t e = e i
+input-step (steps.No i q) s t e = e i
 
 pub cut-events : (s t : List ℕ) (i : Input) → readAll i (s ++ t) .events ≡ readAll i s .events ++ readAll (readAll i s .input) t .events
 unfolding readAll

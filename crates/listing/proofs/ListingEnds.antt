@@ -20,8 +20,8 @@ use Rattle.listing.specs.States.{mapStore, State, drawState, finishState
 use Rattle.listing.specs.Moves.{lineOn, Idle}
 use Rattle.listing.specs.Events.{Event, height, refusal, Ending, whole, few, over, endingOf}
 use Rattle.pgm.specs.declared.input.Input.{Input}
-use Rattle.pgm.specs.declared.input.Ended.{Ended}
-use Rattle.pgm.specs.declared.input.Ended.the-variants as ended
+use Rattle.pgm.specs.EndedAnswer.{EndedAnswer}
+use Rattle.pgm.specs.EndedAnswer as ended
 use Rattle.pgm.proofs.InputCases.{end-over, end-early, end-few, end-whole}
 use Rattle.listing.proofs.DrawnText.{textOf}
 use Rattle.listing.proofs.EventText.{text-of}
@@ -70,7 +70,7 @@ module _ (n k : ℕ) (store : mapStore ≤ n) (row : maxPictureWidth ≤ k) (s :
   unfolding endState
   end-is = rw (le-ltb 0 (lineOn s .part) (omega arith))
 
-  by : (E : List Event) (o : List ℕ) (y : Ended) → y ≡ inputEnded i → EndOut n k E o (endTo n k s y) (endingOf y) → Ends E o
+  by : (E : List Event) (o : List ℕ) (y : EndedAnswer) → y ≡ inputEnded i → EndOut n k E o (endTo n k s y) (endingOf y) → Ends E o
   by E o y e d = subst (λ t. EndOut n k E o t (endingOf (inputEnded i))) (sym end-is) (subst (λ y. EndOut n k E o (endTo n k s y) (endingOf y)) e d)
 
   -- ---- all heights came: the finish
@@ -101,7 +101,7 @@ module _ (n k : ℕ) (store : mapStore ≤ n) (row : maxPictureWidth ≤ k) (s :
   reads-end E W H L hs o a b c e p l =
       elim (decLt 0 (i .left)) [
         | yes q ↦
-            by E o (ended.Short (phased 4 i)) (end-few i (omega arith) (omega arith) q)
+            by E o (ended.No15 (phased 4 i)) (end-few i (omega arith) (omega arith) q)
             (record {
               reached =
                   few-came (begun W H L hs 15 (ap (λ l. l ++ (refusal 15 ∷ [])) a ∙ then-refused W H L hs 15 (omega arith)) b c
@@ -125,7 +125,7 @@ module _ (n k : ℕ) (store : mapStore ≤ n) (row : maxPictureWidth ≤ k) (s :
 
   pub end-reached : {E : List Event} {o : List ℕ} → Reached n k E false o s → Ends E o
   end-reached {E} {o} (quiet a b c d e) =
-      by E o (ended.Short (phased 4 i)) (end-early i c)
+      by E o (ended.No15 (phased 4 i)) (end-early i c)
       (record {
         reached =
             few-came (refused 15 (ap (λ l. l ++ (refusal 15 ∷ [])) a) refl (omega arith) (omega arith)

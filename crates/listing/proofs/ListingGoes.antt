@@ -9,7 +9,8 @@ use Rattle.calls.specs.Lists.{All, all-none, all-more}
 use Rattle.pgm.specs.Limits.{maxPictureWidth}
 use Rattle.pgm.specs.InputSteps.{startAt}
 use Rattle.listing.specs.States.{mapStore, State, stateOf, started}
-use Rattle.listing.specs.Moves.{Move, partly, wholly, readByte, takes, Goes, stays, then}
+use Rattle.listing.specs.Moves.{Move, partly, wholly, readByte, takes, Goes}
+use Rattle.text.specs.Moves.{stays, then}
 use Rattle.listing.specs.Events.{Event, readAll}
 use Rattle.pgm.specs.declared.input.Input.{Input}
 use Rattle.listing.proofs.InputReads.{cut-events, cut-input}

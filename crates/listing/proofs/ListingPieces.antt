@@ -20,10 +20,11 @@ use Rattle.calls.specs.Lists.{All, all-none}
 use Rattle.pgm.specs.Limits.{maxPictureWidth}
 use Rattle.listing.specs.Listing.{listingOf, dueOf}
 use Rattle.listing.specs.States.{mapStore, State, stateOf, started, endState}
-use Rattle.listing.specs.Moves.{Idle, Goes, stays, Stops, full, idle}
+use Rattle.text.specs.Moves.{stays, full, idle}
+use Rattle.text.proofs.MoveLaws.{goes-on, call-wrote}
+use Rattle.listing.specs.Moves.{Idle, Goes, Stops}
 use Rattle.listing.specs.Pieces.{Piece, last, again, Pieces, none, next, pausesIn, pauses}
-use Rattle.listing.proofs.MoveLaws.{goes-on}
-use Rattle.listing.proofs.ListingTheorem.{call-wrote, moves-due, moves-whole}
+use Rattle.listing.proofs.ListingTheorem.{moves-due, moves-whole}
 
 -- ---- what a call stopped at
 module _ {s : State} {p o : List ℕ} {a b : ℕ} where

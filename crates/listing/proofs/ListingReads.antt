@@ -22,7 +22,7 @@ use Rattle.listing.specs.States.{mapStore, State, drawState, offerState,
 use Rattle.listing.specs.Moves.{Idle}
 use Rattle.listing.specs.Events.{Event, height, refusal, Progress, stepThen, readAll}
 use Rattle.pgm.specs.declared.input.Input.{Input}
-use Rattle.pgm.specs.declared.input.Step.{Step}
+use Rattle.pgm.specs.StepAnswer.{StepAnswer}
 use Rattle.listing.proofs.LineLeft.{lineLeft, left-none, left-refused}
 use Rattle.listing.proofs.RunSteps.{small-heights, run-read}
 use Rattle.listing.proofs.StepHow.{Sane, StepIs, on, begins as begins-so, half, height as height-so, turned, after-refusal, SaneThen, more}
@@ -48,14 +48,14 @@ module _ (n k : ℕ) (store : mapStore ≤ n) (row : maxPictureWidth ≤ k) (s :
   w = s .listing .writer
 
   -- what a byte read as y brings
-  abbrev progressOf : Step → Progress
+  abbrev progressOf : StepAnswer → Progress
   progressOf y = stepThen (λ j. record { events = []; input = j }) y
 
-  abbrev ReachedAs : List Event → Bool → List ℕ → Step → Type 0
+  abbrev ReachedAs : List Event → Bool → List ℕ → StepAnswer → Type 0
   ReachedAs E f o y = ReachedBy n k E f o (progressOf y) (stepTo n k w (s .store) (s .row) y)
 
   -- ---- before the head is there
-  head-reads : (E : List Event) (f : Bool) (o : List ℕ) (y : Step) → E ≡ [] → f ≡ false → i .phase < 3 → o ≡ [] → StepIs i y → SaneThen y → ReachedAs E f o y
+  head-reads : (E : List Event) (f : Bool) (o : List ℕ) (y : StepAnswer) → E ≡ [] → f ≡ false → i .phase < 3 → o ≡ [] → StepIs i y → SaneThen y → ReachedAs E f o y
   head-reads E f o y a b c d (on j p q) (more t) = record { reached = quiet (append-nil E ∙ a) b q refl d; input = refl; sane = t }
   head-reads E f o y a b c d (begins-so j W H p q r g) (begun-sane t) = record {
     reached = rw (a, b, d) (begin-reached n k store row j w W H (s .store) (s .row) q r shape);
@@ -77,7 +77,7 @@ module _ (n k : ℕ) (store : mapStore ≤ n) (row : maxPictureWidth ≤ k) (s :
   head-reads E f o y a b c d (after-refusal p) t = absurd (omega arith)
 
   -- ---- after a refusal
-  refused-reads : (n₀ : ℕ) (E : List Event) (f : Bool) (o : List ℕ) (y : Step) → E ≡ refusal n₀ ∷ [] → f ≡ false → 3 < i .phase
+  refused-reads : (n₀ : ℕ) (E : List Event) (f : Bool) (o : List ℕ) (y : StepAnswer) → E ≡ refusal n₀ ∷ [] → f ≡ false → 3 < i .phase
       → o ++ leftTo k s ≡ refusedLine n₀ → StepIs i y → SaneThen y → ReachedAs E f o y
   refused-reads n₀ E f o y a b c d (on j p q) t = absurd (omega arith)
   refused-reads n₀ E f o y a b c d (begins-so j W H p q r g) t = absurd (omega arith)
@@ -92,7 +92,7 @@ module _ (n k : ℕ) (store : mapStore ≤ n) (row : maxPictureWidth ≤ k) (s :
 
   -- ---- once the head is there
   module _ (W H L : ℕ) (hs : List ℕ) (b : ShapeIn W H L) (small : All (λ h. h ≤ maxSample) hs) where
-    shut-reads : (E : List Event) (number : ℕ) (f : Bool) (o : List ℕ) (y : Step) → E ≡ eventsOf W H L hs number → Begun n k W H L hs number f o s
+    shut-reads : (E : List Event) (number : ℕ) (f : Bool) (o : List ℕ) (y : StepAnswer) → E ≡ eventsOf W H L hs number → Begun n k W H L hs number f o s
         → 3 < i .phase → length hs ≤ W * H → (f ≡ true → length hs ≡ W * H)
         → StepIs i y → SaneThen y → ReachedAs E f o y
     shut-reads E number f o y a e c d g (on j p q) t = absurd (omega arith)
@@ -106,7 +106,7 @@ module _ (n k : ℕ) (store : mapStore ≤ n) (row : maxPictureWidth ≤ k) (s :
       sane = t;
     }
 
-    heights-reads : (E : List Event) (o : List ℕ) (y : Step) → E ≡ eventsOf W H L hs 0 → Begun n k W H L hs 0 false o s → i .phase ≡ 3
+    heights-reads : (E : List Event) (o : List ℕ) (y : StepAnswer) → E ≡ eventsOf W H L hs 0 → Begun n k W H L hs 0 false o s → i .phase ≡ 3
         → i .left + length hs ≡ W * H
         → StepIs i y → SaneThen y → ReachedAs E false o y
     heights-reads E o y a e c d (on j p q) t = absurd (omega arith)
@@ -140,7 +140,7 @@ module _ (n k : ℕ) (store : mapStore ≤ n) (row : maxPictureWidth ≤ k) (s :
     heights-reads E o y a e c d (after-refusal p) t = absurd (omega arith)
 
   -- ---- a byte
-  pub reached-as : {E : List Event} {f : Bool} {o : List ℕ} → Reached n k E f o s → (y : Step) → How i y → ReachedAs E f o y
+  pub reached-as : {E : List Event} {f : Bool} {o : List ℕ} → Reached n k E f o s → (y : StepAnswer) → How i y → ReachedAs E f o y
   reached-as {E} {f} {o} (quiet a b c d e) y (h, t) = head-reads E f o y a b c e h t
   reached-as {E} {f} {o} (refused q a b c d e) y (h, t) = refused-reads q E f o y a b c e h t
   reached-as {E} {f} {o} (begun W H L hs number a b c (shut d g j) e) y (h, t) = shut-reads W H L hs b c E number f o y a e d g j h t

@@ -6,13 +6,11 @@
 --     whole    after the end of the input and where the listing is idle again, `listingOf` the bytes read
 --     partly   after the end of the input, at any time, a beginning of it
 -- Assumes nothing.
-use mathlib.Core.Path.{_≡_, refl, sym, ap, subst, subst₂, _∙_}
+use mathlib.Core.Path.{_≡_, refl, sym, ap, subst, _∙_}
 use mathlib.Core.Bool.{Bool, false}
 use mathlib.Core.List.{List, [], _∷_, _++_, append-nil}
-use Prim.Native.Nat.{ℕ, _+_, _≤_, _<_}
+use Prim.Native.Nat.{ℕ, _≤_, _<_}
 use native.Mathlib.Omega.{arith}
-use lib.ListN.{take, drop}
-use lib.Seq.{take-at}
 use Rattle.wavelet.specs.Limits.{maxLevels}
 use Rattle.level.specs.Level.{Memory}
 use Rattle.calls.specs.Lists.{All}
@@ -20,7 +18,8 @@ use Rattle.pgm.specs.Limits.{maxPictureWidth}
 use Rattle.listing.specs.Listing.{listingOf, dueOf}
 use Rattle.pgm.specs.InputSteps.{startAt, inputEnded}
 use Rattle.listing.specs.States.{mapStore, State, stateOf, started, endState}
-use Rattle.listing.specs.Moves.{Idle, Goes, stays, Went, Session, begun, call}
+use Rattle.text.proofs.MoveLaws.{session-goes}
+use Rattle.listing.specs.Moves.{Idle, Goes, Session}
 use Rattle.listing.specs.Events.{Event, Ending, stepThen, readAll, endingOf}
 use Rattle.pgm.specs.declared.input.Input.{Input}
 use Rattle.listing.proofs.InputReads.{read-all}
@@ -30,7 +29,6 @@ use Rattle.listing.proofs.EventText.{due-events, listing-events}
 use Rattle.listing.proofs.StepHow.{Sane}
 use Rattle.listing.proofs.ListingReached.{Reached}
 use Rattle.listing.proofs.ListingReads.{ReachedBy}
-use Rattle.listing.proofs.MoveLaws.{goes-on}
 use Rattle.listing.proofs.ListingGoes.{goes-reached, begun-reached}
 use Rattle.listing.proofs.ListingEnds.{EndReached, all-came, few-came, was-over, EndOut, end-reached}
 use Rattle.listing.proofs.ListingDue.{reached-due, reached-prefix}
@@ -93,19 +91,6 @@ module _ (n k : ℕ) (store : mapStore ≤ n) (row : maxPictureWidth ≤ k) (x z
         go (all-came t) = reached-prefix n k store s₂ (on t)
         go (few-came t e) = let p = reached-prefix n k store s₂ (on t) in (p .0, p .1 ∙ e)
         go (was-over t) = reached-prefix n k store s₂ (on t)
-
--- ---- calls are moves
-module _ {n k : ℕ} {s s′ : State} {p o o′ : List ℕ} {a b : ℕ} (c : Went n k s p 0 a o o′ 0 b s′) where
-  call-read : take a p ≡ c .bytes
-  call-read = ap (take a) (c .read) ∙ take-at (c .bytes) (drop a p) a (omega (arith, c .used))
-
-  pub call-wrote : take b o′ ≡ c .text
-  call-wrote = ap (take b) (c .wrote .text) ∙ take-at (c .text) (drop b o) b (omega (arith, c .wrote .place))
-
-pub session-goes : {n k : ℕ} {s s′ : State} {u t : List ℕ} → Session n k s u t s′ → Goes n k s u t s′
-session-goes (begun s) = stays s
-session-goes {n} {k} {s} (call {s₂ = s₂} {u = u} {t = t} g c) =
-    subst₂ (λ v w. Goes n k s (u ++ v) (t ++ w) s₂) (sym (call-read c)) (sym (call-wrote c)) (goes-on (session-goes g) (c .goes))
 
 -- ---- whatever the calls
 module _ (n k : ℕ) (store : mapStore ≤ n) (row : maxPictureWidth ≤ k) (x z : Memory) {u o : List ℕ} {s : State}

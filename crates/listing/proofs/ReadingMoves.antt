@@ -25,7 +25,7 @@ use Rattle.pgm.specs.InputSteps.{heightsCame}
 use Rattle.listing.specs.States.{Leaves, State, stateOf, drawState, readState}
 use Rattle.pgm.specs.declared.input.Input.{Input}
 use Rattle.listing.specs.declared.listing.Listing.{Listing}
-use Rattle.listing.proofs.MoveLaws.{one}
+use Rattle.text.proofs.MoveLaws.{one}
 use Rattle.listing.proofs.NextLaws.{is-some}
 use Rattle.listing.proofs.WritingMoves.{left-is}
 

@@ -16,8 +16,8 @@ use Rattle.listing.specs.Parts.{noLine}
 use Rattle.listing.specs.States.{State, Leaves, refusedTo, drawnTo, drawState, begunTo, beginState, offerState, finishState}
 use Rattle.listing.specs.States.{stepTo, readState, endTo, endState, listed, valuePart, advanceState}
 use Rattle.pgm.specs.declared.input.Input.{Input}
-use Rattle.pgm.specs.declared.input.Step.{Step}
-use Rattle.pgm.specs.declared.input.Ended.{Ended}
+use Rattle.pgm.specs.StepAnswer.{StepAnswer}
+use Rattle.pgm.specs.EndedAnswer.{EndedAnswer}
 use Rattle.listing.specs.declared.line.Line.{Line}
 use Rattle.listing.specs.declared.listing.Listing.{Listing}
 
@@ -58,7 +58,7 @@ module _ (n k : ℕ) (i : Input) (w : Writer) (x z : Memory) where
   not-closed q l e f g = rw (← e) (record { listing = f; store = g; row = refl })
 
 -- a byte was read as y
-pub read-as : (n k b : ℕ) (s : State) (y : Step) (l : Listing) {x′ z′ : Memory} → y ≡ readByte maxLevels (s .listing .input) b
+pub read-as : (n k b : ℕ) (s : State) (y : StepAnswer) (l : Listing) {x′ z′ : Memory} → y ≡ readByte maxLevels (s .listing .input) b
     → Leaves (stepTo n k (s .listing .writer) (s .store) (s .row) y) l x′ z′ → Leaves (readState n k b s) l x′ z′
 unfolding readState
 read-as n k b s y l {x′} {z′} e p = subst (λ y. Leaves (stepTo n k (s .listing .writer) (s .store) (s .row) y) l x′ z′) e p
@@ -93,7 +93,7 @@ module _ (n k : ℕ) (s : State) (l : Listing) where
   unfolding endState
   end-in-line h e = rw (lt-ltb 0 (line .part) h) (record { listing = e; store = refl; row = refl })
 
-  pub ended-as : (y : Ended) {x′ z′ : Memory} → line .part ≤ 0 → y ≡ inputEnded (s .listing .input) → Leaves (endTo n k s y) l x′ z′
+  pub ended-as : (y : EndedAnswer) {x′ z′ : Memory} → line .part ≤ 0 → y ≡ inputEnded (s .listing .input) → Leaves (endTo n k s y) l x′ z′
       → Leaves (endState n k s) l x′ z′
   unfolding endState
   ended-as y {x′} {z′} h e p = rw (le-ltb 0 (line .part) h) (subst (λ y. Leaves (endTo n k s y) l x′ z′) e p)

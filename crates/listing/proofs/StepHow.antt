@@ -9,17 +9,17 @@ use Rattle.numbers.specs.Signal.{pick, both}
 use Rattle.wavelet.specs.Limits.{maxLevels, maxSample}
 use Rattle.pgm.specs.Steps.{stepOf}
 use Rattle.pgm.specs.Samples.{wide, noByte, sampled, sampleOf}
-use Rattle.pgm.specs.declared.header.Next.{Next}
-use Rattle.pgm.specs.declared.header.Next.the-variants as next
-use Rattle.pgm.specs.declared.samples.Sample.the-variants as sample
+use Rattle.pgm.specs.NextAnswer.{NextAnswer}
+use Rattle.pgm.specs.NextAnswer as next
+use Rattle.pgm.specs.SampleAnswer as sample
 use Rattle.pgm.specs.Limits.{upTo, sizeFits}
 use Rattle.pgm.specs.Characters.{digit, digitValue}
 use Rattle.pgm.proofs.LimitLaws.{up-to}
 use Rattle.pgm.specs.InputSteps.{startAt, phased, refuse15, levelsRead, lineFeedRead, shapeRead, nextRead, headerRead, sampleRead, heightRead}
 use Rattle.pgm.specs.InputSteps.{levelDigit, readByte, heightsCame}
 use Rattle.pgm.specs.declared.input.Input.{Input}
-use Rattle.pgm.specs.declared.input.Step.{Step}
-use Rattle.pgm.specs.declared.input.Step.the-variants as steps
+use Rattle.pgm.specs.StepAnswer.{StepAnswer}
+use Rattle.pgm.specs.StepAnswer as steps
 
 -- a sample of one byte or two is a height
 pub two-bytes : (a b : ℕ) → a ≤ 255 → b ≤ 255 → 256 * a + b ≤ maxSample
@@ -35,7 +35,7 @@ pub record Sane (i : Input) : Type 0 where
   pub byte : i .samples .high ≤ 255
   pub levels : 0 < i .phase → i .phase < 4 → (1 ≤ i .levels) × (i .levels ≤ maxLevels)
 
-pub data StepIs (i : Input) : Step → Type 0 where
+pub data StepIs (i : Input) : StepAnswer → Type 0 where
   -- of the head
   on : (j : Input) → i .phase < 3 → j .phase < 3 → StepIs i (steps.More j)
   begins : (j : Input) (W H : ℕ) → i .phase < 3 → j .phase ≡ 3 → j .left ≡ W * H → sizeFits W H ≡ true → StepIs i (steps.Begun j W H)
@@ -43,17 +43,17 @@ pub data StepIs (i : Input) : Step → Type 0 where
   half : (j : Input) → i .phase ≡ 3 → j .phase ≡ 3 → j .left ≡ i .left → StepIs i (steps.More j)
   height : (j : Input) (v : ℕ) → i .phase ≡ 3 → j .phase ≡ 3 → 0 < i .left → j .left ≡ i .left - 1 → v ≤ maxSample → StepIs i (steps.Height j v)
   -- a question says no
-  turned : (j : Input) (q : ℕ) → i .phase ≤ 3 → j .phase ≡ 4 → 0 < q → StepIs i (steps.Refused j q)
+  turned : (j : Input) (q : ℕ) → i .phase ≤ 3 → j .phase ≡ 4 → 0 < q → StepIs i (steps.No j q)
   -- one said no before
   after-refusal : 3 < i .phase → StepIs i (steps.More i)
 
-pub data SaneThen : Step → Type 0 where
+pub data SaneThen : StepAnswer → Type 0 where
   more : {j : Input} → Sane j → SaneThen (steps.More j)
   begun : {j : Input} {W H : ℕ} → Sane j → SaneThen (steps.Begun j W H)
   tall : {j : Input} {v : ℕ} → Sane j → SaneThen (steps.Height j v)
-  refused : {j : Input} {q : ℕ} → Sane j → SaneThen (steps.Refused j q)
+  refused : {j : Input} {q : ℕ} → Sane j → SaneThen (steps.No j q)
 
-abbrev pub How : Input → Step → Type 0
+abbrev pub How : Input → StepAnswer → Type 0
 How i y = StepIs i y × SaneThen y
 
 pub start-sane : Sane (startAt 0)
@@ -105,13 +105,13 @@ module _ (i : Input) (s : Sane i) where
             (begins j W H (omega arith) refl refl p, begun {j = j} (record { byte = omega arith; levels = λ _ _. s .levels (omega arith) (omega arith) }))
         go false p = refuse-how (omega arith)
 
-    next-how : i .phase ≡ 2 → (x : Next) → How i (nextRead i x)
+    next-how : i .phase ≡ 2 → (x : NextAnswer) → How i (nextRead i x)
     next-how e (next.More k) = (
       on (record { phase = 2; levels = i .levels; header = k; left = i .left; samples = i .samples }) (omega arith) (omega arith),
       more (record { byte = s .byte; levels = λ _ _. s .levels (omega arith) (omega arith) }),
     )
     next-how e (next.Done w h m) = shape-how e w h m
-    next-how e next.Refused = refuse-how (omega arith)
+    next-how e next.No15 = refuse-how (omega arith)
 
     header-how : i .phase ≡ 2 → How i (headerRead i b)
     unfolding headerRead
@@ -131,7 +131,7 @@ module _ (i : Input) (s : Sane i) where
         gone = record { phase = 3; levels = i .levels; header = i .header; left = i .left - 1; samples = noByte m }
 
         -- a whole sample v
-        full : 0 < i .left → (v : ℕ) → v ≤ maxSample → (x : Bool) → How i (sampleRead i (pick x (sample.Height v) sample.TooLarge))
+        full : 0 < i .left → (v : ℕ) → v ≤ maxSample → (x : Bool) → How i (sampleRead i (pick x (sample.Height v) sample.No16))
         full p v l true = (height gone v e refl p refl l, tall {j = gone} (record { byte = omega arith; levels = λ _ _. L }))
         full p v l false = (turned (phased 4 i) 16 (omega arith) refl (omega arith), refused (phased-sane i s))
 

@@ -10,10 +10,12 @@ use lib.ListN.{length}
 use borrow.Author.Tests.{eq-eqb, ne-eqb}
 use Rattle.numbers.specs.Signal.{at, pick}
 use Rattle.listing.specs.States.{State, stateOf}
-use Rattle.listing.specs.Moves.{Went, Stops, full, idle, Onward, on, off}
+use Rattle.text.specs.Moves.{full, idle}
+use Rattle.text.proofs.MoveLaws.{went-not, stops-in}
+use Rattle.listing.specs.Moves.{Went, Stops, Onward, on, off}
 use Rattle.listing.specs.declared.listing.Listing.{Listing}
 use Rattle.text.proofs.TextLaws.{wrote-size}
-use Rattle.listing.proofs.MoveLaws.{went-not, went-on}
+use Rattle.listing.proofs.MoveLaws.{went-on}
 
 -- another turn, or none since it stops
 pub data Pending (s : State) (p : List ℕ) (a : ℕ) (o : List ℕ) (b : ℕ) : Bool → Type 0 where
@@ -29,11 +31,6 @@ pub record Gone (n k : ℕ) (s : State) (p o : List ℕ) (l : Listing) (m r : Li
 
 pub start : (p o : List ℕ) (l : Listing) (m r : List ℤ) → Gone (length m) (length r) (stateOf l (at m) (at r)) p o l m r o 0 0 true
 start p o l m r = record { store = refl; row = refl; went = went-not p o 0 0 (omega arith) (omega arith); pending = more }
-
--- an area of the same length
-stops-in : {s : State} {p o d : List ℕ} {a b : ℕ} {i : Bool} → length d ≡ length o → Stops s p a d b i → Stops s p a o b i
-stops-in e (full h f) = full h (f ∙ e)
-stops-in e (idle h f) = idle h f
 
 then-pending : {s : State} {p o d : List ℕ} {a a′ b b′ : ℕ} {g : Bool} → length d ≡ length o → Onward s p a a′ d b b′ g → Pending s p a′ o b′ g
 then-pending e (on h) = more

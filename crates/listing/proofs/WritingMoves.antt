@@ -19,14 +19,15 @@ use Rattle.text.specs.Text.{Wrote}
 use Rattle.text.specs.Refusal.{refusedLine}
 use Rattle.listing.specs.Parts.{first, second, sizeText, refusedText, headText, valueText, partText, donePart, startOf, leftOf, Spelled}
 use Rattle.listing.specs.States.{State, stateOf, Leaves, listed, valuePart, advanceState}
-use Rattle.listing.specs.Moves.{lineOn, textOn, leftOn, Move, partly, wholly, Goes, then, Writes, WritesOnly}
+use Rattle.listing.specs.Moves.{lineOn, textOn, leftOn, Move, partly, wholly, Goes, Writes, WritesOnly}
+use Rattle.text.specs.Moves.{then}
+use Rattle.text.proofs.MoveLaws.{one}
 use Rattle.pgm.specs.declared.input.Input.{Input}
 use Rattle.listing.specs.declared.line.Line.{Line}
 use Rattle.listing.specs.declared.listing.Listing.{Listing}
 use Rattle.listing.specs.declared.spelling.Spelt.{Spelt}
 use Rattle.listing.proofs.StateLaws.{past-value}
 use Rattle.listing.proofs.SpellLaws.{start-in, start-anew}
-use Rattle.listing.proofs.MoveLaws.{one}
 
 -- ---- each text has a byte
 record Some (l : List ℕ) : Type 0 where

@@ -11,10 +11,10 @@ use Rattle.pgm.specs.Heights.{heightsTaken, tooLarge, bytesOf, refusalIn}
 use Rattle.listing.specs.Listing.{Shape, Head, cells, headOf}
 use Rattle.pgm.specs.InputSteps.{readByte, inputEnded}
 use Rattle.pgm.specs.declared.input.Input.{Input}
-use Rattle.pgm.specs.declared.input.Step.{Step}
-use Rattle.pgm.specs.declared.input.Step.the-variants as steps
-use Rattle.pgm.specs.declared.input.Ended.{Ended}
-use Rattle.pgm.specs.declared.input.Ended.the-variants as ended
+use Rattle.pgm.specs.StepAnswer.{StepAnswer}
+use Rattle.pgm.specs.StepAnswer as steps
+use Rattle.pgm.specs.EndedAnswer.{EndedAnswer}
+use Rattle.pgm.specs.EndedAnswer as ended
 
 -- the head is there, a height is there, a question (15 or 16) says no
 pub data Event : Type 0 where
@@ -70,19 +70,19 @@ pub record Progress : Type 0 where
 abbrev pub andOn : Event → Progress → Progress
 andOn e h = record { events = e ∷ h .events; input = h .input }
 
-abbrev pub stepThen : (Input → Progress) → Step → Progress
+abbrev pub stepThen : (Input → Progress) → StepAnswer → Progress
 stepThen f (steps.More i) = f i
 stepThen f (steps.Begun i w h) = andOn (begins (record { width = w; height = h; levels = i .levels })) (f i)
 stepThen f (steps.Height i v) = andOn (height v) (f i)
-stepThen f (steps.Refused i q) = andOn (refusal q) (f i)
+stepThen f (steps.No i q) = andOn (refusal q) (f i)
 
 unfoldable pub readAll : Input → List ℕ → Progress
 readAll i [] = record { events = []; input = i }
 readAll i (b ∷ s) = stepThen (λ j. readAll j s) (readByte maxLevels i b)
 
-abbrev pub endingOf : Ended → Ending
+abbrev pub endingOf : EndedAnswer → Ending
 endingOf (ended.Whole i) = whole
-endingOf (ended.Short i) = few
+endingOf (ended.No15 i) = few
 endingOf ended.Before = over
 
 abbrev pub sum : Progress → Reading

@@ -12,6 +12,7 @@ use Rattle.level.specs.Level.{Memory}
 use Rattle.writer.specs.Calls.{offerReply, offerStore}
 use Rattle.pgm.specs.InputSteps.{heightsCame}
 use Rattle.text.specs.Text.{Wrote}
+use Rattle.text.specs.Moves as moves
 use Rattle.listing.specs.Parts.{partText, startOf, leftOf, donePart}
 use Rattle.listing.specs.States.{State, stateOf, listed, drawState, readState, advanceState}
 use Rattle.listing.specs.declared.line.Line.{Line}
@@ -57,10 +58,9 @@ pub data Move (n k : ℕ) (s : State) (u t : List ℕ) (s′ : State) : Type 0 w
       (offerStore (s .listing .writer) n (heightsOf (largestOn s) bytes) (s .store)) (s .row)
       → Move n k s u t s′
 
--- any number of moves, one after the other
-pub data Goes (n k : ℕ) : State → List ℕ → List ℕ → State → Type 0 where
-  stays : (s : State) → Goes n k s [] [] s
-  then : {s s₁ s₂ : State} {u v t w : List ℕ} → Goes n k s u t s₁ → Move n k s₁ v w s₂ → Goes n k s (u ++ v) (t ++ w) s₂
+-- any number of moves, one after the other (text/specs/Moves)
+abbrev pub Goes : ℕ → ℕ → State → List ℕ → List ℕ → State → Type 0
+Goes n k = moves.Goes (Move n k)
 
 -- ---- the calls
 -- bytes of the piece p are read, from place a to a′, at least one
@@ -83,20 +83,16 @@ pub record Writes (n k : ℕ) (s : State) (o o′ : List ℕ) (b b′ : ℕ) (s�
 abbrev pub WritesOnly : ℕ → Listing → Memory → List ℕ → List ℕ → ℕ → ℕ → Listing → Type 0
 WritesOnly k l z o o′ b b′ l′ = (n : ℕ) (x : Memory) → Writes n k (stateOf l x z) o o′ b b′ (stateOf l′ x z)
 
--- a call went from state s to s′: it read of the piece p from place a to a′, and wrote into the area o from place b to b′
-pub record Went (n k : ℕ) (s : State) (p : List ℕ) (a a′ : ℕ) (o o′ : List ℕ) (b b′ : ℕ) (s′ : State) : Type 0 where
-  pub bytes : List ℕ
-  pub text : List ℕ
-  pub goes : Goes n k s bytes text s′
-  pub read : drop a p ≡ bytes ++ drop a′ p
-  pub used : a′ ≡ a + length bytes
-  pub part : a′ ≤ length p
-  pub wrote : Wrote text b b′ o o′
+-- a call, its piece, its area and its places, and where it stops (text/specs/Moves)
+abbrev pub Went : ℕ → ℕ → State → List ℕ → ℕ → ℕ → List ℕ → List ℕ → ℕ → ℕ → State → Type 0
+Went n k = moves.Went (Move n k)
 
--- it stops where a line is being written and the area is full, or else (true) where the piece is used up
-pub data Stops (s : State) (p : List ℕ) (a : ℕ) (o : List ℕ) (b : ℕ) : Bool → Type 0 where
-  full : 0 < lineOn s .part → b ≡ length o → Stops s p a o b false
-  idle : Idle s → a ≡ length p → Stops s p a o b true
+-- 0 where no line is being written
+abbrev pub busyOn : State → ℕ
+busyOn s = lineOn s .part
+
+abbrev pub Stops : State → List ℕ → ℕ → List ℕ → ℕ → Bool → Type 0
+Stops = moves.Stops busyOn
 
 -- one turn of it: something was read or written, or it stops
 pub data Onward (s : State) (p : List ℕ) (a a′ : ℕ) (o : List ℕ) (b b′ : ℕ) : Bool → Type 0 where
@@ -104,7 +100,5 @@ pub data Onward (s : State) (p : List ℕ) (a a′ : ℕ) (o : List ℕ) (b b′
   off : (i : Bool) → Stops s p a′ o b′ i → Onward s p a a′ o b b′ false
 
 -- ---- any calls, one after the other: u is all that was read of the pieces, t all that was written
-pub data Session (n k : ℕ) : State → List ℕ → List ℕ → State → Type 0 where
-  begun : (s : State) → Session n k s [] [] s
-  call : {s s₁ s₂ : State} {u t p o o′ : List ℕ} {a b : ℕ} → Session n k s u t s₁ → Went n k s₁ p 0 a o o′ 0 b s₂
-      → Session n k s (u ++ take a p) (t ++ take b o′) s₂
+abbrev pub Session : ℕ → ℕ → State → List ℕ → List ℕ → State → Type 0
+Session n k = moves.Session (Move n k)

@@ -17,12 +17,12 @@ use Rattle.writer.specs.declared.Writer.{Writer}
 use Rattle.pgm.specs.InputSteps.{startAt, phased, readByte, inputEnded}
 use Rattle.listing.specs.Parts.{noLine, sizePart, refusedPart, headPart}
 use Rattle.pgm.specs.declared.input.Input.{Input}
-use Rattle.pgm.specs.declared.input.Step.{Step}
-use Rattle.pgm.specs.declared.input.Ended.{Ended}
+use Rattle.pgm.specs.StepAnswer.{StepAnswer}
+use Rattle.pgm.specs.EndedAnswer.{EndedAnswer}
 use Rattle.listing.specs.declared.line.Line.{Line}
 use Rattle.listing.specs.declared.listing.Listing.{Listing}
-use Rattle.pgm.specs.declared.input.Step.the-variants as steps
-use Rattle.pgm.specs.declared.input.Ended.the-variants as ended
+use Rattle.pgm.specs.StepAnswer as steps
+use Rattle.pgm.specs.EndedAnswer as ended
 
 -- a line store in which every map that is listed has room; the filter is the 5/3, number 0
 abbrev pub mapStore : ℕ
@@ -86,19 +86,19 @@ unfoldable pub finishState : ℕ → ℕ → Input → Writer → Memory → Mem
 finishState n k i w x z = closedTo n k i w (finishStore w n x) z (finishReply w n x)
 
 -- ---- a byte
-abbrev pub stepTo : ℕ → ℕ → Writer → Memory → Memory → Step → State
+abbrev pub stepTo : ℕ → ℕ → Writer → Memory → Memory → StepAnswer → State
 stepTo n k w x z (steps.More i) = stateOf (listed i w noLine) x z
 stepTo n k w x z (steps.Begun i W H) = beginState n i w W H x z
 stepTo n k w x z (steps.Height i v) = offerState n k i w v x z
-stepTo n k w x z (steps.Refused i q) = stateOf (refusedTo i w q) x z
+stepTo n k w x z (steps.No i q) = stateOf (refusedTo i w q) x z
 
 unfoldable pub readState : ℕ → ℕ → ℕ → State → State
 readState n k b s = stepTo n k (s .listing .writer) (s .store) (s .row) (readByte maxLevels (s .listing .input) b)
 
 -- ---- the end of the input, once no line is being written
-abbrev pub endTo : ℕ → ℕ → State → Ended → State
+abbrev pub endTo : ℕ → ℕ → State → EndedAnswer → State
 endTo n k s (ended.Whole i) = finishState n k i (s .listing .writer) (s .store) (s .row)
-endTo n k s (ended.Short i) = stateOf (refusedTo i (s .listing .writer) 15) (s .store) (s .row)
+endTo n k s (ended.No15 i) = stateOf (refusedTo i (s .listing .writer) 15) (s .store) (s .row)
 endTo n k s ended.Before = s
 
 unfoldable pub endState : ℕ → ℕ → State → State

@@ -3,22 +3,46 @@
 // (proofs/ListedTheorem.antt).
 use descriptors::input;
 use descriptors::input::Left;
-use descriptors::output;
-use descriptors::output::Sent;
-use libc::STDOUT_FILENO;
 use listing::listing::Fed;
 use listing::listing::Listing;
-use listing_rounds::run;
-use listing_rounds::run::Run;
+use rounds::round;
+use rounds::round::Outcome;
 ghost use mathlib.Core.Path.{_≡_};
-ghost use Prim.Native.Nat.{_≤_};
-ghost use lib.Dec.{eqb};
 ghost use lib.ListN.{length};
 ghost use Rattle.numbers.specs.Signal.{at};
 ghost use Rattle.descriptors.specs.Left.{leftIn, Within};
-ghost use Rattle.listing.specs.States.{stateOf, Leaves, endState};
+ghost use Rattle.listing.specs.States.{stateOf, Leaves, started, endState};
 ghost use Rattle.listing.specs.Moves.{Went, Stops};
-ghost use Rattle.listing_rounds.specs.Rounds.{Round, Ran, Listed};
+ghost use Rattle.rounds.specs.Rounds.{waitsAt, overAt, going, Round, Ran, Completed};
+ghost use Rattle.listing_io.specs.Listed.{listingMachine, Listed};
+
+// The listing after a round, and what the round left.
+struct Run {
+    listing: Listing,
+    outcome: Outcome,
+}
+
+fn waits(listing: Listing) -> bool
+    ensures { λ r. ⌜ r ≡ waitsAt (listing .line .part) (listing .input .phase) ⌝ }
+{
+    let line = listing.line;
+    let input = listing.input;
+    round::waits(line.part, input.phase)
+}
+
+fn is_over(listing: Listing) -> bool
+    ensures { λ r. ⌜ r ≡ overAt (listing .line .part) (listing .input .phase) ⌝ }
+{
+    let line = listing.line;
+    let input = listing.input;
+    round::is_over(line.part, input.phase)
+}
+
+fn goes_on(run: Run) -> bool
+    ensures { λ r. ⌜ r ≡ going (overAt (run .listing .line .part) (run .listing .input .phase)) (run .outcome) ⌝ }
+{
+    round::goes_on(is_over(run.listing), run.outcome)
+}
 
 // What is left of the chunk is fed.
 fn turn(
@@ -45,16 +69,8 @@ fn turn(
     listing.feed(&chunk[from..to], store, row, out)
 }
 
-// What was written goes to standard output.
-fn send(out: &[u8], written: usize) -> Sent
-    requires { ⌜ written ≤ length (now out) ⌝ }
-    ensures { λ r. ⌜ r .whole ≡ eqb (r .count) written ⌝ }
-{
-    output::send(STDOUT_FILENO, b"standard output", &out[..written])
-}
-
 // Read, turn, write.
-fn round(
+fn one_round(
     run: Run,
     fd: i32,
     name: &[u8],
@@ -63,22 +79,28 @@ fn round(
     row: &mut [i32],
     out: &mut [u8],
 ) -> Run
-    requires { ⌜ Within (now chunk) (run .left) ⌝ }
+    requires { ⌜ Within (now chunk) (run .outcome .left) ⌝ }
     ensures { λ r. ⌜
-        Round (length (now (store .entry))) (length (now (row .entry))) (stateOf (run .listing) (at (now (store .entry))) (at (now (row .entry))))
-        (run .left) (now (chunk .entry)) (now (chunk .exit)) (now (out .entry)) (now (out .exit))
-        (stateOf (r .listing) (at (now (store .exit))) (at (now (row .exit)))) r
+        Round (listingMachine (length (now (store .entry))) (length (now (row .entry)))) (length (now (out .entry)))
+        (stateOf (run .listing) (at (now (store .entry))) (at (now (row .entry))))
+        (run .outcome .left) (now (chunk .entry)) (now (chunk .exit)) (now (out .entry)) (now (out .exit))
+        (stateOf (r .listing) (at (now (store .exit))) (at (now (row .exit)))) (r .outcome)
         ⌝ }
 {
     let listing = run.listing;
-    let filled = input::fill(run.left, run::waits(listing), fd, name, chunk);
+    let outcome = run.outcome;
+    let filled = input::fill(outcome.left, waits(listing), fd, name, chunk);
     let fed = turn(listing, filled.left, chunk, store, row, out);
-    let sent = send(out, fed.written);
-    run::run_on(fed, filled, sent)
+    let sent = round::send(out, fed.written);
+    let next = fed.listing;
+    Run {
+        listing: next,
+        outcome: round::after(filled, fed.used, fed.written, fed.idle, sent),
+    }
 }
 
 // A proved loop has to end, so it counts its turns down from a number that no run uses up.
-fn rounds(
+fn all_rounds(
     listing: Listing,
     fd: i32,
     name: &[u8],
@@ -88,29 +110,21 @@ fn rounds(
     out: &mut [u8],
 ) -> Run
     ensures { λ r. ⌜
-        Ran (length (now (store .entry))) (length (now (row .entry))) (stateOf listing (at (now (store .entry))) (at (now (row .entry))))
-        (stateOf (r .listing) (at (now (store .exit))) (at (now (row .exit)))) (now (chunk .exit)) r
+        Ran (listingMachine (length (now (store .entry))) (length (now (row .entry)))) (length (now (out .entry)))
+        (stateOf listing (at (now (store .entry))) (at (now (row .entry))))
+        (stateOf (r .listing) (at (now (store .exit))) (at (now (row .exit)))) (now (chunk .exit)) (r .outcome)
         ⌝ }
 {
-    let mut now = run::start(listing);
+    let mut now = Run {
+        listing,
+        outcome: round::start(),
+    };
     let mut turns = u64::MAX;
-    while turns > 0 && run::goes_on(now) {
-        now = round(now, fd, name, chunk, store, row, out);
+    while turns > 0 && goes_on(now) {
+        now = one_round(now, fd, name, chunk, store, row, out);
         turns -= 1;
     }
     now
-}
-
-// The end of the input is passed on while no line is being written.
-fn end(listing: Listing, store: &mut [i32], row: &mut [i32]) -> Listing
-    requires { ⌜ listing .line .part ≡ 0 ⌝ }
-    ensures { λ r. ⌜
-        Leaves
-        (endState (length (now (store .entry))) (length (now (row .entry))) (stateOf listing (at (now (store .entry))) (at (now (row .entry)))))
-        r (at (now (store .exit))) (at (now (row .exit)))
-        ⌝ }
-{
-    listing.end(store, row)
 }
 
 // All of an input: rounds until it ends, and on with what its end makes due.
@@ -123,26 +137,30 @@ fn list_all(
     out: &mut [u8],
 ) -> Run
     ensures { λ r. ⌜
-        Listed (length (now (store .entry))) (length (now (row .entry))) (at (now (store .entry))) (at (now (row .entry)))
-        (stateOf (r .listing) (at (now (store .exit))) (at (now (row .exit)))) (now (chunk .exit)) r
+        Completed (listingMachine (length (now (store .entry))) (length (now (row .entry)))) (length (now (out .entry)))
+        (endState (length (now (store .entry))) (length (now (row .entry))))
+        (stateOf started (at (now (store .entry))) (at (now (row .entry))))
+        (stateOf (r .listing) (at (now (store .exit))) (at (now (row .exit)))) (r .outcome)
         ⌝ }
 {
-    let listing = Listing::start();
-    let run = rounds(listing, fd, name, chunk, store, row, out);
-    if run::ends(run) {
-        let ended = end(run.listing, store, row);
-        return rounds(ended, fd, name, chunk, store, row, out);
+    let run = all_rounds(Listing::start(), fd, name, chunk, store, row, out);
+    if round::ends(run.outcome) {
+        let listing = run.listing;
+        let ended = listing.end(store, row);
+        return all_rounds(ended, fd, name, chunk, store, row, out);
     }
     run
 }
 
 // Lists the map that the descriptor gives, whatever map it is that a listing takes. What fails is told on standard error. Answers whether the listing is
 // written whole.
-pub fn list(fd: i32, name: &[u8]) -> bool {
+pub fn list(fd: i32, name: &[u8]) -> bool
+    ensures { λ r. ⌜ Listed r ⌝ }
+{
     let mut chunk = [0u8; 65536];
     let mut store = [0i32; Listing::STORE];
     let mut row = [0i32; Listing::ROW];
     let mut out = [0u8; 65536];
     let run = list_all(fd, name, &mut chunk, &mut store, &mut row, &mut out);
-    run::is_whole(run)
+    round::is_whole(is_over(run.listing), run.outcome)
 }

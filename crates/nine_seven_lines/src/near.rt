@@ -2,11 +2,11 @@
 // is the nearest, but the farther ones of the first and of the last high number are mirrored.
 use crate::place;
 ghost use mathlib.Core.Path.{_≡_};
-ghost use Prim.Native.Nat.{_-_, _<_, _≤_};
+ghost use Prim.Native.Nat.{_-_, _%_};
 ghost use Rattle.lifting.specs.Line.{lo};
 ghost use Rattle.lifting.specs.Grid.{side, count};
 ghost use Rattle.lifting.specs.Passes.{near};
-ghost use Rattle.nine_seven_lines.specs.Near.{Beside, Around};
+ghost use Rattle.nine_seven_lines.specs.Near.{Beside, AroundAny};
 
 // How many of n numbers are low, the first of them at coordinate `start`.
 pub fn lows(n: usize, start: usize) -> usize
@@ -41,14 +41,14 @@ pub fn one_before(k: usize) -> usize
     k - 1
 }
 
-// Of m numbers those beside number n of the other half; o, at most 1, is 1 where the m begin the line.
+// Of m numbers those beside number n of the other half; o, of which only the remainder by 2 counts, is 1 where the m begin the line.
 pub struct Two {
     pub left: usize,
     pub right: usize,
 }
 
 pub fn beside(m: usize, o: usize, n: usize) -> Two
-    ensures { λ r. ⌜ (o ≤ 1 → Beside m o n (r .left) (r .right)) ⌝ }
+    ensures { λ r. ⌜ Beside m (o % 2) n (r .left) (r .right) ⌝ }
 {
     if m <= n {
         let last = nearest(m, n);
@@ -65,7 +65,7 @@ pub fn beside(m: usize, o: usize, n: usize) -> Two
     }
 }
 
-// The low numbers around high number n of `high`.
+// The low numbers around high number n of `high`; past the last of them 0.
 pub struct Four {
     pub left: usize,
     pub right: usize,
@@ -74,7 +74,7 @@ pub struct Four {
 }
 
 pub fn around(low: usize, high: usize, o: usize, n: usize) -> Four
-    ensures { λ r. ⌜ (o ≤ 1 → n < high → Around low high o n (r .left) (r .right) (r .before) (r .after)) ⌝ }
+    ensures { λ r. ⌜ AroundAny low high (o % 2) n (r .left) (r .right) (r .before) (r .after) ⌝ }
 {
     if high <= n {
         return Four {

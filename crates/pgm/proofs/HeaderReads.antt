@@ -16,8 +16,8 @@ use Rattle.pgm.specs.Header.{headerEnd, headerOf}
 use Rattle.pgm.specs.Steps.{staged, begun, expected, gapEnded, gapRead, commentRead, numberEnded, inNumber, stepOf, Fed, still, ended, bad}
 use Rattle.pgm.specs.Steps.{stepped, feed, feedOn, joined, feedPieces, readBy}
 use Rattle.pgm.specs.declared.header.Header.{Header}
-use Rattle.pgm.specs.declared.header.Next.{Next}
-use Rattle.pgm.specs.declared.header.Next.the-variants.{More, Done, Refused}
+use Rattle.pgm.specs.NextAnswer.{NextAnswer}
+use Rattle.pgm.specs.NextAnswer.{More, Done, No15}
 use Rattle.pgm.proofs.LimitLaws.{up-to}
 
 -- ---- what the state keeps of a number
@@ -75,7 +75,7 @@ abbrev kept : ℕ → Bool → ℕ → ℕ → ℕ → ℕ → Header
 kept k any v w h m = record { stage = k; comment = false; any = any; number = cap v; width = cap w; height = cap h; largest = cap m }
 
 -- what a step's answer and the bytes s after it come to
-abbrev onward : Next → List ℕ → Read Size
+abbrev onward : NextAnswer → List ℕ → Read Size
 onward x s = readBy (stepped (λ y. feed y s) s x)
 
 -- first a gap, then more: a comment is read to its end
@@ -233,12 +233,12 @@ unfolding stepOf headerOf
 reads = mark 0 (is 80) _ (λ b. refl) (mark 1 (is 53) _ (λ b. refl) first-gap)
 
 -- ---- cut anywhere
-cut-step : (x : Next) (s t : List ℕ) → ((h : Header) → feed h (s ++ t) ≡ feedOn (feed h s) t)
+cut-step : (x : NextAnswer) (s t : List ℕ) → ((h : Header) → feed h (s ++ t) ≡ feedOn (feed h s) t)
     → stepped (λ h. feed h (s ++ t)) (s ++ t) x ≡ feedOn (stepped (λ h. feed h s) s x) t
 unfolding feedOn
 cut-step (More h) s t e = e h
 cut-step (Done w n m) s t e = refl
-cut-step Refused s t e = refl
+cut-step No15 s t e = refl
 
 pub cut : (s t : List ℕ) (h : Header) → feed h (s ++ t) ≡ feedOn (feed h s) t
 unfolding feed feedOn

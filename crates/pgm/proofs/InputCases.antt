@@ -6,16 +6,16 @@ use native.Mathlib.Omega.{arith}
 use borrow.Author.Tests.{eq-eqb, ne-eqb, lt-ltb, le-ltb}
 use Rattle.pgm.specs.Samples.{noByte, sampleOf}
 use Rattle.pgm.specs.Steps.{stepOf}
-use Rattle.pgm.specs.declared.header.Next.{Next}
+use Rattle.pgm.specs.NextAnswer.{NextAnswer}
 use Rattle.pgm.specs.declared.samples.Samples.{Samples}
-use Rattle.pgm.specs.declared.samples.Sample.{Sample}
+use Rattle.pgm.specs.SampleAnswer.{SampleAnswer}
 use Rattle.pgm.specs.Limits.{upTo, sizeFits}
 use Rattle.pgm.specs.Characters.{digit, digitValue}
 use Rattle.pgm.specs.InputSteps.{phased, refuse15, levelsRead, lineFeedRead, shapeRead, nextRead, headerRead, sampleRead, heightRead, readByte}
 use Rattle.pgm.specs.InputSteps.{levelDigit, inputEnded}
 use Rattle.pgm.specs.declared.input.Input.{Input}
-use Rattle.pgm.specs.declared.input.Step.the-variants as steps
-use Rattle.pgm.specs.declared.input.Ended.the-variants as ended
+use Rattle.pgm.specs.StepAnswer as steps
+use Rattle.pgm.specs.EndedAnswer as ended
 
 module _ (most b : ℕ) where
   pub level-no : digit b ≡ false → false ≡ levelDigit most b
@@ -65,7 +65,7 @@ module _ (i : Input) (b : ℕ) where
   unfolding lineFeedRead
   feed-no d = rw (ne-eqb b 10 d)
 
-  pub header-case : (x : Next) → x ≡ stepOf (i .header) b → nextRead i x ≡ headerRead i b
+  pub header-case : (x : NextAnswer) → x ≡ stepOf (i .header) b → nextRead i x ≡ headerRead i b
   unfolding headerRead
   header-case x e = ap (nextRead i) e
 
@@ -73,7 +73,7 @@ module _ (i : Input) (b : ℕ) where
   unfolding heightRead
   height-none e = rw (eq-eqb (i .left) 0 e)
 
-  pub height-some : (x : Sample) → (i .left ≡ 0 → ⊥) → x ≡ sampleOf (i .samples) b → sampleRead i x ≡ heightRead i b
+  pub height-some : (x : SampleAnswer) → (i .left ≡ 0 → ⊥) → x ≡ sampleOf (i .samples) b → sampleRead i x ≡ heightRead i b
   unfolding heightRead
   height-some x d e = rw (ne-eqb (i .left) 0 d) (ap (sampleRead i) e)
 
@@ -92,11 +92,11 @@ module _ (i : Input) where
   unfolding inputEnded
   end-over h = rw (lt-ltb 3 (i .phase) h)
 
-  pub end-early : i .phase < 3 → ended.Short (phased 4 i) ≡ inputEnded i
+  pub end-early : i .phase < 3 → ended.No15 (phased 4 i) ≡ inputEnded i
   unfolding inputEnded
   end-early h = rw (le-ltb 3 (i .phase) (omega arith), lt-ltb (i .phase) 3 h)
 
-  pub end-few : i .phase ≤ 3 → 3 ≤ i .phase → 0 < i .left → ended.Short (phased 4 i) ≡ inputEnded i
+  pub end-few : i .phase ≤ 3 → 3 ≤ i .phase → 0 < i .left → ended.No15 (phased 4 i) ≡ inputEnded i
   unfolding inputEnded
   end-few g h l = rw (le-ltb 3 (i .phase) g, le-ltb (i .phase) 3 h, lt-ltb 0 (i .left) l)
 

@@ -10,7 +10,7 @@ use Rattle.pgm.specs.Samples.{wide, sampled, sampleOf}
 use Rattle.pgm.specs.InputSteps.{heightRead, readByte}
 use Rattle.pgm.specs.declared.header.Header.{Header}
 use Rattle.pgm.specs.declared.input.Input.{Input}
-use Rattle.pgm.specs.declared.input.Step.the-variants as steps
+use Rattle.pgm.specs.StepAnswer as steps
 
 -- the input's state at a phase: L levels, n heights to come of which none exceeds m, v the byte kept of a sample that is half read
 abbrev pub at : ℕ → ℕ → Header → ℕ → ℕ → Bool → ℕ → Input
@@ -24,7 +24,7 @@ module _ (most L : ℕ) (h : Header) (n m : ℕ) where
   -- the last byte of a sample u
   abbrev pub Lasts : Bool → ℕ → ℕ → ℕ → Type 0
   Lasts x v b u = (leb u m ≡ true → readByte most (at 3 L h (suc n) m x v) b ≡ steps.Height (at 3 L h n m false 0) u)
-      × (leb u m ≡ false → readByte most (at 3 L h (suc n) m x v) b ≡ steps.Refused (at 4 L h (suc n) m x v) 16)
+      × (leb u m ≡ false → readByte most (at 3 L h (suc n) m x v) b ≡ steps.No (at 4 L h (suc n) m x v) 16)
 
   pub second-byte : (v b : ℕ) → wide m ≡ true → Lasts true v b (256 * v + b)
   unfolding readByte heightRead sampleOf sampled

@@ -9,8 +9,8 @@ use lib.Dec.{leb}
 use Rattle.numbers.specs.Signal.{pick}
 use Rattle.pgm.specs.Samples.{wide, pairsOf, samplesOf, fitting, exceeds, heightsOf, noByte, sampled, sampleOf, Taken, takenOn, takes}
 use Rattle.pgm.specs.declared.samples.Samples.{Samples}
-use Rattle.pgm.specs.declared.samples.Sample.{Sample}
-use Rattle.pgm.specs.declared.samples.Sample.the-variants.{Half, Height, TooLarge}
+use Rattle.pgm.specs.SampleAnswer.{SampleAnswer}
+use Rattle.pgm.specs.SampleAnswer.{Half, Height, No16}
 
 abbrev state : ℕ → Bool → ℕ → Samples
 state m h v = record { largest = m; half = h; high = v }
@@ -61,11 +61,11 @@ module _ (m : ℕ) where
 abbrev pub takesOn : Taken → List ℕ → List ℕ
 takesOn t s = t .heights ++ pick (t .over) [] (takes (t .state) s .heights)
 
-cut-step : (x : Samples) (y : Sample) (s t : List ℕ) → ((x : Samples) → takes x (s ++ t) .heights ≡ takesOn (takes x s) t)
+cut-step : (x : Samples) (y : SampleAnswer) (s t : List ℕ) → ((x : Samples) → takes x (s ++ t) .heights ≡ takesOn (takes x s) t)
     → takenOn (λ y. takes y (s ++ t)) x y .heights ≡ takesOn (takenOn (λ y. takes y s) x y) t
 cut-step x (Half y) s t e = e y
 cut-step x (Height v) s t e = ap (λ l. v ∷ l) (e (noByte (x .largest)))
-cut-step x TooLarge s t e = refl
+cut-step x No16 s t e = refl
 
 pub cut-heights : (s t : List ℕ) (x : Samples) → takes x (s ++ t) .heights ≡ takesOn (takes x s) t
 unfolding takes

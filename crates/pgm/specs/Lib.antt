@@ -1,3 +1,7 @@
+pub mod NextAnswer
+pub mod SampleAnswer
+pub mod StepAnswer
+pub mod EndedAnswer
 pub mod Characters
 pub mod Limits
 pub mod Header

@@ -6,17 +6,17 @@ use lib.Dec.{leb}
 use Rattle.numbers.specs.Signal.{pick}
 unfoldable pub use Rattle.pgm_runs.specs.Runs.{wide, sampleSize, pairsOf, samplesOf, fitting, exceeds, heightsOf}
 use Rattle.pgm.specs.declared.samples.Samples.{Samples}
-use Rattle.pgm.specs.declared.samples.Sample.{Sample}
-use Rattle.pgm.specs.declared.samples.Sample.the-variants.{Half, Height, TooLarge}
+use Rattle.pgm.specs.SampleAnswer.{SampleAnswer}
+use Rattle.pgm.specs.SampleAnswer.{Half, Height, No16}
 
 abbrev pub noByte : ℕ → Samples
 noByte m = record { largest = m; half = false; high = 0 }
 
 -- a whole sample
-unfoldable pub sampled : ℕ → ℕ → Sample
-sampled m v = pick (leb v m) (Height v) TooLarge
+unfoldable pub sampled : ℕ → ℕ → SampleAnswer
+sampled m v = pick (leb v m) (Height v) No16
 
-unfoldable pub sampleOf : Samples → ℕ → Sample
+unfoldable pub sampleOf : Samples → ℕ → SampleAnswer
 sampleOf x b =
     pick (wide (x .largest))
     (pick (x .half) (sampled (x .largest) (256 * x .high + b)) (Half (record { largest = x .largest; half = true; high = b })))
@@ -28,10 +28,10 @@ pub record Taken : Type 0 where
   pub over : Bool
   pub state : Samples
 
-abbrev pub takenOn : (Samples → Taken) → Samples → Sample → Taken
+abbrev pub takenOn : (Samples → Taken) → Samples → SampleAnswer → Taken
 takenOn f x (Half y) = f y
 takenOn f x (Height v) = let t = f (noByte (x .largest)) in record { heights = v ∷ t .heights; over = t .over; state = t .state }
-takenOn f x TooLarge = record { heights = []; over = true; state = x }
+takenOn f x No16 = record { heights = []; over = true; state = x }
 
 -- byte after byte, until a sample is too large
 unfoldable pub takes : Samples → List ℕ → Taken

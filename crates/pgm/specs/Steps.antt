@@ -8,8 +8,8 @@ use Rattle.pgm.specs.Characters.{space, lineEnd, digit, digitValue}
 use Rattle.pgm.specs.Limits.{maxField}
 use Rattle.pgm.specs.Header.{Read, found, short, wrong, Size, sized}
 use Rattle.pgm.specs.declared.header.Header.{Header}
-use Rattle.pgm.specs.declared.header.Next.{Next}
-use Rattle.pgm.specs.declared.header.Next.the-variants.{More, Done, Refused}
+use Rattle.pgm.specs.NextAnswer.{NextAnswer}
+use Rattle.pgm.specs.NextAnswer.{More, Done, No15}
 
 -- at a stage, no digit of its number read yet: c, inside a comment
 abbrev pub staged : ℕ → Bool → ℕ → ℕ → ℕ → Header
@@ -19,25 +19,25 @@ abbrev pub begun : ℕ → Header
 begun k = staged k false 0 0 0
 
 -- before the gaps
-unfoldable pub expected : Bool → ℕ → Next
-expected right k = pick right (More (begun k)) Refused
+unfoldable pub expected : Bool → ℕ → NextAnswer
+expected right k = pick right (More (begun k)) No15
 
 -- inside a comment, or after it
 abbrev pub commented : Bool → Header → Header
 commented c h = record { stage = h .stage; comment = c; any = h .any; number = h .number; width = h .width; height = h .height; largest = h .largest }
 
 -- a gap's last byte: the one after the largest value ends the header
-unfoldable pub gapEnded : Header → Next
+unfoldable pub gapEnded : Header → NextAnswer
 gapEnded h =
     pick (eqb (h .stage) 6)
-    (pick (sized (h .width) (h .height) (h .largest)) (Done (h .width) (h .height) (h .largest)) Refused)
+    (pick (sized (h .width) (h .height) (h .largest)) (Done (h .width) (h .height) (h .largest)) No15)
     (More (commented false h))
 
 -- a gap's first byte, and a byte of a comment
-unfoldable pub gapRead : Header → ℕ → Next
-gapRead h b = pick (space b) (gapEnded h) (pick (eqb b 35) (More (commented true h)) Refused)
+unfoldable pub gapRead : Header → ℕ → NextAnswer
+gapRead h b = pick (space b) (gapEnded h) (pick (eqb b 35) (More (commented true h)) No15)
 
-unfoldable pub commentRead : Header → ℕ → Next
+unfoldable pub commentRead : Header → ℕ → NextAnswer
 commentRead h b = pick (lineEnd b) (gapEnded h) (More h)
 
 -- the number of a stage is read
@@ -60,13 +60,13 @@ numbered v h = record {
 }
 
 -- a byte of a number, of the gaps before it, or of the gap after it
-unfoldable pub inNumber : Header → ℕ → Next
+unfoldable pub inNumber : Header → ℕ → NextAnswer
 inNumber h b =
     pick (digit b)
     (More (numbered (min (10 * h .number + digitValue b) (suc maxField)) h))
     (gapRead (pick (h .any) (numberEnded h) h) b)
 
-unfoldable pub stepOf : Header → ℕ → Next
+unfoldable pub stepOf : Header → ℕ → NextAnswer
 stepOf h b =
     pick (eqb (h .stage) 0) (expected (eqb b 80) 1)
     (pick (eqb (h .stage) 1) (expected (eqb b 53) 2)
@@ -82,10 +82,10 @@ pub data Fed : Type 0 where
   bad : Fed
 
 -- after a step: f reads on, s is left over
-abbrev pub stepped : (Header → Fed) → List ℕ → Next → Fed
+abbrev pub stepped : (Header → Fed) → List ℕ → NextAnswer → Fed
 stepped f s (More h) = f h
 stepped f s (Done w n m) = ended w n m s
-stepped f s Refused = bad
+stepped f s No15 = bad
 
 unfoldable pub feed : Header → List ℕ → Fed
 feed h [] = still h

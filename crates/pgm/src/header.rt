@@ -5,6 +5,7 @@ use pgm_bytes::characters;
 ghost use mathlib.Core.Path.{_≡_};
 ghost use mathlib.Core.Bool.{true, false};
 ghost use Rattle.pgm.specs.Header.{side, sized};
+ghost use Rattle.pgm.specs.NextAnswer.{ofNext};
 ghost use Rattle.pgm.specs.Steps.{staged, begun, expected, commented, gapEnded, gapRead, commentRead, numberEnded, inNumber, stepOf};
 
 // What the bytes so far have told. Stage 0 waits for P, 1 for 5, 2 for the first gap, 3 reads the width, 4 the height, 5 the largest value, 6 the
@@ -64,7 +65,7 @@ fn at_stage(stage: usize, width: usize, height: usize, largest: usize) -> Header
 
 // Before the gaps: a byte that is right leads to the next stage.
 fn expect(right: bool, stage: usize) -> Next
-    ensures { λ r. ⌜ r ≡ expected right stage ⌝ }
+    ensures { λ r. ⌜ ofNext r ≡ expected right stage ⌝ }
 {
     if right {
         Next::More(at_stage(stage, 0, 0, 0))
@@ -96,7 +97,7 @@ impl Header {
 
     // The last byte of a gap.
     fn end_gap(self) -> Next
-        ensures { λ r. ⌜ r ≡ gapEnded self ⌝ }
+        ensures { λ r. ⌜ ofNext r ≡ gapEnded self ⌝ }
     {
         if self.stage != 6 {
             return Next::More(self.with_comment(false));
@@ -109,7 +110,7 @@ impl Header {
 
     // The first byte of a gap.
     fn step_gap(self, byte: u8) -> Next
-        ensures { λ r. ⌜ r ≡ gapRead self byte ⌝ }
+        ensures { λ r. ⌜ ofNext r ≡ gapRead self byte ⌝ }
     {
         if characters::is_space(byte) {
             return self.end_gap();
@@ -121,7 +122,7 @@ impl Header {
     }
 
     fn step_comment(self, byte: u8) -> Next
-        ensures { λ r. ⌜ r ≡ commentRead self byte ⌝ }
+        ensures { λ r. ⌜ ofNext r ≡ commentRead self byte ⌝ }
     {
         if characters::is_line_end(byte) {
             return self.end_gap();
@@ -144,7 +145,7 @@ impl Header {
     }
 
     fn step_number(self, byte: u8) -> Next
-        ensures { λ r. ⌜ r ≡ inNumber self byte ⌝ }
+        ensures { λ r. ⌜ ofNext r ≡ inNumber self byte ⌝ }
     {
         if characters::is_digit(byte) {
             return Next::More(Header {
@@ -165,7 +166,7 @@ impl Header {
 
     // The header with one byte more.
     pub fn step(self, byte: u8) -> Next
-        ensures { λ r. ⌜ r ≡ stepOf self byte ⌝ }
+        ensures { λ r. ⌜ ofNext r ≡ stepOf self byte ⌝ }
     {
         let stage = self.stage;
         if stage == 0 {

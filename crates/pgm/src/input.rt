@@ -10,6 +10,8 @@ ghost use mathlib.Core.Path.{_≡_};
 ghost use Prim.Native.Nat.{_-_};
 ghost use Rattle.pgm.specs.InputSteps.{startAt, phased, levelDigit, levelsRead, lineFeedRead, shapeRead, headerRead, heightRead, readByte};
 ghost use Rattle.pgm.specs.InputSteps.{inputEnded, heightsCame};
+ghost use Rattle.pgm.specs.StepAnswer.{ofStep};
+ghost use Rattle.pgm.specs.EndedAnswer.{ofEnded};
 
 pub struct Input {
     // 0 waits for the digit, 1 for the line feed, 2 reads the header, 3 the heights, 4 reads no more
@@ -96,7 +98,7 @@ impl Input {
     }
 
     fn read_levels(self, byte: u8, most: usize) -> Step
-        ensures { λ r. ⌜ r ≡ levelsRead most self byte ⌝ }
+        ensures { λ r. ⌜ ofStep r ≡ levelsRead most self byte ⌝ }
     {
         if !is_level(byte, most) {
             return Step::Refused(self.at_phase(4), 15);
@@ -113,7 +115,7 @@ impl Input {
     }
 
     fn read_line_feed(self, byte: u8) -> Step
-        ensures { λ r. ⌜ r ≡ lineFeedRead self byte ⌝ }
+        ensures { λ r. ⌜ ofStep r ≡ lineFeedRead self byte ⌝ }
     {
         if byte == b'\n' {
             Step::More(self.at_phase(2))
@@ -123,7 +125,7 @@ impl Input {
     }
 
     fn begin(self, width: usize, height: usize, largest: usize) -> Step
-        ensures { λ r. ⌜ r ≡ shapeRead self width height largest ⌝ }
+        ensures { λ r. ⌜ ofStep r ≡ shapeRead self width height largest ⌝ }
     {
         let left = limits::cells(width, height);
         if left == 0 {
@@ -144,7 +146,7 @@ impl Input {
     }
 
     fn read_header(self, byte: u8) -> Step
-        ensures { λ r. ⌜ r ≡ headerRead self byte ⌝ }
+        ensures { λ r. ⌜ ofStep r ≡ headerRead self byte ⌝ }
     {
         let header = self.header;
         match header.step(byte) {
@@ -164,7 +166,7 @@ impl Input {
     }
 
     fn read_height(self, byte: u8) -> Step
-        ensures { λ r. ⌜ r ≡ heightRead self byte ⌝ }
+        ensures { λ r. ⌜ ofStep r ≡ heightRead self byte ⌝ }
     {
         if self.left == 0 {
             return Step::Refused(self.at_phase(4), 15);
@@ -195,7 +197,7 @@ impl Input {
 
     // One byte more; the levels are 1 to `most`.
     pub fn read(self, byte: u8, most: usize) -> Step
-        ensures { λ r. ⌜ r ≡ readByte most self byte ⌝ }
+        ensures { λ r. ⌜ ofStep r ≡ readByte most self byte ⌝ }
     {
         let phase = self.phase;
         if phase == 0 {
@@ -215,7 +217,7 @@ impl Input {
 
     // No byte more.
     pub fn end(self) -> Ended
-        ensures { λ r. ⌜ r ≡ inputEnded self ⌝ }
+        ensures { λ r. ⌜ ofEnded r ≡ inputEnded self ⌝ }
     {
         let phase = self.phase;
         if 3 < phase {

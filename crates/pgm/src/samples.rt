@@ -1,6 +1,7 @@
 // Samples of one byte or two, the most significant first. A state may hold half a sample, so the bytes may be cut anywhere.
 use pgm_runs::runs;
 ghost use mathlib.Core.Path.{_≡_};
+ghost use Rattle.pgm.specs.SampleAnswer.{ofSample};
 ghost use Rattle.pgm.specs.Samples.{noByte, sampled, sampleOf};
 
 pub struct Samples {
@@ -31,7 +32,7 @@ impl Samples {
     }
 
     pub fn step(self, byte: u8) -> Sample
-        ensures { λ r. ⌜ r ≡ sampleOf self byte ⌝ }
+        ensures { λ r. ⌜ ofSample r ≡ sampleOf self byte ⌝ }
     {
         if !runs::is_wide(self.largest) {
             return checked(runs::single(byte), self.largest);
@@ -48,7 +49,7 @@ impl Samples {
 }
 
 fn checked(sample: u16, largest: usize) -> Sample
-    ensures { λ r. ⌜ r ≡ sampled largest sample ⌝ }
+    ensures { λ r. ⌜ ofSample r ≡ sampled largest sample ⌝ }
 {
     if runs::is_within(sample, largest) {
         return Sample::Height(sample);

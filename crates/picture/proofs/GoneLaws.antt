@@ -1,101 +1,79 @@
 -- Calls that read and write, one after the other. Assumes nothing.
-use mathlib.Core.Path.{_≡_, refl, sym, ap, _∙_}
+use mathlib.Core.Path.{_≡_, refl, sym, ap, ap₂, _∙_}
 use mathlib.Core.Bool.{Bool, true, false}
-use mathlib.Core.List.{List, [], _∷_, _++_, append-assoc}
+use mathlib.Core.List.{List, [], _∷_}
 use Prim.Native.Nat.{ℕ, _+_, _-_, _*_, _≤_, _<_}
 use native.Mathlib.Omega.{arith}
 use native.Mathlib.Numerals.{add-one}
 use native.Mathlib.Decide.{decLt}
 use lib.Dec.{eqb}
-use lib.ListN.{length, drop, getD, length-append}
+use lib.ListN.{length, drop, getD}
 use lib.Seq.{drop-cons}
 use borrow.Author.Tests.{eq-eqb, ne-eqb}
 use Rattle.numbers.specs.Signal.{pick}
-use Rattle.text.proofs.TextLaws.{wrote-none, wrote-size, wrote-on}
-use Rattle.picture.specs.Machine.{settled, byteRead, owed, Went, Writes, quiet, Stops, full, idle, Onward, on, off}
+use Rattle.text.specs.Moves.{Went, Stops, full, idle}
+use Rattle.text.proofs.TextLaws.{wrote-none, wrote-size}
+use Rattle.text.proofs.MoveLaws.{one, went-not, went-on, stops-in}
+use Rattle.picture.specs.Machine.{Kept, kept, settled, byteRead, Move, reads, busyOn, Writes, quiet, Onward, on, off}
 use Rattle.picture.specs.declared.rewriting.Rewriting.{Rewriting}
-use Rattle.picture.proofs.MachineLaws.{read-owed}
 
 -- ---- one call
-pub went-not : (r : Rewriting) (z p o : List ℕ) (a b : ℕ) → a ≤ length p → b ≤ length o → Went r z p a a o o b b r z
-went-not r z p o a b h g = record { bytes = []; text = []; goes = λ e v. refl; read = refl; used = omega arith; part = h; wrote = wrote-none b o g }
-
 pub read-went : (r r′ : Rewriting) (z z′ p o : List ℕ) (a b : ℕ) → r .part .kind ≡ 0 → a < length p → b ≤ length o
-    → r′ ≡ byteRead r z (getD p a 0) .state → z′ ≡ byteRead r z (getD p a 0) .row → Went r z p a (a + 1) o o b b r′ z′
+    → r′ ≡ byteRead r z (getD p a 0) .state → z′ ≡ byteRead r z (getD p a 0) .row → Went Move (kept r z) p a (a + 1) o o b b (kept r′ z′)
 read-went r r′ z z′ p o a b k h g e f = record {
   bytes = getD p a 0 ∷ [];
   text = [];
-  goes = λ d v. read-owed d r z (getD p a 0) v k ∙ ap (λ s. owed d s (byteRead r z (getD p a 0) .row) v) (sym e) ∙ ap (λ y. owed d r′ y v) (sym f);
+  goes = one (reads (getD p a 0) k refl refl (ap₂ kept e f));
   read = drop-cons p a 0 h ∙ ap (λ m. getD p a 0 ∷ drop m p) (sym (add-one a));
   used = refl;
   part = omega arith;
   wrote = wrote-none b o g;
 }
 
-pub writes-went : {r r′ : Rewriting} {z p o o′ : List ℕ} {a b b′ : ℕ} → a ≤ length p → Writes r z o o′ b b′ r′ → Went r z p a a o o′ b b′ r′ z
+pub writes-went : {r r′ : Rewriting} {z p o o′ : List ℕ} {a b b′ : ℕ} → a ≤ length p → Writes r z o o′ b b′ r′
+    → Went Move (kept r z) p a a o o′ b b′ (kept r′ z)
 writes-went h w = record { bytes = []; text = w .text; goes = w .goes; read = refl; used = omega arith; part = h; wrote = w .wrote }
 
--- ---- one after the other
-pub went-on : {r r₁ r₂ : Rewriting} {z z₁ z₂ p o o₁ o₂ : List ℕ} {a a₁ a₂ b b₁ b₂ : ℕ} → Went r z p a a₁ o o₁ b b₁ r₁ z₁
-    → Went r₁ z₁ p a₁ a₂ o₁ o₂ b₁ b₂ r₂ z₂ → Went r z p a a₂ o o₂ b b₂ r₂ z₂
-went-on {r} {r₁} {r₂} {z} {z₁} {z₂} {p = p} {a₂ = a₂} f g = record {
-  bytes = f .bytes ++ g .bytes;
-  text = f .text ++ g .text;
-  goes =
-      λ e v. ap (owed e r z) (append-assoc (f .bytes) (g .bytes) v)
-      ∙ f .goes e (g .bytes ++ v)
-      ∙ ap (λ l. f .text ++ l) (g .goes e v)
-      ∙ sym (append-assoc (f .text) (g .text) (owed e r₂ z₂ v));
-  read = f .read ∙ ap (λ l. f .bytes ++ l) (g .read) ∙ sym (append-assoc (f .bytes) (g .bytes) (drop a₂ p));
-  used = omega (arith, f .used, g .used, length-append (f .bytes) (g .bytes));
-  part = g .part;
-  wrote = wrote-on (f .wrote) (g .wrote);
-}
-
 -- ---- turns
-quiet-most : (r : Rewriting) → quiet r ≤ 1
-quiet-most r = go (eqb (r .part .kind) 0)
+quiet-most : (s : Kept) → quiet s ≤ 1
+quiet-most s = go (eqb (busyOn s) 0)
   where
     go : (t : Bool) → pick t 1 0 ≤ 1
     go true = omega arith
     go false = omega arith
 
-pub read-on : (r r′ : Rewriting) (p o : List ℕ) (a b : ℕ) → Onward r r′ p a (a + 1) o b b true
-read-on r r′ p o a b = on (omega (arith, quiet-most r))
+pub read-on : (s s′ : Kept) (p o : List ℕ) (a b : ℕ) → Onward s s′ p a (a + 1) o b b true
+read-on s s′ p o a b = on (omega (arith, quiet-most s))
 
-quiet-settled : (r : Rewriting) → quiet (settled r) ≡ 1
+quiet-settled : (r : Rewriting) (z : List ℕ) → quiet (kept (settled r) z) ≡ 1
 unfolding settled
-quiet-settled r = refl
+quiet-settled r z = refl
 
 pub write-on : {r r′ : Rewriting} {z p o o′ : List ℕ} {a b b′ : ℕ} → (r .part .kind ≡ 0 → ⊥) → b < length o → Writes r z o o′ b b′ r′
-    → Onward r r′ p a a o b b′ true
-write-on {r} {r′} {o = o} {a = a} {b = b} {b′ = b′} d h w = on (go (quiet r) (ap (λ t. pick t 1 0) (ne-eqb (r .part .kind) 0 d)))
+    → Onward (kept r z) (kept r′ z) p a a o b b′ true
+write-on {r} {r′} {z} {o = o} {a = a} {b = b} {b′ = b′} d h w = on (go (quiet (kept r z)) (ap (λ t. pick t 1 0) (ne-eqb (r .part .kind) 0 d)))
   where
-    go : (q : ℕ) → q ≡ 0 → 2 * a + b + q < 2 * a + b′ + quiet r′
+    go : (q : ℕ) → q ≡ 0 → 2 * a + b + q < 2 * a + b′ + quiet (kept r′ z)
     go q e =
         elim (decLt b′ (length o)) [
-          | yes k ↦ omega (arith, w .wrote .place, ap quiet (w .end k) ∙ quiet-settled r)
+          | yes k ↦ omega (arith, w .wrote .place, ap (λ q. quiet (kept q z)) (w .end k) ∙ quiet-settled r z)
           | no k ↦ omega (arith, w .wrote .place, w .wrote .room)
         ]
 
-pub data Pending (r : Rewriting) (p : List ℕ) (a : ℕ) (o : List ℕ) (b : ℕ) : Bool → Type 0 where
-  more : Pending r p a o b true
-  over : (i : Bool) → Stops r p a o b i → Pending r p a o b false
+pub data Pending (s : Kept) (p : List ℕ) (a : ℕ) (o : List ℕ) (b : ℕ) : Bool → Type 0 where
+  more : Pending s p a o b true
+  over : (i : Bool) → Stops busyOn s p a o b i → Pending s p a o b false
 
 -- so far a feed has gone: y is the row area, d what stands in the area o to write to, a and b the places in the piece and in that area
 pub record Gone (r : Rewriting) (z p o : List ℕ) (s : Rewriting) (y d : List ℕ) (a b : ℕ) (g : Bool) : Type 0 where
   pub row : length y ≡ length z
-  pub went : Went r z p 0 a o d 0 b s y
-  pub pending : Pending s p a o b g
+  pub went : Went Move (kept r z) p 0 a o d 0 b (kept s y)
+  pub pending : Pending (kept s y) p a o b g
 
 pub start : (r : Rewriting) (z p o : List ℕ) → Gone r z p o r z o 0 0 true
-start r z p o = record { row = refl; went = went-not r z p o 0 0 (omega arith) (omega arith); pending = more }
+start r z p o = record { row = refl; went = went-not p o 0 0 (omega arith) (omega arith); pending = more }
 
-stops-in : {r : Rewriting} {p o d : List ℕ} {a b : ℕ} {i : Bool} → length d ≡ length o → Stops r p a d b i → Stops r p a o b i
-stops-in e (full h f) = full h (f ∙ e)
-stops-in e (idle h f) = idle h f
-
-then-pending : {r r′ : Rewriting} {p o d : List ℕ} {a a′ b b′ : ℕ} {g : Bool} → length d ≡ length o → Onward r r′ p a a′ d b b′ g → Pending r′ p a′ o b′ g
+then-pending : {s s′ : Kept} {p o d : List ℕ} {a a′ b b′ : ℕ} {g : Bool} → length d ≡ length o → Onward s s′ p a a′ d b b′ g → Pending s′ p a′ o b′ g
 then-pending e (on h) = more
 then-pending e (off i h) = over i (stops-in e h)
 
@@ -109,19 +87,19 @@ module _ {r : Rewriting} {z p o : List ℕ} {s : Rewriting} {y d : List ℕ} {a 
   pub area-room : b ≤ length d
   area-room = omega (arith, f .went .wrote .room, size)
 
-  pub turned : (s′ : Rewriting) (y′ : List ℕ) {d′ : List ℕ} {a′ b′ : ℕ} {g′ : Bool} → length y′ ≡ length y → Went s y p a a′ d d′ b b′ s′ y′
-      → Onward s s′ p a a′ d b b′ g′ → Gone r z p o s′ y′ d′ a′ b′ g′
+  pub turned : (s′ : Rewriting) (y′ : List ℕ) {d′ : List ℕ} {a′ b′ : ℕ} {g′ : Bool} → length y′ ≡ length y
+      → Went Move (kept s y) p a a′ d d′ b b′ (kept s′ y′) → Onward (kept s y) (kept s′ y′) p a a′ d b b′ g′ → Gone r z p o s′ y′ d′ a′ b′ g′
   turned s′ y′ e w h = record { row = e ∙ f .row; went = went-on (f .went) w; pending = then-pending size h }
 
   -- the end: it says whether it waits for input
-  pub stops : g ≡ false → Stops s p a o b (eqb (s .part .kind) 0)
+  pub stops : g ≡ false → Stops busyOn (kept s y) p a o b (eqb (s .part .kind) 0)
   stops e = go (f .pending) e
     where
-      told : {i : Bool} → Stops s p a o b i → Stops s p a o b (eqb (s .part .kind) 0)
+      told : {i : Bool} → Stops busyOn (kept s y) p a o b i → Stops busyOn (kept s y) p a o b (eqb (s .part .kind) 0)
       told (full h x) = rw (ne-eqb (s .part .kind) 0 (λ z. omega arith)) (full h x)
       told (idle h x) = rw (eq-eqb (s .part .kind) 0 h) (idle h x)
 
-      go : {j : Bool} → Pending s p a o b j → j ≡ false → Stops s p a o b (eqb (s .part .kind) 0)
+      go : {j : Bool} → Pending (kept s y) p a o b j → j ≡ false → Stops busyOn (kept s y) p a o b (eqb (s .part .kind) 0)
       go more x = let z : _≡_ {A = ℕ} 0 1 = cc in absurd (omega arith)
       go (over i h) x = told h
 
@@ -129,15 +107,15 @@ module _ {r : Rewriting} {z p o : List ℕ} {s : Rewriting} {y d : List ℕ} {a 
 abbrev pub ahead : Bool → ℕ
 ahead g = pick g 2 0
 
-unfoldable pub left : Rewriting → List ℕ → List ℕ → ℕ → ℕ → Bool → ℕ
+unfoldable pub left : Kept → List ℕ → List ℕ → ℕ → ℕ → Bool → ℕ
 left s p d a b g = 2 * (length p - a) + (length d - b) + (1 - quiet s) + ahead g
 
-less-by : (d′ : List ℕ) {s s′ : Rewriting} {p d : List ℕ} {a a′ b b′ : ℕ} {g : Bool} → Onward s s′ p a a′ d b b′ g → a ≤ a′ → b ≤ b′ → a′ ≤ length p
+less-by : (d′ : List ℕ) {s s′ : Kept} {p d : List ℕ} {a a′ b b′ : ℕ} {g : Bool} → Onward s s′ p a a′ d b b′ g → a ≤ a′ → b ≤ b′ → a′ ≤ length p
     → b′ ≤ length d → length d′ ≡ length d → left s′ p d′ a′ b′ g < left s p d a b true
 unfolding left
 less-by d′ {s} {s′} (on h) u v x y z = omega (arith, quiet-most s, quiet-most s′)
 less-by d′ {s} {s′} (off i h) u v x y z = omega (arith, quiet-most s, quiet-most s′)
 
-pub turn-less : {s s′ : Rewriting} {y y′ p d d′ : List ℕ} {a a′ b b′ : ℕ} {g : Bool} → Went s y p a a′ d d′ b b′ s′ y′ → Onward s s′ p a a′ d b b′ g
+pub turn-less : {s s′ : Kept} {p d d′ : List ℕ} {a a′ b b′ : ℕ} {g : Bool} → Went Move s p a a′ d d′ b b′ s′ → Onward s s′ p a a′ d b b′ g
     → left s′ p d′ a′ b′ g < left s p d a b true
 turn-less {d′ = d′} w h = less-by d′ h (omega (arith, w .used)) (omega (arith, w .wrote .place)) (w .part) (w .wrote .room) (wrote-size (w .wrote))

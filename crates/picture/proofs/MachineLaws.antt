@@ -11,12 +11,13 @@ use borrow.Author.Tests.{eq-eqb, ne-eqb, lt-ltb, le-ltb, le-leb, lt-leb}
 use Rattle.numbers.specs.Signal.{pick}
 use Rattle.pgm.specs.InputSteps.{phased, readByte, inputEnded}
 use Rattle.picture.specs.Machine.{partOf, noPart, partText, rewriting, moved, textOn, leftOn, settled, doneOn, rowPart, begunOn, heightKept}
-use Rattle.picture.specs.Machine.{stepTo, byteRead, owed, endTo, endOf}
+use Rattle.picture.specs.Machine.{Kept, stepTo, byteRead, owed, endTo, endOf, Move, partly, wholly, reads}
+use Rattle.text.specs.Moves.{Goes, stays, then}
 use Rattle.pgm.specs.declared.input.Input.{Input}
-use Rattle.pgm.specs.declared.input.Step.{Step}
-use Rattle.pgm.specs.declared.input.Step.the-variants as steps
-use Rattle.pgm.specs.declared.input.Ended.{Ended}
-use Rattle.pgm.specs.declared.input.Ended.the-variants as ended
+use Rattle.pgm.specs.StepAnswer.{StepAnswer}
+use Rattle.pgm.specs.StepAnswer as steps
+use Rattle.pgm.specs.EndedAnswer.{EndedAnswer}
+use Rattle.pgm.specs.EndedAnswer as ended
 use Rattle.picture.specs.declared.parts.Part.{Part}
 use Rattle.picture.specs.declared.rewriting.Rewriting.{Rewriting}
 
@@ -49,11 +50,11 @@ pub ends-on : (r : Rewriting) → (r .part .kind ≡ 0 → ⊥) → r ≡ endOf 
 unfolding endOf
 ends-on r d = rw (ne-eqb (r .part .kind) 0 d)
 
-pub ends-as : (r : Rewriting) (y : Ended) → r .part .kind ≡ 0 → y ≡ inputEnded (r .input) → endTo r y ≡ endOf r
+pub ends-as : (r : Rewriting) (y : EndedAnswer) → r .part .kind ≡ 0 → y ≡ inputEnded (r .input) → endTo r y ≡ endOf r
 unfolding endOf
 ends-as r y d e = rw (eq-eqb (r .part .kind) 0 d) (ap (endTo r) e)
 
-module _ (r : Rewriting) (z : List ℕ) (b : ℕ) (y : Step) (e : y ≡ readByte 0 (r .input) b) where
+module _ (r : Rewriting) (z : List ℕ) (b : ℕ) (y : StepAnswer) (e : y ≡ readByte 0 (r .input) b) where
   pub step-state : stepTo r z y .state ≡ byteRead r z b .state
   unfolding byteRead
   step-state = ap (λ y. stepTo r z y .state) e
@@ -116,9 +117,9 @@ end-settled : (r : Rewriting) → r .part .kind ≡ 0 → endOf (settled r) ≡ 
 unfolding endOf settled
 end-settled r k = rw (eq-eqb (r .part .kind) 0 k, ne-eqb (r .part .kind) 2 (λ d. omega arith)) (same (inputEnded (r .input)))
   where
-    same : (y : Ended) → endTo (moved r (r .input) (r .filled) noPart) y ≡ endTo r y
+    same : (y : EndedAnswer) → endTo (moved r (r .input) (r .filled) noPart) y ≡ endTo r y
     same (ended.Whole i) = refl
-    same (ended.Short i) = refl
+    same (ended.No15 i) = refl
     same ended.Before = refl
 
 -- a byte is read
@@ -126,11 +127,11 @@ read-settled : (r : Rewriting) (z : List ℕ) (b : ℕ) → r .part .kind ≡ 0 
 unfolding byteRead settled begunOn heightKept
 read-settled r z b e = rw (ne-eqb (r .part .kind) 2 (λ d. omega arith)) (same (readByte 0 (r .input) b))
   where
-    same : (y : Step) → stepTo (moved r (r .input) (r .filled) noPart) z y ≡ stepTo r z y
+    same : (y : StepAnswer) → stepTo (moved r (r .input) (r .filled) noPart) z y ≡ stepTo r z y
     same (steps.More i) = refl
     same (steps.Begun i W H) = refl
     same (steps.Height i v) = refl
-    same (steps.Refused i q) = refl
+    same (steps.No i q) = refl
 
 pub read-owed : (e : Bool) (r : Rewriting) (z : List ℕ) (b : ℕ) (v : List ℕ) → r .part .kind ≡ 0
     → owed e r z (b ∷ v) ≡ owed e (byteRead r z b .state) (byteRead r z b .row) v
@@ -151,3 +152,19 @@ end-owed r z k =
 pub idle-owed : (r : Rewriting) (z : List ℕ) → r .part .kind ≡ 0 → owed false r z [] ≡ []
 unfolding owed
 idle-owed r z k = append-nil (leftOn r z) ∙ left-none r z k
+
+-- ---- moves: what was owed is what they write and what is owed then
+move-owed : {s s′ : Kept} {u t : List ℕ} → Move s u t s′ → (e : Bool) (v : List ℕ)
+    → owed e (s .state) (s .row) (u ++ v) ≡ t ++ owed e (s′ .state) (s′ .row) v
+move-owed {s} (partly m h g eu et es) e v = rw (eu, et, es) (write-owed e (s .state) (s .row) m v)
+move-owed {s} (wholly h eu et es) e v = rw (eu, et, es) (settle-owed e (s .state) (s .row) v)
+move-owed {s} (reads b h eu et es) e v = rw (eu, et, es) (read-owed e (s .state) (s .row) b v h)
+
+pub goes-owed : {s s′ : Kept} {u t : List ℕ} → Goes Move s u t s′ → (e : Bool) (v : List ℕ)
+    → owed e (s .state) (s .row) (u ++ v) ≡ t ++ owed e (s′ .state) (s′ .row) v
+goes-owed (stays s) e v = refl
+goes-owed {s} {s′} (then {u = u} {v = w} {t = t} {w = x} g m) e v =
+    ap (owed e (s .state) (s .row)) (append-assoc u w v)
+    ∙ goes-owed g e (w ++ v)
+    ∙ ap (λ l. t ++ l) (move-owed m e v)
+    ∙ sym (append-assoc t x (owed e (s′ .state) (s′ .row) v))

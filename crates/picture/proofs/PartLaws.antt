@@ -12,9 +12,9 @@ use borrow.Author.Tests.{eq-eqb, ne-eqb}
 use Rattle.text.specs.Text.{Wrote}
 use Rattle.picture.specs.Form.{formHead, rowBytes}
 use Rattle.text.specs.Refusal.{refusedLine}
-use Rattle.picture.specs.Machine.{partText, textOn, leftOn, settled, doneOn, owed, Writes}
+use Rattle.text.proofs.MoveLaws.{one}
+use Rattle.picture.specs.Machine.{kept, partText, textOn, leftOn, settled, doneOn, partly, wholly, Writes}
 use Rattle.picture.specs.declared.rewriting.Rewriting.{Rewriting}
-use Rattle.picture.proofs.MachineLaws.{settle-owed, write-owed}
 
 -- ---- which text it is
 module _ (W H : ℕ) (z : List ℕ) (k q : ℕ) where
@@ -87,15 +87,12 @@ module _ (r : Rewriting) (z o part : List ℕ) (a n : ℕ) (h : a ≤ length o) 
   unfolding leftOn
   wrote = written-in o part a n (drop (r .part .done) (textOn r z)) h some fits ep
 
-  pub settle-writes : (r′ : Rewriting) → r′ ≡ settled r → n < length o - a → Writes r z o (take a o ++ part) a (a + n) r′
-  settle-writes r′ e g =
+  pub settle-writes : (r′ : Rewriting) → 0 < r .part .kind → r′ ≡ settled r → n < length o - a → Writes r z o (take a o ++ part) a (a + n) r′
+  settle-writes r′ y e g =
       let all : n ≡ length (leftOn r z) = omega (arith, size, length-drop a o) in
       record {
         text = take n (leftOn r z);
-        goes =
-            λ d v. settle-owed d r z v
-            ∙ ap (λ l. l ++ owed d (settled r) z v) (sym (take-whole n (leftOn r z) (sym all)))
-            ∙ ap (λ q. take n (leftOn r z) ++ owed d q z v) (sym e);
+        goes = one (wholly y refl (take-whole n (leftOn r z) (sym all)) (ap (λ q. kept q z) e));
         wrote = wrote;
         end = λ _. e;
       }
@@ -103,10 +100,11 @@ module _ (r : Rewriting) (z o part : List ℕ) (a n : ℕ) (h : a ≤ length o) 
       take-whole : (n : ℕ) (l : List ℕ) → length l ≡ n → take n l ≡ l
       take-whole n l e = ap (take n) (sym (append-nil l)) ∙ take-at l [] n e
 
-  pub part-writes : (r′ : Rewriting) → r′ ≡ doneOn (r .part .done + n) r → length o - a ≤ n → Writes r z o (take a o ++ part) a (a + n) r′
-  part-writes r′ e g = record {
+  pub part-writes : (r′ : Rewriting) → 0 < r .part .kind → r′ ≡ doneOn (r .part .done + n) r → length o - a ≤ n
+      → Writes r z o (take a o ++ part) a (a + n) r′
+  part-writes r′ y e g = record {
     text = take n (leftOn r z);
-    goes = λ d v. write-owed d r z n v ∙ ap (λ q. take n (leftOn r z) ++ owed d q z v) (sym e);
+    goes = one (partly n y some refl refl (ap (λ q. kept q z) e));
     wrote = wrote;
     end = λ k. absurd (omega (arith, fits));
   }
@@ -138,8 +136,9 @@ module _ (r : Rewriting) (z o part : List ℕ) (a k n : ℕ) (h : a ≤ length o
   ep′ : part ≡ paste (drop a o) 0 (drop (r .part .done) (textOn r z)) n
   ep′ = ep ∙ ap (λ l. paste l 0 (drop (r .part .done) (textOn r z)) n) (mid-length o a k ek)
 
-  pub settle-put : (r′ : Rewriting) → r′ ≡ settled r → n < length o - a → Writes r z o (putMid a k o part) a (a + n) r′
-  settle-put r′ e g = subst (λ l. Writes r z o l a (a + n) r′) (sym (put-back o part a k ek h)) (settle-writes r z o part a n h en′ ep′ r′ e g)
+  pub settle-put : (r′ : Rewriting) → 0 < r .part .kind → r′ ≡ settled r → n < length o - a → Writes r z o (putMid a k o part) a (a + n) r′
+  settle-put r′ y e g = subst (λ l. Writes r z o l a (a + n) r′) (sym (put-back o part a k ek h)) (settle-writes r z o part a n h en′ ep′ r′ y e g)
 
-  pub part-put : (r′ : Rewriting) → r′ ≡ doneOn (r .part .done + n) r → length o - a ≤ n → Writes r z o (putMid a k o part) a (a + n) r′
-  part-put r′ e g = subst (λ l. Writes r z o l a (a + n) r′) (sym (put-back o part a k ek h)) (part-writes r z o part a n h en′ ep′ r′ e g)
+  pub part-put : (r′ : Rewriting) → 0 < r .part .kind → r′ ≡ doneOn (r .part .done + n) r → length o - a ≤ n
+      → Writes r z o (putMid a k o part) a (a + n) r′
+  part-put r′ y e g = subst (λ l. Writes r z o l a (a + n) r′) (sym (put-back o part a k ek h)) (part-writes r z o part a n h en′ ep′ r′ y e g)

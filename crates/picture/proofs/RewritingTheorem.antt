@@ -1,6 +1,12 @@
--- What a rewriting owes from its start is what the definition makes of the bytes, while more may come and at the end of the input: `owed-due`, `owed-whole`;
--- and so it is whatever the pieces: `pieces-due`, `pieces-whole`. Its row area has room for every row. Assumes nothing.
-use mathlib.Core.Path.{_≡_, refl, sym, ap, ap₂, _∙_}
+-- What a rewriting owes from its start is what the definition makes of the bytes, while more may come and at the end of the input: `owed-due`, `owed-whole`.
+-- Whatever the moves, with a row area that has room for every row:
+--     moves-due      where nothing is being written, `dueOf` the bytes read is written
+--     moves-prefix   at any time, a beginning of it
+--     moves-over     where a refusal ended it, `rewritingOf` every input that begins with the bytes read
+--     moves-whole    after the end of the input and where nothing is being written, `rewritingOf` the bytes read
+--     moves-partly   after the end of the input, at any time, a beginning of it
+-- and so it is whatever the calls, their pieces and areas: `pieces-due`, `pieces-whole`. Assumes nothing.
+use mathlib.Core.Path.{_≡_, refl, sym, ap, ap₂, subst, _∙_}
 use mathlib.Core.Bool.{Bool, true, false}
 use mathlib.Core.List.{List, [], _∷_, _++_, append-nil, append-assoc}
 use Prim.Native.Nat.{ℕ, zero, suc, _+_, _*_, _/_, _%_, _≤_, _<_}
@@ -16,8 +22,8 @@ use Rattle.pgm.specs.Header.{Read, found, short, wrong, andThen, Size, headerOf
 use Rattle.pgm.specs.Steps.{begun, stepOf, feed, stepped, readBy}
 use Rattle.pgm.specs.Samples.{wide, sampleSize, pairsOf, samplesOf, fitting, exceeds, heightsOf}
 use Rattle.pgm.specs.declared.header.Header.{Header}
-use Rattle.pgm.specs.declared.header.Next.{Next}
-use Rattle.pgm.specs.declared.header.Next.the-variants as next
+use Rattle.pgm.specs.NextAnswer.{NextAnswer}
+use Rattle.pgm.specs.NextAnswer as next
 use Rattle.pgm.specs.Limits.{maxPictureWidth, sizeFits}
 use Rattle.pgm.specs.Heights.{heightsTaken, tooLarge, refusalIn}
 use Rattle.pgm.proofs.LimitLaws.{size-fits}
@@ -29,29 +35,31 @@ use Rattle.text.specs.Refusal.{refusedLine, answerLine}
 use Rattle.picture.specs.Rewriting.{sizeEnd, pictureOf, cells, heightsIn, wholeRows, rowsOf, bodyOf, rewritingOf, bodyDue, dueOf}
 use Rattle.pgm.specs.InputSteps.{phased, refuse15, shapeRead, nextRead, readByte, inputEnded}
 use Rattle.picture.specs.Machine.{partOf, noPart, partText, rewriting, started, leftOn, settled, rowPart, heightKept}
-use Rattle.picture.specs.Machine.{stepTo, byteRead, endTo, endOf, owed, Ran, none, call}
+use Rattle.text.specs.Moves.{Goes, Session}
+use Rattle.text.proofs.MoveLaws.{session-goes}
+use Rattle.picture.specs.Machine.{Kept, kept, stepTo, byteRead, endTo, endOf, owed, Move, busyOn, endKept}
 use Rattle.pgm.specs.declared.input.Input.{Input}
-use Rattle.pgm.specs.declared.input.Step.{Step}
-use Rattle.pgm.specs.declared.input.Step.the-variants as steps
-use Rattle.pgm.specs.declared.input.Ended.{Ended}
-use Rattle.pgm.specs.declared.input.Ended.the-variants as ended
+use Rattle.pgm.specs.StepAnswer.{StepAnswer}
+use Rattle.pgm.specs.StepAnswer as steps
+use Rattle.pgm.specs.EndedAnswer.{EndedAnswer}
+use Rattle.pgm.specs.EndedAnswer as ended
 use Rattle.picture.specs.declared.parts.Part.{Part}
 use Rattle.picture.specs.declared.rewriting.Rewriting.{Rewriting}
 use Rattle.pgm.proofs.InputCases.{header-case, height-none, phase-2, phase-3, phase-on, end-early, end-over, end-few, end-whole}
 use Rattle.pgm.proofs.InputReads.{at, first-byte, Lasts, second-byte, lone-byte}
-use Rattle.picture.proofs.MachineLaws.{begun-room, kept-some, left-none, settle-owed, read-owed, ends-as, end-owed, idle-owed}
+use Rattle.picture.proofs.MachineLaws.{begun-room, kept-some, left-none, settle-owed, read-owed, ends-as, end-owed, idle-owed, goes-owed}
 
 abbrev idle : Input → ℕ → ℕ → ℕ → Rewriting
 idle i W H f = rewriting i W H f noPart
 
 -- a byte read as y
-read-as : (e : Bool) (i : Input) (W H f : ℕ) (z : List ℕ) (b : ℕ) (u : List ℕ) (y : Step) → readByte 0 i b ≡ y
+read-as : (e : Bool) (i : Input) (W H f : ℕ) (z : List ℕ) (b : ℕ) (u : List ℕ) (y : StepAnswer) → readByte 0 i b ≡ y
     → owed e (idle i W H f) z (b ∷ u) ≡ owed e (stepTo (idle i W H f) z y .state) (stepTo (idle i W H f) z y .row) u
 unfolding byteRead
 read-as e i W H f z b u y h = read-owed e (idle i W H f) z b u refl ∙ ap (λ y. owed e (stepTo (idle i W H f) z y .state) (stepTo (idle i W H f) z y .row) u) h
 
 -- the end of the input, read as y
-ends-to : (i : Input) (W H f : ℕ) (z : List ℕ) (y : Ended) → y ≡ inputEnded i → owed true (idle i W H f) z [] ≡ leftOn (endTo (idle i W H f) y) z
+ends-to : (i : Input) (W H f : ℕ) (z : List ℕ) (y : EndedAnswer) → y ≡ inputEnded i → owed true (idle i W H f) z [] ≡ leftOn (endTo (idle i W H f) y) z
 unfolding owed
 ends-to i W H f z y h =
     end-owed (idle i W H f) z refl
@@ -59,7 +67,7 @@ ends-to i W H f z y h =
     ∙ ap (λ r. leftOn r z) (sym (ends-as (idle i W H f) y refl h))
 
 -- ---- after a refusal nothing is read
-after-refusal : (e : Bool) (i : Input) (W H f : ℕ) (z u : List ℕ) → i .phase ≡ 4 → owed e (idle i W H f) z u ≡ []
+after-refusal : (e : Bool) (i : Input) (W H f : ℕ) (z u : List ℕ) → 3 < i .phase → owed e (idle i W H f) z u ≡ []
 after-refusal true i W H f z [] h =
     ends-to i W H f z ended.Before (end-over i (omega arith)) ∙ left-none (idle i W H f) z refl
 after-refusal false i W H f z [] h = idle-owed (idle i W H f) z refl
@@ -75,7 +83,7 @@ refused-settled : (i : Input) (W H f q : ℕ) → settled (rewriting i W H f (pa
 unfolding settled
 refused-settled i W H f q = refl
 
-refused : (e : Bool) (i : Input) (W H f q : ℕ) (z u : List ℕ) → i .phase ≡ 4 → owed e (rewriting i W H f (partOf 3 q)) z u ≡ refusedLine q
+refused : (e : Bool) (i : Input) (W H f q : ℕ) (z u : List ℕ) → 3 < i .phase → owed e (rewriting i W H f (partOf 3 q)) z u ≡ refusedLine q
 refused e i W H f q z u h =
     settle-owed e (rewriting i W H f (partOf 3 q)) z u
     ∙ ap₂ _++_ (refused-left i W H f q z) (ap (λ r. owed e r z u) (refused-settled i W H f q) ∙ after-refusal e i W H f z u h)
@@ -154,7 +162,7 @@ module _ (e : Bool) (W : ℕ) (some : 0 < W) (g : List ℕ) (few : length g < W)
 too-few : (e : Bool) (h : Header) (W H n m : ℕ) (x : Bool) (v f : ℕ) (z : List ℕ) → owed e (idle (at 3 0 h (suc n) m x v) W H f) z [] ≡ answerLine (pick e 15 0)
 too-few true h W H n m x v f z =
     let i : Input = at 3 0 h (suc n) m x v in
-    ends-to i W H f z (ended.Short (phased 4 i)) (end-few i (omega arith) (omega arith) (omega arith)) ∙ refused-left (phased 4 i) W H f 15 z
+    ends-to i W H f z (ended.No15 (phased 4 i)) (end-few i (omega arith) (omega arith) (omega arith)) ∙ refused-left (phased 4 i) W H f 15 z
 too-few false h W H n m x v f z = idle-owed (idle (at 3 0 h (suc n) m x v) W H f) z refl
 
 -- and with none to come
@@ -167,7 +175,7 @@ enough false h W H m x v f z = idle-owed (idle (at 3 0 h 0 m x v) W H f) z refl
 beyond : (e : Bool) (h : Header) (W H m : ℕ) (x : Bool) (v f b : ℕ) (z u : List ℕ) → owed e (idle (at 3 0 h 0 m x v) W H f) z (b ∷ u) ≡ refusedLine 15
 beyond e h W H m x v f b z u =
     let i : Input = at 3 0 h 0 m x v in
-    read-as e i W H f z b u (refuse15 i) (sym (height-none i b refl ∙ phase-3 0 i b refl)) ∙ refused e (phased 4 i) W H f 15 z u refl
+    read-as e i W H f z b u (refuse15 i) (sym (height-none i b refl ∙ phase-3 0 i b refl)) ∙ refused e (phased 4 i) W H f 15 z u (omega arith)
 
 -- ---- a height goes into the row
 set-taken : (z : List ℕ) (f u : ℕ) (l : List ℕ) → f < length z → take (f + 1) (set z f u) ++ l ≡ take f z ++ (u ∷ l)
@@ -261,8 +269,8 @@ module _ (e : Bool) (h : Header) (W H : ℕ) (some : 0 < W) (m : ℕ) where
       ∙ put-height e h W H some m n f u z r a c g (at 3 0 h (suc n) m x v)
       ∙ sym (one-more e W some (take f z) (row-few f z a c) m n u s r l k)
   lasts n f z x v b u s r false k d l a c g =
-      read-as e (at 3 0 h (suc n) m x v) W H f z b r (steps.Refused (at 4 0 h (suc n) m x v) 16) (d .1 k)
-      ∙ refused e (at 4 0 h (suc n) m x v) W H f 16 z r refl
+      read-as e (at 3 0 h (suc n) m x v) W H f z b r (steps.No (at 4 0 h (suc n) m x v) 16) (d .1 k)
+      ∙ refused e (at 4 0 h (suc n) m x v) W H f 16 z r (omega arith)
       ∙ sym (too-large e W some (take f z) (row-few f z a c) m n u s r l k)
 
   pairs : wide m ≡ true → (r : List ℕ) (n : ℕ) → Owes e h W H m n r
@@ -312,7 +320,7 @@ early k = at 2 0 k 0 0 false 0
 
 module _ (e : Bool) (z : List ℕ) (room : maxPictureWidth ≤ length z) where
   -- what is owed of the bytes s after a byte of the header
-  abbrev after : Header → List ℕ → Step → List ℕ
+  abbrev after : Header → List ℕ → StepAnswer → List ℕ
   after k s y = owed e (stepTo (idle (early k) 0 0 0) z y .state) (stepTo (idle (early k) 0 0 0) z y .row) s
 
   begun-due : (k : Header) (w h m : ℕ) (r : List ℕ) → 0 < w → w ≤ maxPictureWidth
@@ -332,17 +340,17 @@ module _ (e : Bool) (z : List ℕ) (room : maxPictureWidth ≤ length z) where
   shape k w h m r true d =
       let f = size-fits w h d .columns in
       rw d (begun-due k w h m r (f .0) (f .1))
-  shape k w h m r false d = rw d (refused e (phased 4 (early k)) 0 0 0 15 z r refl)
+  shape k w h m r false d = rw d (refused e (phased 4 (early k)) 0 0 0 15 z r (omega arith))
 
-  step-due : (k : Header) (x : Next) (s : List ℕ) → ((k : Header) → owed e (idle (early k) 0 0 0) z s ≡ pictureDue e (andThen (readBy (feed k s)) sizeEnd))
+  step-due : (k : Header) (x : NextAnswer) (s : List ℕ) → ((k : Header) → owed e (idle (early k) 0 0 0) z s ≡ pictureDue e (andThen (readBy (feed k s)) sizeEnd))
       → after k s (nextRead (early k) x) ≡ pictureDue e (andThen (readBy (stepped (λ y. feed y s) s x)) sizeEnd)
   step-due k (next.More y) s g = g y
   step-due k (next.Done w h m) s g = shape k w h m s (sizeFits w h) refl
-  step-due k next.Refused s g = refused e (phased 4 (early k)) 0 0 0 15 z s refl
+  step-due k next.No15 s g = refused e (phased 4 (early k)) 0 0 0 15 z s (omega arith)
 
   ends-early : (d : Bool) (k : Header) → owed d (idle (early k) 0 0 0) z [] ≡ answerLine (pick d 15 0)
   ends-early true k =
-      ends-to (early k) 0 0 0 z (ended.Short (phased 4 (early k))) (end-early (early k) (omega arith))
+      ends-to (early k) 0 0 0 z (ended.No15 (phased 4 (early k))) (end-early (early k) (omega arith))
       ∙ refused-left (phased 4 (early k)) 0 0 0 15 z
   ends-early false k = idle-owed (idle (early k) 0 0 0) z refl
 
@@ -350,7 +358,7 @@ module _ (e : Bool) (z : List ℕ) (room : maxPictureWidth ≤ length z) where
   unfolding feed
   header [] k = ends-early e k
   header (b ∷ s) k =
-      let y : Step = nextRead (early k) (stepOf k b) in
+      let y : StepAnswer = nextRead (early k) (stepOf k b) in
       read-as e (early k) 0 0 0 z b s y (sym (header-case (early k) b (stepOf k b) refl ∙ phase-2 0 (early k) b refl))
       ∙ step-due k (stepOf k b) s (header s)
 
@@ -399,23 +407,81 @@ due-whole s = same (pictureOf s)
 pub owed-whole : (z s : List ℕ) → maxPictureWidth ≤ length z → owed true started z s ≡ rewritingOf s
 owed-whole z s room = owed-due true z s room ∙ due-whole s
 
--- ---- in pieces
-ran-owed : {r r′ : Rewriting} {z z′ s t : List ℕ} → Ran r z s t r′ z′ → (e : Bool) (v : List ℕ) → owed e r z (s ++ v) ≡ t ++ owed e r′ z′ v
-ran-owed none e v = refl
-ran-owed {r} {r′} {z} {z′} (call {s = s} {t = t} w f) e v =
-    ap (owed e r z) (append-assoc (w .bytes) s v)
-    ∙ w .goes e (s ++ v)
-    ∙ ap (λ l. w .text ++ l) (ran-owed f e v)
-    ∙ sym (append-assoc (w .text) t (owed e r′ z′ v))
+-- ---- once a refusal or the end of the input came, no byte counts
+rests : (e : Bool) (r : Rewriting) (z v : List ℕ) → 3 < r .input .phase → owed e r z v ≡ leftOn r z
+unfolding settled
+rests e r z v h =
+    settle-owed e r z v
+    ∙ ap (λ l. leftOn r z ++ l) (after-refusal e (r .input) (r .width) (r .height) (settled r .filled) z v h)
+    ∙ append-nil (leftOn r z)
 
--- whatever the pieces: what has been written and what is still owed is what is due of the bytes read
-pub pieces-due : {r : Rewriting} {z z′ s t : List ℕ} (e : Bool) → maxPictureWidth ≤ length z → Ran started z s t r z′ → t ++ owed e r z′ [] ≡ dueOf e s
-pieces-due {z = z} {s = s} e room f = sym (ran-owed f e []) ∙ ap (owed e started z) (append-nil s) ∙ owed-due e z s room
+pub end-rests : (r : Rewriting) → r .part .kind ≡ 0 → 3 < endOf r .input .phase
+end-rests r k =
+    elim (decLt 3 (r .input .phase)) [
+      | yes h ↦ from ended.Before (end-over (r .input) h) h
+      | no h ↦
+          elim (decLt (r .input .phase) 3) [
+            | yes g ↦ from (ended.No15 (phased 4 (r .input))) (end-early (r .input) g) (omega arith)
+            | no g ↦
+                elim (decLt 0 (r .input .left)) [
+                  | yes l ↦ from (ended.No15 (phased 4 (r .input))) (end-few (r .input) (omega arith) (omega arith) l) (omega arith)
+                  | no l ↦ from (ended.Whole (phased 4 (r .input))) (end-whole (r .input) (omega arith) (omega arith) (omega arith)) (omega arith)
+                ]
+          ]
+    ]
+  where
+    from : (y : EndedAnswer) → y ≡ inputEnded (r .input) → 3 < endTo r y .input .phase → 3 < endOf r .input .phase
+    from y e h = subst (λ q. 3 < q .input .phase) (ends-as r y k e) h
 
--- and once all is written, before the input's end and after it, the text is the definition's
-pub pieces-whole : {r r′ : Rewriting} {z z′ z″ s t v t′ : List ℕ} → maxPictureWidth ≤ length z → Ran started z s t r z′ → r .part .kind ≡ 0
-    → Ran (endOf r) z′ v t′ r′ z″ → v ≡ [] → r′ .part .kind ≡ 0 → t ++ t′ ≡ rewritingOf s
-pieces-whole {r} {r′} {z} {z′} {z″} {s} {t} {v} {t′} room f k g n d =
-    let last : owed false (endOf r) z′ [] ≡ t′ =
-    ap (owed false (endOf r) z′) (sym (append-nil v ∙ n)) ∙ ran-owed g false [] ∙ ap (λ l. t′ ++ l) (idle-owed r′ z″ d) ∙ append-nil t′ in
-    ap (λ l. t ++ l) (sym (end-owed r z′ k ∙ last)) ∙ pieces-due true room f ∙ due-whole s
+-- ---- whatever the moves
+module _ {z u t : List ℕ} {s : Kept} (room : maxPictureWidth ≤ length z) (reads : Goes Move (kept started z) u t s) where
+  owed-on : (e : Bool) (v : List ℕ) → t ++ owed e (s .state) (s .row) v ≡ dueOf e (u ++ v)
+  owed-on e v = sym (goes-owed reads e v) ∙ owed-due e z (u ++ v) room
+
+  -- what has been written and what is still owed is what is due of the bytes read
+  pub moves-owed : (e : Bool) → t ++ owed e (s .state) (s .row) [] ≡ dueOf e u
+  moves-owed e = owed-on e [] ∙ ap (dueOf e) (append-nil u)
+
+  pub moves-due : busyOn s ≡ 0 → t ≡ dueOf false u
+  moves-due k = sym (append-nil t) ∙ ap (λ l. t ++ l) (sym (idle-owed (s .state) (s .row) k)) ∙ moves-owed false
+
+  pub moves-prefix : (r : List ℕ) × (t ++ r ≡ dueOf false u)
+  moves-prefix = (owed false (s .state) (s .row) [], moves-owed false)
+
+  -- a refusal came: whatever else would have come (v)
+  pub moves-over : (v : List ℕ) → busyOn s ≡ 0 → 3 < s .state .input .phase → t ≡ rewritingOf (u ++ v)
+  moves-over v k h =
+      sym (append-nil t)
+      ∙ ap (λ l. t ++ l) (sym (rests true (s .state) (s .row) v h ∙ left-none (s .state) (s .row) k))
+      ∙ owed-on true v
+      ∙ due-whole (u ++ v)
+
+  -- the end of the input; a rewriting that is fed after it (v) takes no notice
+  module _ (k : busyOn s ≡ 0) {v t₂ : List ℕ} {s₂ : Kept} (writes : Goes Move (endKept s) v t₂ s₂) where
+    ended-owed : (t ++ t₂) ++ owed false (s₂ .state) (s₂ .row) [] ≡ rewritingOf u
+    ended-owed =
+        let h = end-rests (s .state) k in
+        append-assoc t t₂ (owed false (s₂ .state) (s₂ .row) [])
+        ∙ ap (λ l. t ++ l)
+        (sym (goes-owed writes false [])
+        ∙ ap (owed false (endOf (s .state)) (s .row)) (append-nil v)
+        ∙ rests false (endOf (s .state)) (s .row) v h
+        ∙ sym (rests false (endOf (s .state)) (s .row) [] h)
+        ∙ sym (end-owed (s .state) (s .row) k))
+        ∙ moves-owed true
+        ∙ due-whole u
+
+    pub moves-whole : busyOn s₂ ≡ 0 → t ++ t₂ ≡ rewritingOf u
+    moves-whole d = sym (append-nil (t ++ t₂)) ∙ ap (λ l. (t ++ t₂) ++ l) (sym (idle-owed (s₂ .state) (s₂ .row) d)) ∙ ended-owed
+
+    pub moves-partly : (r : List ℕ) × ((t ++ t₂) ++ r ≡ rewritingOf u)
+    moves-partly = (owed false (s₂ .state) (s₂ .row) [], ended-owed)
+
+-- ---- whatever the calls: their pieces, areas and answers
+module _ {z u t : List ℕ} {s : Kept} (room : maxPictureWidth ≤ length z) (calls : Session Move (kept started z) u t s) where
+  pub pieces-due : (e : Bool) → t ++ owed e (s .state) (s .row) [] ≡ dueOf e u
+  pieces-due = moves-owed room (session-goes calls)
+
+  -- and once all is written, before the input's end and after it, the text is the definition's
+  pub pieces-whole : {v t₂ : List ℕ} {s₂ : Kept} → busyOn s ≡ 0 → Session Move (endKept s) v t₂ s₂ → busyOn s₂ ≡ 0 → t ++ t₂ ≡ rewritingOf u
+  pieces-whole k more = moves-whole room (session-goes calls) k (session-goes more)

@@ -1,5 +1,6 @@
--- A rewriting with its row area z, and the text that it owes: `owed`, what is left of the part that is being written and all that further bytes bring.
--- proofs/RewritingTheorem: from the start it is `dueOf` of the bytes, and `rewritingOf` of an input that ends with them.
+-- A rewriting with its row area z: what each byte makes of them, move by move, and the text that it owes: `owed`, what is left of the part that is being
+-- written and all that further bytes bring. proofs/RewritingTheorem: from the start it is `dueOf` of the bytes, and `rewritingOf` of an input that ends
+-- with them.
 use mathlib.Core.Path.{_≡_}
 use mathlib.Core.Bool.{Bool, true, false}
 use mathlib.Core.List.{List, [], _∷_, _++_}
@@ -8,14 +9,15 @@ use lib.Dec.{leb, ltb, eqb}
 use lib.ListN.{length, take, drop, set}
 use Rattle.numbers.specs.Signal.{pick}
 use Rattle.text.specs.Text.{Wrote}
+use Rattle.text.specs.Moves.{Goes, Stops}
 use Rattle.picture.specs.Form.{formHead, rowBytes}
 use Rattle.text.specs.Refusal.{refusedLine}
 use Rattle.pgm.specs.InputSteps.{startAt, phased, readByte, inputEnded}
 use Rattle.pgm.specs.declared.input.Input.{Input}
-use Rattle.pgm.specs.declared.input.Step.{Step}
-use Rattle.pgm.specs.declared.input.Step.the-variants as steps
-use Rattle.pgm.specs.declared.input.Ended.{Ended}
-use Rattle.pgm.specs.declared.input.Ended.the-variants as ended
+use Rattle.pgm.specs.StepAnswer.{StepAnswer}
+use Rattle.pgm.specs.StepAnswer as steps
+use Rattle.pgm.specs.EndedAnswer.{EndedAnswer}
+use Rattle.pgm.specs.EndedAnswer as ended
 use Rattle.picture.specs.declared.parts.Part.{Part}
 use Rattle.picture.specs.declared.rewriting.Rewriting.{Rewriting}
 
@@ -62,6 +64,7 @@ abbrev pub doneOn : ℕ → Rewriting → Rewriting
 doneOn d r = moved r (r .input) (r .filled) (record { kind = r .part .kind; number = r .part .number; done = d })
 
 -- ---- a byte
+-- a rewriting and what stands in its row area
 pub record Kept : Type 0 where
   pub state : Rewriting
   pub row : List ℕ
@@ -84,20 +87,20 @@ heightKept r i v z =
     (kept (moved r (phased 4 i) (r .filled) (partOf 3 5)) z)
     (kept (moved r i (r .filled + 1) (rowPart (r .filled + 1) (r .width))) (set z (r .filled) v))
 
-abbrev pub stepTo : Rewriting → List ℕ → Step → Kept
+abbrev pub stepTo : Rewriting → List ℕ → StepAnswer → Kept
 stepTo r z (steps.More i) = kept (moved r i (r .filled) noPart) z
 stepTo r z (steps.Begun i W H) = kept (begunOn r i W H (length z)) z
 stepTo r z (steps.Height i v) = heightKept r i v z
-stepTo r z (steps.Refused i q) = kept (moved r i (r .filled) (partOf 3 q)) z
+stepTo r z (steps.No i q) = kept (moved r i (r .filled) (partOf 3 q)) z
 
 unfoldable pub byteRead : Rewriting → List ℕ → ℕ → Kept
 byteRead r z b = stepTo r z (readByte 0 (r .input) b)
 
 -- ---- the end of the input
 -- once nothing is being written
-abbrev pub endTo : Rewriting → Ended → Rewriting
+abbrev pub endTo : Rewriting → EndedAnswer → Rewriting
 endTo r (ended.Whole i) = moved r i (r .filled) noPart
-endTo r (ended.Short i) = moved r i (r .filled) (partOf 3 15)
+endTo r (ended.No15 i) = moved r i (r .filled) (partOf 3 15)
 endTo r ended.Before = moved r (r .input) (r .filled) noPart
 
 unfoldable pub endOf : Rewriting → Rewriting
@@ -109,41 +112,41 @@ unfoldable pub owed : Bool → Rewriting → List ℕ → List ℕ → List ℕ
 owed e r z [] = leftOn r z ++ pick e (leftOn (endOf (settled r)) z) []
 owed e r z (b ∷ u) = leftOn r z ++ (let k = byteRead (settled r) z b in owed e (k .state) (k .row) u)
 
--- ---- the calls
--- from state r with row area z to r′ with z′: of the piece p the bytes from place a to a′ were read, into the area o text was written from place b to
--- b′, and what is owed is the rest
-pub record Went (r : Rewriting) (z p : List ℕ) (a a′ : ℕ) (o o′ : List ℕ) (b b′ : ℕ) (r′ : Rewriting) (z′ : List ℕ) : Type 0 where
-  pub bytes : List ℕ
-  pub text : List ℕ
-  pub goes : (e : Bool) (v : List ℕ) → owed e r z (bytes ++ v) ≡ text ++ owed e r′ z′ v
-  pub read : drop a p ≡ bytes ++ drop a′ p
-  pub used : a′ ≡ a + length bytes
-  pub part : a′ ≤ length p
-  pub wrote : Wrote text b b′ o o′
+-- ---- the moves: u is read, t is written, and all else of state and row area is as it was
+-- 0 where nothing is being written
+abbrev pub busyOn : Kept → ℕ
+busyOn s = s .state .part .kind
 
+-- what is left of the part
+abbrev pub leftIn : Kept → List ℕ
+leftIn s = leftOn (s .state) (s .row)
+
+pub data Move (s : Kept) (u t : List ℕ) (s′ : Kept) : Type 0 where
+  -- m bytes of the part are written
+  partly : (m : ℕ) → 0 < busyOn s → m ≤ length (leftIn s) → u ≡ [] → t ≡ take m (leftIn s)
+      → s′ ≡ kept (doneOn (s .state .part .done + m) (s .state)) (s .row) → Move s u t s′
+  -- it is written to its end
+  wholly : 0 < busyOn s → u ≡ [] → t ≡ leftIn s → s′ ≡ kept (settled (s .state)) (s .row) → Move s u t s′
+  -- a byte is read
+  reads : (b : ℕ) → busyOn s ≡ 0 → u ≡ b ∷ [] → t ≡ [] → s′ ≡ byteRead (s .state) (s .row) b → Move s u t s′
+
+-- the end of the input leaves the row area as it was
+abbrev pub endKept : Kept → Kept
+endKept s = kept (endOf (s .state)) (s .row)
+
+-- ---- the calls, whose piece, area and places are those of text/specs/Moves
 -- text is written into the area o from place b to b′, the row area z being only read: the part is written to its end, or all room is used
 pub record Writes (r : Rewriting) (z o o′ : List ℕ) (b b′ : ℕ) (r′ : Rewriting) : Type 0 where
   pub text : List ℕ
-  pub goes : (e : Bool) (v : List ℕ) → owed e r z v ≡ text ++ owed e r′ z v
+  pub goes : Goes Move (kept r z) [] text (kept r′ z)
   pub wrote : Wrote text b b′ o o′
   pub end : b′ < length o → r′ ≡ settled r
 
 -- 1 where nothing is being written
-abbrev pub quiet : Rewriting → ℕ
-quiet r = pick (eqb (r .part .kind) 0) 1 0
+abbrev pub quiet : Kept → ℕ
+quiet s = pick (eqb (busyOn s) 0) 1 0
 
--- it stops where something is being written and the area is full, or else (true) where the piece is used up
-pub data Stops (r : Rewriting) (p : List ℕ) (a : ℕ) (o : List ℕ) (b : ℕ) : Bool → Type 0 where
-  full : 0 < r .part .kind → b ≡ length o → Stops r p a o b false
-  idle : r .part .kind ≡ 0 → a ≡ length p → Stops r p a o b true
-
--- one turn of it, from r to r′: something was read or written, or it stops
-pub data Onward (r r′ : Rewriting) (p : List ℕ) (a a′ : ℕ) (o : List ℕ) (b b′ : ℕ) : Bool → Type 0 where
-  on : 2 * a + b + quiet r < 2 * a′ + b′ + quiet r′ → Onward r r′ p a a′ o b b′ true
-  off : (i : Bool) → Stops r′ p a′ o b′ i → Onward r r′ p a a′ o b b′ false
-
--- calls of `feed` one after the other, whatever the pieces and the areas: the bytes s were read and the text t written
-pub data Ran : Rewriting → List ℕ → List ℕ → List ℕ → Rewriting → List ℕ → Type 0 where
-  none : {r : Rewriting} {z : List ℕ} → Ran r z [] [] r z
-  call : {r r₁ r₂ : Rewriting} {z z₁ z₂ p o o′ s t : List ℕ} {a b : ℕ} (w : Went r z p 0 a o o′ 0 b r₁ z₁) → Ran r₁ z₁ s t r₂ z₂
-      → Ran r z (w .bytes ++ s) (w .text ++ t) r₂ z₂
+-- one turn of it, from s to s′: something was read or written, or it stops
+pub data Onward (s s′ : Kept) (p : List ℕ) (a a′ : ℕ) (o : List ℕ) (b b′ : ℕ) : Bool → Type 0 where
+  on : 2 * a + b + quiet s < 2 * a′ + b′ + quiet s′ → Onward s s′ p a a′ o b b′ true
+  off : (i : Bool) → Stops busyOn s′ p a′ o b′ i → Onward s s′ p a a′ o b b′ false

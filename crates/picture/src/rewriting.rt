@@ -11,7 +11,8 @@ ghost use lib.Dec.{eqb};
 ghost use lib.ListN.{length, getD};
 ghost use Rattle.numbers.specs.Signal.{pick};
 ghost use Rattle.pgm.specs.Limits.{maxPictureWidth};
-ghost use Rattle.picture.specs.Machine.{partOf, started, moved, settled, doneOn, rowPart, begunOn, heightKept, byteRead, Writes, Went, Stops};
+ghost use Rattle.text.specs.Moves.{Went, Stops};
+ghost use Rattle.picture.specs.Machine.{partOf, started, moved, settled, doneOn, rowPart, begunOn, kept, heightKept, byteRead, Move, busyOn, Writes};
 ghost use Rattle.picture.specs.Machine.{Onward, endOf};
 
 pub struct Rewriting {
@@ -160,9 +161,9 @@ impl Rewriting {
     // Reads a piece of the input and writes what it brings, until the area is full, or the piece is used up and nothing is left to write. The rest of
     // a piece is lent again.
     pub fn feed(self, piece: &[u8], row: &mut [u16], out: &mut [u8]) -> Fed
-        ensures { λ r. ⌜ Went self (now (row .entry)) (now (piece .entry)) 0 (r .used) (now (out .entry)) (now (out .exit)) 0 (r .written) (r .rewriting)
-            (now (row .exit)) ⌝ }
-        ensures { λ r. ⌜ Stops (r .rewriting) (now (piece .entry)) (r .used) (now (out .entry)) (r .written) (r .idle) ⌝ }
+        ensures { λ r. ⌜ Went Move (kept self (now (row .entry))) (now (piece .entry)) 0 (r .used) (now (out .entry)) (now (out .exit)) 0 (r .written)
+            (kept (r .rewriting) (now (row .exit))) ⌝ }
+        ensures { λ r. ⌜ Stops busyOn (kept (r .rewriting) (now (row .exit))) (now (piece .entry)) (r .used) (now (out .entry)) (r .written) (r .idle) ⌝ }
     {
         let mut state = self;
         let mut used = 0;
@@ -233,7 +234,7 @@ struct Written {
 
 // As much of the part as there is room for. Where some room is left, the part is written.
 fn write_on(rewriting: Rewriting, row: &[u16], out: &mut [u8], at: usize) -> Written
-    requires { ⌜ at ≤ length (now out) ⌝ }
+    requires { ⌜ (at ≤ length (now out)) × (0 < rewriting .part .kind) ⌝ }
     ensures { λ r. ⌜ Writes rewriting (now (row .entry)) (now (out .entry)) (now (out .exit)) at (r .place) (r .rewriting) ⌝ }
 {
     let part = rewriting.part;
@@ -268,9 +269,10 @@ fn turn(
     written: usize,
 ) -> Turned
     requires { ⌜ (used ≤ length (now piece)) × (written ≤ length (now out)) ⌝ }
-    ensures { λ r. ⌜ Went rewriting (now (row .entry)) (now (piece .entry)) used (r .used) (now (out .entry)) (now (out .exit)) written (r .written)
-        (r .rewriting) (now (row .exit)) ⌝ }
-    ensures { λ r. ⌜ Onward rewriting (r .rewriting) (now (piece .entry)) used (r .used) (now (out .entry)) written (r .written) (r .going) ⌝ }
+    ensures { λ r. ⌜ Went Move (kept rewriting (now (row .entry))) (now (piece .entry)) used (r .used) (now (out .entry)) (now (out .exit)) written
+        (r .written) (kept (r .rewriting) (now (row .exit))) ⌝ }
+    ensures { λ r. ⌜ Onward (kept rewriting (now (row .entry))) (kept (r .rewriting) (now (row .exit))) (now (piece .entry)) used (r .used)
+        (now (out .entry)) written (r .written) (r .going) ⌝ }
 {
     let part = rewriting.part;
     if part.kind == 0 {

@@ -1,7 +1,6 @@
 // What waits to be handed out.
 ghost use mathlib.Core.Path.{_≡_};
-ghost use Prim.Native.Nat.{_+_, _<_, _^_};
-ghost use Rattle.progress.specs.Waits.{noWait, seenFrom};
+ghost use Rattle.progress.specs.Waits.{noWait, seenInWords};
 
 // The level, from 1, of the set that is being handed out (0: nothing), the bands of it that are left, and where that level's stretch begins, counted as the
 // level is.
@@ -24,7 +23,7 @@ pub fn nothing() -> Wait
 
 // What waits of levels whose stretches begin at place a, seen from k levels above them.
 pub fn seen_from(k: usize, a: usize, r: Wait) -> Wait
-    ensures { λ q. ⌜ ((k + r .level < 2 ^ 64) × (a + r .offset < 2 ^ 64) → q ≡ seenFrom k a r) ⌝ }
+    ensures { λ q. ⌜ q ≡ seenInWords k a r ⌝ }
 {
     if r.level == 0 {
         return Wait {

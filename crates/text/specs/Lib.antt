@@ -1,3 +1,4 @@
 pub mod Decimal
 pub mod Text
 pub mod Refusal
+pub mod Moves

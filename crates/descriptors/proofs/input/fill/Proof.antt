@@ -20,9 +20,8 @@ same-length c = search needs
 
 returns : tie.Need-returns
 returns c =
-    let f = c .before .before .before in
-    let t = f .before .before in
-    fills-read _ _ (sym (t .before .reads-now .ensures) ∙ t .if1 .taken) (c .came .ensures) (f .read-some .ensures .0) (f .read-some .ensures .1)
+    let t = c .before .before .before .before .before .before in
+    fills-read _ (sym (t .before .reads-now .ensures) ∙ t .if1 .taken) (c .came .ensures)
 
 returns-2 : tie.Need-returns-2
 returns-2 c = keeps (sym (c .before .reads-now .ensures) ∙ c .if1 .left) refl refl

@@ -2,6 +2,7 @@
 use Prim.Native.Nat.{_≤_}
 use lib.ListN.{length}
 use borrow.Author.Needs.{needs, zero≤}
+use Rattle.descriptors.proofs.LeftLaws.{put-most}
 use Rattle.descriptors.proofs.output.send.Statement.{statement}
 use Rattle.descriptors.proofs.output.send.Tie as tie
 
@@ -24,7 +25,9 @@ loop-less : tie.Need-loop-less Inv-loop μ-loop
 loop-less c = search needs
 
 loop-again : tie.Need-loop-again Inv-loop μ-loop
-loop-again c = search needs
+loop-again c =
+    let i = c .before .before .before .before .before .loop in
+    put-most (c .try-write .result .got) (i .done .to) _ _ (i .inv) (c .try-write .ensures)
 
 returns : tie.Need-returns Inv-loop μ-loop
 returns c = search needs

@@ -1,9 +1,11 @@
 -- `listing::turn` meets its contract: it reads, or it writes, or it stops. Assumes nothing.
 use mathlib.Core.Bool.{true, false}
 use native.Mathlib.Omega.{arith}
-use Rattle.listing.specs.Moves.{full, idle, on, off}
+use Rattle.text.specs.Moves.{full, idle}
+use Rattle.listing.specs.Moves.{on, off}
 use borrow.Author.Needs.{needs}
-use Rattle.listing.proofs.MoveLaws.{reads-went, writes-went, went-not}
+use Rattle.text.proofs.MoveLaws.{went-not}
+use Rattle.listing.proofs.MoveLaws.{reads-went, writes-went}
 use Rattle.listing.proofs.listing.turn.Statement.{statement}
 use Rattle.listing.proofs.listing.turn.Tie as tie
 

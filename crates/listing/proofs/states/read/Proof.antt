@@ -3,6 +3,7 @@ use mathlib.Core.Path.{refl, sym, ap, _∙_}
 use lib.ListN.{length}
 use Rattle.wavelet.specs.Limits.{maxLevels}
 use Rattle.numbers.specs.Signal.{at}
+use Rattle.pgm.specs.StepAnswer.{ofStep}
 use Rattle.listing.specs.States.{listed, stateOf}
 use Rattle.listing.proofs.StateLaws.{read-as, began}
 use borrow.Author.Needs.{needs}
@@ -41,7 +42,7 @@ unfolding maxLevels
 returns c =
     let h = c .before .before in
     let y = h .before .before in
-    read-as _ _ _ _ _ _ (sym (h .next .given .1) ∙ y .read .ensures) (record { listing = ap (listed _ _) (c .none .ensures); store = refl; row = refl })
+    read-as _ _ _ _ _ _ (sym (ap ofStep (h .next .given .1)) ∙ y .read .ensures) (record { listing = ap (listed _ _) (c .none .ensures); store = refl; row = refl })
 
 same-length : tie.Need-same-length
 same-length c = search needs
@@ -54,7 +55,7 @@ returns-2 c =
     let y = h .before .before in
     let a = y .before .before .before .args in
     read-as (length (a .store .now)) (length (a .row .now)) (a .byte) (stateOf (a .listing) (at (a .store .now)) (at (a .row .now))) _ _
-    (sym (h .next2 .given .1) ∙ y .read .ensures) (began _ 0 _ _ _ _ _ _ _ (b .begin .ensures .0) (b .begin .ensures .1))
+    (sym (ap ofStep (h .next2 .given .1)) ∙ y .read .ensures) (began _ 0 _ _ _ _ _ _ _ (b .begin .ensures .0) (b .begin .ensures .1))
 
 same-length-2 : tie.Need-same-length-2
 same-length-2 c = search needs
@@ -68,14 +69,14 @@ returns-3 c =
     let o = c .before .before in
     let h = o .before .before .before .before in
     let y = h .before .before in
-    read-as _ _ _ _ _ _ (sym (h .next3 .given .1) ∙ y .read .ensures) (o .offer .ensures)
+    read-as _ _ _ _ _ _ (sym (ap ofStep (h .next3 .given .1)) ∙ y .read .ensures) (o .offer .ensures)
 
 returns-4 : tie.Need-returns-4
 unfolding maxLevels
 returns-4 c =
     let h = c .before .before in
     let y = h .before .before in
-    read-as _ _ _ _ _ _ (sym (h .next4 .given .1) ∙ y .read .ensures) (record { listing = c .refuse .ensures; store = refl; row = refl })
+    read-as _ _ _ _ _ _ (sym (ap ofStep (h .next4 .given .1)) ∙ y .read .ensures) (record { listing = c .refuse .ensures; store = refl; row = refl })
 
 pub read-spec : {M : Type 1} → statement M
 read-spec =

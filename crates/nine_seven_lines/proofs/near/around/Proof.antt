@@ -1,11 +1,12 @@
--- `nine_seven_lines::near::around` meets its contract: o is itself modulo 2, being at most 1. Assumes nothing.
+-- `nine_seven_lines::near::around` meets its contract, past the last high number too. Assumes nothing.
+use mathlib.Core.Path.{refl}
 use native.Mathlib.Omega.{arith}
 use Rattle.nine_seven_lines.proofs.NearLaws.{around-is}
 use Rattle.nine_seven_lines.proofs.near.around.Statement.{statement}
 use Rattle.nine_seven_lines.proofs.near.around.Tie as tie
 
 returns : tie.Need-returns
-returns c = λ few there. absurd (omega arith)
+returns c = record { there = λ h. absurd (omega (arith, h)); past = λ h. (refl, refl, refl, refl) }
 
 beside-requires : tie.Need-beside-requires
 beside-requires c κs = tt
@@ -17,7 +18,9 @@ far-right-requires : tie.Need-far-right-requires
 far-right-requires c κs = (omega arith, omega arith)
 
 returns-2 : tie.Need-returns-2
-returns-2 c = λ few there. around-is _ _ _ _ _ _ _ _ few (c .before .before .beside .ensures few) (c .before .far-left .ensures) (c .far-right .ensures)
+returns-2 c =
+    let b = c .before .before in
+    around-is _ _ _ _ _ _ _ _ (b .before .if1 .left) (b .beside .ensures) (c .before .far-left .ensures) (c .far-right .ensures)
 
 pub around-spec : {M : Type 1} → statement M
 around-spec = tie.close (tie.spec returns beside-requires far-left-requires far-right-requires returns-2)

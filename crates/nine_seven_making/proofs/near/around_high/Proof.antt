@@ -1,5 +1,6 @@
 -- `near::around_high` meets its contract. Assumes nothing.
 use native.Mathlib.Omega.{arith}
+use Rattle.nine_seven_lines.proofs.NearLaws.{around-few}
 use Rattle.nine_seven_making.proofs.NearRows.{around-slots}
 use Rattle.nine_seven_making.proofs.near.around_high.Statement.{statement}
 use Rattle.nine_seven_making.proofs.near.around_high.Tie as tie
@@ -40,7 +41,7 @@ returns c =
     let a = s .args in
     let is = h .high-count .ensures in
     around-slots (a .y) (a .m) (a .n) (s .pre .0) (s .pre .1) _ _ _ _ _ _ _ _ _ _ (l .low-count .ensures) is
-    (q .around .ensures (omega arith) (rw is (s .pre .1))) (first .low-slot .ensures) (second .low-slot2 .ensures) (third .low-slot3 .ensures)
+    (around-few _ (q .around .ensures) (omega arith) (rw is (s .pre .1))) (first .low-slot .ensures) (second .low-slot2 .ensures) (third .low-slot3 .ensures)
     (c .low-slot4 .ensures)
 
 pub around-high-spec : {M : Type 1} → statement M

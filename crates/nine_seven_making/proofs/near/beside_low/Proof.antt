@@ -1,5 +1,6 @@
 -- `near::beside_low` meets its contract. Assumes nothing.
 use native.Mathlib.Omega.{arith}
+use Rattle.nine_seven_lines.proofs.NearLaws.{beside-few}
 use Rattle.nine_seven_making.proofs.NearRows.{beside-slots}
 use Rattle.nine_seven_making.proofs.near.beside_low.Statement.{statement}
 use Rattle.nine_seven_making.proofs.near.beside_low.Tie as tie
@@ -23,7 +24,7 @@ returns c =
     let h = q .before in
     let s = h .before in
     let a = s .args in
-    beside-slots (a .y) (a .m) (a .n) (s .pre .0) (s .pre .1) (s .pre .2) _ _ _ _ _ (h .high-count .ensures) (q .beside .ensures (omega arith))
+    beside-slots (a .y) (a .m) (a .n) (s .pre .0) (s .pre .1) (s .pre .2) _ _ _ _ _ (h .high-count .ensures) (beside-few _ (q .beside .ensures) (omega arith))
     (first .high-slot .ensures) (c .high-slot2 .ensures)
 
 pub beside-low-spec : {M : Type 1} → statement M

@@ -2,6 +2,7 @@
 use Prim.Native.Nat.{_-_, _%_}
 use native.Mathlib.Omega.{arith}
 use Rattle.lifting.specs.Grid.{side}
+use Rattle.nine_seven_lines.proofs.NearLaws.{around-few}
 use Rattle.nine_seven_lines.specs.Near.{Around}
 use Rattle.nine_seven_sweep.proofs.CallLaws.{lows-within, high-room, few-other, HighPlaces, high-places, high-in-order}
 use Rattle.nine_seven_sweep.proofs.back.unpredict.Statement.{statement}
@@ -26,7 +27,7 @@ by : (q : tie.After-around) → (let s = q .before .before in
 by q =
     let low = q .before in
     let s = low .before in
-    q .around .ensures (few-other (s .args .y)) (high-room (side (s .args .y) (s .args .height)) _ (s .args .n) (low .lows .ensures) (s .pre .1))
+    around-few _ (q .around .ensures) (few-other (s .args .y)) (high-room (side (s .args .y) (s .args .height)) _ (s .args .n) (low .lows .ensures) (s .pre .1))
 
 rooms : (q : tie.After-around) → (let s = q .before .before in
     HighPlaces (s .args .y % 2) (s .args .n) (q .around .result .left) (q .around .result .right) (q .around .result .before) (q .around .result .after))

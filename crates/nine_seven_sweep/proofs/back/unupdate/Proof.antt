@@ -2,6 +2,7 @@
 use Prim.Native.Nat.{_%_}
 use native.Mathlib.Omega.{arith}
 use Rattle.lifting.specs.Grid.{side}
+use Rattle.nine_seven_lines.proofs.NearLaws.{beside-few}
 use Rattle.nine_seven_sweep.proofs.CallLaws.{lows-within, few, LowPlaces, low-places, low-in-order}
 use Rattle.nine_seven_sweep.proofs.back.unupdate.Statement.{statement}
 use Rattle.nine_seven_sweep.proofs.back.unupdate.Tie as tie
@@ -22,7 +23,7 @@ rooms q =
     let low = q .before in
     let s = low .before in
     low-places (side (s .args .y) (s .args .height)) (s .fits .height) _ (s .args .n) (s .pre .0) (low .lows .ensures) _ _
-    (q .beside .ensures (few (s .args .y))) (s .pre .1)
+    (beside-few _ (q .beside .ensures) (few (s .args .y))) (s .pre .1)
 
 mul-unupdate-row : tie.Need-mul-unupdate-row
 mul-unupdate-row c = rooms (c .before) .0 .0
@@ -61,7 +62,7 @@ returns c =
     let low = q .before in
     let s = low .before in
     low-in-order _ _ _ (side (s .args .y) (s .args .height)) (s .args .n) _ _ _ (low .lows .ensures) _ _ _
-    (q .beside .ensures (few (s .args .y))) (row .unupdate-row .ensures .1)
+    (beside-few _ (q .beside .ensures) (few (s .args .y))) (row .unupdate-row .ensures .1)
 
 pub unupdate-spec : {M : Type 1} → statement M
 unupdate-spec =

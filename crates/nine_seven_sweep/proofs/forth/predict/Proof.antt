@@ -1,6 +1,7 @@
 -- `forth::predict` meets its contract: the call by the rows that it goes by. Assumes nothing.
 use native.Mathlib.Omega.{arith}
 use Rattle.lifting.specs.Grid.{side}
+use Rattle.nine_seven_lines.proofs.NearLaws.{around-few}
 use Rattle.nine_seven_sweep.proofs.CallLaws.{lows-within, high-room, few-other, sum-there, high-in-halves}
 use Rattle.nine_seven_sweep.proofs.forth.predict.Statement.{statement}
 use Rattle.nine_seven_sweep.proofs.forth.predict.Tie as tie
@@ -37,7 +38,7 @@ returns c =
     let a = low .before .args in
     let e = low .lows .ensures in
     high-in-halves _ _ _ (side (a .y) (a .height)) (a .n) _ _ _ e _ _ _ _ _
-    (q .around .ensures (few-other (a .y)) (high-room (side (a .y) (a .height)) _ (a .n) e (low .before .pre .1))) (row .predict-row .ensures .1)
+    (around-few _ (q .around .ensures) (few-other (a .y)) (high-room (side (a .y) (a .height)) _ (a .n) e (low .before .pre .1))) (row .predict-row .ensures .1)
 
 pub predict-spec : {M : Type 1} → statement M
 predict-spec =

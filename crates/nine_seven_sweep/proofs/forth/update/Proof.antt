@@ -1,5 +1,6 @@
 -- `forth::update` meets its contract: the call by the rows that it goes by. Assumes nothing.
 use Rattle.lifting.specs.Grid.{side}
+use Rattle.nine_seven_lines.proofs.NearLaws.{beside-few}
 use Rattle.nine_seven_sweep.proofs.CallLaws.{lows-within, few, low-sums, low-in-halves}
 use Rattle.nine_seven_sweep.proofs.forth.update.Statement.{statement}
 use Rattle.nine_seven_sweep.proofs.forth.update.Tie as tie
@@ -19,7 +20,7 @@ add-update-row c =
     let low = q .before in
     let s = low .before in
     low-sums (side (s .args .y) (s .args .height)) (s .fits .height) _ (s .args .n) (s .pre .0) (low .lows .ensures) _ _
-    (q .beside .ensures (few (s .args .y))) .0
+    (beside-few _ (q .beside .ensures) (few (s .args .y))) .0
 
 add-update-row-2 : tie.Need-add-update-row-2
 add-update-row-2 c =
@@ -27,7 +28,7 @@ add-update-row-2 c =
     let low = q .before in
     let s = low .before in
     low-sums (side (s .args .y) (s .args .height)) (s .fits .height) _ (s .args .n) (s .pre .0) (low .lows .ensures) _ _
-    (q .beside .ensures (few (s .args .y))) .1
+    (beside-few _ (q .beside .ensures) (few (s .args .y))) .1
 
 update-row-requires : tie.Need-update-row-requires
 update-row-requires c κs = tt
@@ -42,7 +43,7 @@ returns c =
     let low = q .before in
     let s = low .before in
     low-in-halves _ _ _ (side (s .args .y) (s .args .height)) (s .args .n) _ _ _ (low .lows .ensures) _ _ _
-    (q .beside .ensures (few (s .args .y))) (row .update-row .ensures .1)
+    (beside-few _ (q .beside .ensures) (few (s .args .y))) (row .update-row .ensures .1)
 
 pub update-spec : {M : Type 1} → statement M
 update-spec =

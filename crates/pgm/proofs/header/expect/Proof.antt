@@ -1,7 +1,7 @@
 -- `header::expect` meets its contract: the definition's choice. Assumes nothing.
 use mathlib.Core.Path.{ap}
 use Rattle.pgm.specs.Steps.{expected}
-use Rattle.pgm.specs.declared.header.Next.the-variants.{More}
+use Rattle.pgm.specs.NextAnswer.{More}
 use Rattle.pgm.proofs.header.expect.Statement.{statement}
 use Rattle.pgm.proofs.header.expect.Tie as tie
 

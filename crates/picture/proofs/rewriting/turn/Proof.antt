@@ -2,8 +2,10 @@
 use mathlib.Core.Bool.{true, false}
 use native.Mathlib.Omega.{arith}
 use borrow.Author.Needs.{needs}
-use Rattle.picture.specs.Machine.{full, idle, off}
-use Rattle.picture.proofs.GoneLaws.{went-not, read-went, writes-went, read-on, write-on}
+use Rattle.text.specs.Moves.{full, idle}
+use Rattle.text.proofs.MoveLaws.{went-not}
+use Rattle.picture.specs.Machine.{off}
+use Rattle.picture.proofs.GoneLaws.{read-went, writes-went, read-on, write-on}
 use Rattle.picture.proofs.rewriting.turn.Statement.{statement}
 use Rattle.picture.proofs.rewriting.turn.Tie as tie
 
@@ -42,12 +44,12 @@ returns-2 c =
 returns-3 : tie.Need-returns-3
 returns-3 c =
     let s = c .before .before .before .before .before .before .before in
-    (went-not _ _ _ _ _ _ (s .pre .0) (s .pre .1), off true (idle (c .before .if1 .taken) (omega (arith, s .pre .0, c .if2 .left))))
+    (went-not _ _ _ _ (s .pre .0) (s .pre .1), off true (idle (c .before .if1 .taken) (omega (arith, s .pre .0, c .if2 .left))))
 
 returns-4 : tie.Need-returns-4
 returns-4 c =
     let s = c .before .before .before .before .before .before .before in
-    (went-not _ _ _ _ _ _ (s .pre .0) (s .pre .1), off false (full (omega (arith, c .before .if1 .left)) (omega (arith, s .pre .1, c .if3 .left))))
+    (went-not _ _ _ _ (s .pre .0) (s .pre .1), off false (full (omega (arith, c .before .if1 .left)) (omega (arith, s .pre .1, c .if3 .left))))
 
 pub turn-spec : {M : Type 1} → statement M
 turn-spec =

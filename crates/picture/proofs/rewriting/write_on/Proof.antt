@@ -29,7 +29,7 @@ sub-if1 c =
     let a = s .args .at in
     let y = p .put-part .last .1 .1 .1 .1 .1 .1 .0 in
     let e = p .put-part .kept .1 .1 .1 .1 .1 .1 .0 in
-    omega (arith, back-size o y a (length o - a) e, s .pre)
+    omega (arith, back-size o y a (length o - a) e, s .pre .0)
 
 settle-requires : tie.Need-settle-requires
 settle-requires c κs = tt
@@ -43,7 +43,7 @@ add-t14 c =
     let y = p .put-part .last .1 .1 .1 .1 .1 .1 .0 in
     let e = p .put-part .kept .1 .1 .1 .1 .1 .1 .0 in
     let i = s .args .rewriting in
-    omega (arith, part-fits (textOn i (s .args .row .now)) o (i .part .done) a (p .put-part .result) (p .put-part .ensures .0) (s .pre))
+    omega (arith, part-fits (textOn i (s .args .row .now)) o (i .part .done) a (p .put-part .result) (p .put-part .ensures .0) (s .pre .0))
 
 same-length : tie.Need-same-length
 same-length c =
@@ -63,8 +63,8 @@ returns c =
     let a = s .args .at in
     let y = p .put-part .last .1 .1 .1 .1 .1 .1 .0 in
     let e = p .put-part .kept .1 .1 .1 .1 .1 .1 .0 in
-    settle-put (s .args .rewriting) (s .args .row .now) o y a (length o - a) (p .put-part .result) (s .pre) refl (p .put-part .ensures .0)
-    (p .put-part .ensures .1 .0) (c .settle .result) (c .settle .ensures) (omega (arith, c .before .if1 .taken, back-size o y a (length o - a) e))
+    settle-put (s .args .rewriting) (s .args .row .now) o y a (length o - a) (p .put-part .result) (s .pre .0) refl (p .put-part .ensures .0)
+    (p .put-part .ensures .1 .0) (c .settle .result) (s .pre .1) (c .settle .ensures) (omega (arith, c .before .if1 .taken, back-size o y a (length o - a) e))
 
 add-with-done : tie.Need-add-with-done
 add-with-done c = omega (arith, c .before .before .before .before .put-part .ensures .1 .1)
@@ -81,7 +81,7 @@ add-t11 c =
     let y = p .put-part .last .1 .1 .1 .1 .1 .1 .0 in
     let e = p .put-part .kept .1 .1 .1 .1 .1 .1 .0 in
     let i = s .args .rewriting in
-    omega (arith, part-fits (textOn i (s .args .row .now)) o (i .part .done) a (p .put-part .result) (p .put-part .ensures .0) (s .pre))
+    omega (arith, part-fits (textOn i (s .args .row .now)) o (i .part .done) a (p .put-part .result) (p .put-part .ensures .0) (s .pre .0))
 
 same-length-2 : tie.Need-same-length-2
 same-length-2 c =
@@ -101,8 +101,8 @@ returns-2 c =
     let a = s .args .at in
     let y = p .put-part .last .1 .1 .1 .1 .1 .1 .0 in
     let e = p .put-part .kept .1 .1 .1 .1 .1 .1 .0 in
-    part-put (s .args .rewriting) (s .args .row .now) o y a (length o - a) (p .put-part .result) (s .pre) refl (p .put-part .ensures .0)
-    (p .put-part .ensures .1 .0) (c .with-done .result) (c .with-done .ensures)
+    part-put (s .args .rewriting) (s .args .row .now) o y a (length o - a) (p .put-part .result) (s .pre .0) refl (p .put-part .ensures .0)
+    (p .put-part .ensures .1 .0) (c .with-done .result) (s .pre .1) (c .with-done .ensures)
     (omega (arith, c .before .before .if1 .left, back-size o y a (length o - a) e))
 
 pub write-on-spec : {M : Type 1} → statement M

@@ -35,6 +35,7 @@ use Rattle.progress.proofs.waits.nothing.Reads as nothing-reads
 use Rattle.progress.proofs.waits.seen_from.Reads as seen-from-reads
 use Rattle.writer.proofs.cascade.stretch.Reads as stretch-reads
 use Rattle.writer.proofs.cascade.+arrive.{statement}
+use Rattle.progress.proofs.WaitLaws.{seen-fits}
 use Rattle.writer.proofs.cascade.+arrive.Tie.{close}
 
 abbrev μ-arrive : Measures 1 arrive-kinds.ps ℕ
@@ -283,7 +284,7 @@ arrive-returns-4 t c =
     }) refl (st .stretch .ensures)
     (next-done (a .filter) (length (made .make .last .1 .0)) (side (a .x) (a .w)) _ _ _ (omega (arith, start .pre, made .make)) (sent .deliver .ensures .1))
     (rw (at-rest (st .stretch .result) l) at (below .arrive .ensures)) (at-join (st .stretch .result) l (below .arrive .last .1 .0)
-    (omega (arith, c .before, j))) (c .seen-from .ensures)
+    (omega (arith, c .before, j))) (seen-fits _ _ _ (c .seen-from .ensures))
 
 pub +arrive-spec : {M : Type 1} → statement M
 +arrive-spec =

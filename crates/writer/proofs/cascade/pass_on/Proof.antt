@@ -14,6 +14,7 @@ use Rattle.figures.proofs.FigureLaws.{row-few}
 use Rattle.filters.proofs.ForwardLaws.{next-done}
 use Rattle.level.proofs.RestLaws.{at-rest, at-join}
 use Rattle.progress.proofs.CountLaws.{next-is, start-is}
+use Rattle.progress.proofs.WaitLaws.{seen-fits}
 use Rattle.writer.proofs.CascadeLaws.{room-below, left-still, goes, pass-none, passed-goes}
 use borrow.Author.Needs.{needs}
 use Rattle.writer.proofs.cascade.pass_on.Statement.{statement}
@@ -115,7 +116,7 @@ returns-2 c =
     (next-done (a .filter) (length (a .store .now)) (side (a .x) (a .w)) _ _ _ (omega (arith, start .pre)) (sent .deliver .ensures .1))
     (rw (at-rest (st .stretch .result) l) at (below .arrive .ensures))
     (at-join (st .stretch .result) l (below .arrive .last .1 .0) (omega (arith, start .pre, sent .deliver, j)))
-    (c .seen-from .ensures)
+    (seen-fits _ _ _ (c .seen-from .ensures))
 
 pub pass-on-spec : {M : Type 1} → statement M
 pass-on-spec =

@@ -29,6 +29,7 @@ use Rattle.wavelet.proofs.sizes.next_start.Reads as next-start-reads
 use Rattle.writer.proofs.closing.close_level.Reads as close-level-reads
 use Rattle.writer.proofs.cascade.stretch.Reads as stretch-reads
 use Rattle.writer.proofs.closing.+shut.{statement}
+use Rattle.progress.proofs.WaitLaws.{seen-fits}
 use Rattle.writer.proofs.closing.+shut.Tie.{close}
 
 abbrev μ-shut : Measures 1 shut-kinds.ps ℕ
@@ -199,7 +200,7 @@ shut-returns-3 t c =
     (next-is (a .x) (a .w) _ _ (from .next-start .ensures) (from .before .low-count .ensures)) (start-is (a .y) _ (prev .before .next-start2 .ensures))
     (prev .minus .ensures ∙ ap (λ (i : ℕ). a .c - i) (ah .look-ahead .ensures)) (below .before .low-count2 .ensures)
     (rw (at-rest (st .stretch .result) l) at (below .shut .ensures)) (at-join (st .stretch .result) l (below .shut .last .1 .0) (omega (arith, c .before, j)))
-    (ah .look-ahead .ensures) (c .seen-from .ensures)
+    (ah .look-ahead .ensures) (seen-fits _ _ _ (c .seen-from .ensures))
 
 pub +shut-spec : {M : Type 1} → statement M
 +shut-spec =

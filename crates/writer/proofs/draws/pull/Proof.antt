@@ -4,6 +4,7 @@ use native.Mathlib.Omega.{arith}
 use Rattle.numbers.specs.Signal.{at}
 use Rattle.level.proofs.RestLaws.{at-rest, at-join}
 use Rattle.level.proofs.Places.{prev-is}
+use Rattle.progress.proofs.WaitLaws.{seen-fits}
 use Rattle.writer.proofs.DrawLaws.{pull-waits, pull-goes}
 use borrow.Author.Needs.{needs}
 use Rattle.writer.proofs.draws.pull.Statement.{statement}
@@ -63,7 +64,7 @@ returns-2 c =
     let e = d .pre in
     pull-goes (a .s) (a .q) (e .1) (e .0 .placed) (at l) _ _ (b .before .minus .ensures ∙ sym (prev-is _)) (b .next-band .ensures)
     _ _ (at (p .pass-on .last .1 .0)) _ (e .0 .walk) (omega arith) (rw (at-rest (a .s .offset) l) at (p .pass-on .ensures))
-    (at-join (a .s .offset) l (p .pass-on .last .1 .0) (omega (arith, e .1 .room, e .0 .placed))) (c .seen-from .ensures)
+    (at-join (a .s .offset) l (p .pass-on .last .1 .0) (omega (arith, e .1 .room, e .0 .placed))) (seen-fits _ _ _ (c .seen-from .ensures))
 
 pub pull-spec : {M : Type 1} → statement M
 pull-spec =

@@ -1,7 +1,8 @@
 -- `Listing::end` meets its contract: the cases of the end. Assumes nothing.
-use mathlib.Core.Path.{refl, sym, _∙_}
+use mathlib.Core.Path.{refl, sym, ap, _∙_}
 use lib.ListN.{length}
 use Rattle.numbers.specs.Signal.{at}
+use Rattle.pgm.specs.EndedAnswer.{ofEnded}
 use Rattle.listing.specs.States.{stateOf}
 use Rattle.listing.proofs.StateLaws.{end-in-line, ended-as}
 use borrow.Author.Needs.{needs}
@@ -44,7 +45,7 @@ returns-2 c =
     let y = h .before .before in
     let a = y .before .before .before .before .before .args in
     ended-as (length (a .store .now)) (length (a .row .now)) (stateOf (a .self) (at (a .store .now)) (at (a .row .now))) _ _ (y .before .if1 .left)
-    (sym (h .next .given .1) ∙ y .end .ensures) (f .finish .ensures)
+    (sym (ap ofEnded (h .next .given .1)) ∙ y .end .ensures) (f .finish .ensures)
 
 returns-3 : tie.Need-returns-3
 returns-3 c =
@@ -52,14 +53,14 @@ returns-3 c =
     let y = h .before .before in
     let a = y .before .before .before .before .before .args in
     ended-as (length (a .store .now)) (length (a .row .now)) (stateOf (a .self) (at (a .store .now)) (at (a .row .now))) _ _ (y .before .if1 .left)
-    (sym (h .next2 .given .1) ∙ y .end .ensures) (record { listing = c .refuse .ensures; store = refl; row = refl })
+    (sym (ap ofEnded (h .next2 .given .1)) ∙ y .end .ensures) (record { listing = c .refuse .ensures; store = refl; row = refl })
 
 returns-4 : tie.Need-returns-4
 returns-4 c =
     let y = c .before .before in
     let a = y .before .before .before .before .before .args in
     ended-as (length (a .store .now)) (length (a .row .now)) (stateOf (a .self) (at (a .store .now)) (at (a .row .now))) _ _ (y .before .if1 .left)
-    (sym (c .enum-told .given .1) ∙ y .end .ensures) (record { listing = refl; store = refl; row = refl })
+    (sym (ap ofEnded (c .enum-told .given .1)) ∙ y .end .ensures) (record { listing = refl; store = refl; row = refl })
 
 pub end-spec : {M : Type 1} → statement M
 end-spec =

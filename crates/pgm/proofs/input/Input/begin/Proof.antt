@@ -1,7 +1,7 @@
 -- `Input::begin` meets its contract: the definition's test. Assumes nothing.
 use mathlib.Core.Path.{ap, _∙_}
 use Rattle.pgm.proofs.LimitLaws.{cells-none, cells-some}
-use Rattle.pgm.specs.declared.input.Step.the-variants as steps
+use Rattle.pgm.specs.StepAnswer as steps
 use Rattle.pgm.proofs.InputCases.{shape-no, shape-yes}
 use Rattle.pgm.proofs.input.Input.begin.Statement.{statement}
 use Rattle.pgm.proofs.input.Input.begin.Tie as tie
@@ -15,7 +15,7 @@ at-phase-requires c κs = tt
 returns : tie.Need-returns
 returns c =
     let d = c .before in
-    ap (λ x. steps.Refused x 15) (c .at-phase .ensures) ∙ shape-no _ _ _ _ (cells-none _ _ _ (d .before .cells .ensures) (d .if1 .taken))
+    ap (λ x. steps.No x 15) (c .at-phase .ensures) ∙ shape-no _ _ _ _ (cells-none _ _ _ (d .before .cells .ensures) (d .if1 .taken))
 
 start-requires : tie.Need-start-requires
 start-requires c κs = tt

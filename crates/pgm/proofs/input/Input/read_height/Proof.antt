@@ -2,7 +2,8 @@
 use mathlib.Core.Path.{sym, ap, _∙_}
 use Prim.Native.Nat.{_-_}
 use borrow.Author.Needs.{needs}
-use Rattle.pgm.specs.declared.input.Step.the-variants as steps
+use Rattle.pgm.specs.SampleAnswer.{ofSample}
+use Rattle.pgm.specs.StepAnswer as steps
 use Rattle.pgm.proofs.InputCases.{height-none, height-some}
 use Rattle.pgm.proofs.input.Input.read_height.Statement.{statement}
 use Rattle.pgm.proofs.input.Input.read_height.Tie as tie
@@ -11,7 +12,7 @@ at-phase-requires : tie.Need-at-phase-requires
 at-phase-requires c κs = tt
 
 returns : tie.Need-returns
-returns c = ap (λ x. steps.Refused x 15) (c .at-phase .ensures) ∙ height-none _ _ (c .before .if1 .taken)
+returns c = ap (λ x. steps.No x 15) (c .at-phase .ensures) ∙ height-none _ _ (c .before .if1 .taken)
 
 step-requires : tie.Need-step-requires
 step-requires c κs = tt
@@ -39,7 +40,7 @@ returns-2 c =
     let h = c .before in
     let s = h .before .before in
     let d = s .before .before .before in
-    height-some _ _ _ (d .if1 .left) (sym (h .half .given .1) ∙ s .step .ensures)
+    height-some _ _ _ (d .if1 .left) (sym (ap ofSample (h .half .given .1)) ∙ s .step .ensures)
 
 returns-3 : tie.Need-returns-3
 returns-3 c =
@@ -53,14 +54,14 @@ returns-3 c =
       left = d .before .before .args .self .left - 1;
       samples = x;
     }) (h .height .given .0 .0)) (c .start .ensures)
-    ∙ height-some _ _ _ (d .if1 .left) (sym (h .height .given .1) ∙ s .step .ensures)
+    ∙ height-some _ _ _ (d .if1 .left) (sym (ap ofSample (h .height .given .1)) ∙ s .step .ensures)
 
 returns-4 : tie.Need-returns-4
 returns-4 c =
     let h = c .before in
     let s = h .before .before in
     let d = s .before .before .before in
-    ap (λ x. steps.Refused x 16) (c .at-phase2 .ensures) ∙ height-some _ _ _ (d .if1 .left) (sym (h .enum-told .given .1) ∙ s .step .ensures)
+    ap (λ x. steps.No x 16) (c .at-phase2 .ensures) ∙ height-some _ _ _ (d .if1 .left) (sym (ap ofSample (h .enum-told .given .1)) ∙ s .step .ensures)
 
 pub read-height-spec : {M : Type 1} → statement M
 read-height-spec =

@@ -1,7 +1,7 @@
 -- `Input::read_levels` meets its contract: the definition's test. Assumes nothing.
 use mathlib.Core.Path.{sym, ap, _∙_}
 use borrow.Author.Tests.{not-true, not-false}
-use Rattle.pgm.specs.declared.input.Step.the-variants as steps
+use Rattle.pgm.specs.StepAnswer as steps
 use Rattle.pgm.proofs.InputCases.{levels-no, levels-yes}
 use Rattle.pgm.proofs.input.Input.read_levels.Statement.{statement}
 use Rattle.pgm.proofs.input.Input.read_levels.Tie as tie
@@ -15,7 +15,7 @@ at-phase-requires c κs = tt
 returns : tie.Need-returns
 returns c =
     let d = c .before in
-    ap (λ x. steps.Refused x 15) (c .at-phase .ensures) ∙ levels-no _ _ _ (sym (d .before .is-level .ensures) ∙ not-true _ (d .if1 .taken))
+    ap (λ x. steps.No x 15) (c .at-phase .ensures) ∙ levels-no _ _ _ (sym (d .before .is-level .ensures) ∙ not-true _ (d .if1 .taken))
 
 digit-value-requires : tie.Need-digit-value-requires
 digit-value-requires c κs = tt

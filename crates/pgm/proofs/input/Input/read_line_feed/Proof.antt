@@ -1,6 +1,6 @@
 -- `Input::read_line_feed` meets its contract: the definition's test. Assumes nothing.
 use mathlib.Core.Path.{ap, _∙_}
-use Rattle.pgm.specs.declared.input.Step.the-variants as steps
+use Rattle.pgm.specs.StepAnswer as steps
 use Rattle.pgm.proofs.InputCases.{feed-yes, feed-no}
 use Rattle.pgm.proofs.input.Input.read_line_feed.Statement.{statement}
 use Rattle.pgm.proofs.input.Input.read_line_feed.Tie as tie
@@ -15,7 +15,7 @@ returns : tie.Need-returns
 returns c = ap steps.More (c .at-phase .ensures) ∙ feed-yes _ _ (c .before .if1 .taken)
 
 returns-2 : tie.Need-returns-2
-returns-2 c = ap (λ x. steps.Refused x 15) (c .at-phase2 .ensures) ∙ feed-no _ _ (c .before .if1 .left)
+returns-2 c = ap (λ x. steps.No x 15) (c .at-phase2 .ensures) ∙ feed-no _ _ (c .before .if1 .left)
 
 pub read-line-feed-spec : {M : Type 1} → statement M
 read-line-feed-spec = tie.close (tie.spec at-phase-requires at-phase-requires-2 returns returns-2)

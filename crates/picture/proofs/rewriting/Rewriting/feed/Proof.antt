@@ -1,4 +1,5 @@
 -- `Rewriting::feed` meets its contract: turns one after the other, until one says that it stops. Assumes nothing.
+use Rattle.picture.specs.Machine.{kept}
 use Rattle.picture.proofs.GoneLaws.{Gone, start, size, piece-room, area-room, turned, stops, left, turn-less}
 use Rattle.picture.proofs.rewriting.Rewriting.feed.Statement.{statement}
 use Rattle.picture.proofs.rewriting.Rewriting.feed.Tie as tie
@@ -7,7 +8,7 @@ abbrev Inv-loop : tie.InvT-loop
 Inv-loop piece row₀ out₀ state₀ used₀ written₀ going₀ row out state used written going = Gone state₀ row₀ piece out₀ state row out used written going
 
 abbrev μ-loop : tie.MeasureT-loop
-μ-loop piece row₀ out₀ state₀ used₀ written₀ going₀ row out state used written going = left state piece out used written going
+μ-loop piece row₀ out₀ state₀ used₀ written₀ going₀ row out state used written going = left (kept state row) piece out used written going
 
 loop-holds : tie.Need-loop-holds Inv-loop μ-loop
 loop-holds c = start _ _ _ _

@@ -1,6 +1,7 @@
 -- `Rewriting::read` meets its contract: the cases of what was read. Assumes nothing.
 use mathlib.Core.Path.{sym, ap, _∙_}
 use borrow.Author.Needs.{needs}
+use Rattle.pgm.specs.StepAnswer.{ofStep}
 use Rattle.picture.specs.Machine.{rewriting}
 use Rattle.picture.proofs.MachineLaws.{step-state, step-row}
 use Rattle.picture.proofs.rewriting.Rewriting.read.Statement.{statement}
@@ -44,14 +45,14 @@ returns c =
     let p = c .before in
     let h = p .before .before in
     let y = h .before .before in
-    let e = sym (h .next .given .1) ∙ y .read .ensures in
+    let e = sym (ap ofStep (h .next .given .1)) ∙ y .read .ensures in
     (c .moved .ensures ∙ ap (rewriting _ _ _ _) (p .part-of .ensures) ∙ step-state _ _ _ _ e, step-row _ _ _ _ e)
 
 returns-2 : tie.Need-returns-2
 returns-2 c =
     let h = c .before .before in
     let y = h .before .before in
-    let e = sym (h .next2 .given .1) ∙ y .read .ensures in
+    let e = sym (ap ofStep (h .next2 .given .1)) ∙ y .read .ensures in
     (c .begin .ensures ∙ step-state _ _ _ _ e, step-row _ _ _ _ e)
 
 same-length : tie.Need-same-length
@@ -62,7 +63,7 @@ returns-3 c =
     let k = c .before .before in
     let h = k .before .before .before in
     let y = h .before .before in
-    let e = sym (h .next3 .given .1) ∙ y .read .ensures in
+    let e = sym (ap ofStep (h .next3 .given .1)) ∙ y .read .ensures in
     (k .keep .ensures .0 ∙ step-state _ _ _ _ e, k .keep .ensures .1 ∙ step-row _ _ _ _ e)
 
 returns-4 : tie.Need-returns-4
@@ -70,7 +71,7 @@ returns-4 c =
     let p = c .before in
     let h = p .before .before in
     let y = h .before .before in
-    let e = sym (h .next4 .given .1) ∙ y .read .ensures in
+    let e = sym (ap ofStep (h .next4 .given .1)) ∙ y .read .ensures in
     (c .moved2 .ensures ∙ ap (rewriting _ _ _ _) (p .part-of2 .ensures) ∙ step-state _ _ _ _ e, step-row _ _ _ _ e)
 
 pub read-spec : {M : Type 1} → statement M
