@@ -55,8 +55,8 @@ int main(void)
     printf("strokes, %d x %d, %d levels, ms (best): bake %.2f, zeroing %.2f\n", SIDE, SIDE, LEVELS, best(times[0]), best(times[1]));
     for (int i = 0; i < SIZES; i++) {
         double all = best(times[i + 2]), local = all - best(times[1]);
-        printf("  %4zu x %-4zu  with zeroing %6.2f (%4.1f %% of a bake)  without %6.2f (%4.1f %%)\n", sizes[i], sizes[i], all, 100 * all / best(times[0]), local,
-               100 * local / best(times[0]));
+        printf("  %4zu x %-4zu  with zeroing %6.2f (%4.1f %% of a bake)  without %6.2f (%4.1f %%)\n", sizes[i], sizes[i], all,
+               100 * all / best(times[0]), local, 100 * local / best(times[0]));
     }
     return 0;
 }

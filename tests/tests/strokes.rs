@@ -156,8 +156,8 @@ fn turned_away() {
         assert!(plane.is_unset_from(0) && work.is_unset_from(0), "{s:?} {q:?} {lens:?}");
     };
     let (none, m) = (Rectangle::default(), usize::MAX);
-    for (s, number) in [(Shape::new(0, 0, 0), 2), (Shape::new(2050, 0, 0), 2), (Shape::new(3, 0, 0), 3), (Shape::new(3, m, 0), 3), (Shape::new(3, 2, 0), 4), (Shape::new(3, 2, 6), 4)] {
-        refused(s, none, [0, 0, 0], number);
+    for (width, height, levels, number) in [(0, 0, 0, 2), (2050, 0, 0, 2), (3, 0, 0, 3), (3, m, 0, 3), (3, 2, 0, 4), (3, 2, 6, 4)] {
+        refused(Shape::new(width, height, levels), none, [0, 0, 0], number);
     }
     for lens in [[5, 6, 6], [6, 5, 6], [6, 6, 5], [0, 0, 0]] {
         refused(Shape::new(3, 2, 5), none, lens, 5);

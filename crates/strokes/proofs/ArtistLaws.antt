@@ -79,7 +79,8 @@ module _ (L W H : ℕ) where
   two-strokes s t g P is = all-strokes (s ∷ t ∷ []) g P is
 
   -- any number of strokes in any order: lists that end in the same heights, as those of strokes that share no height pairwise do, end in the same plane
-  pub same-end : (l m : List Stroke) (g P : Grid) → ((r c : ℕ) → r < H → c < W → P r c ≡ plane g r c) → heightsAfter l g ≡ heightsAfter m g → (r c : ℕ) → r < H → c < W →
+  pub same-end : (l m : List Stroke) (g P : Grid) → ((r c : ℕ) → r < H → c < W → P r c ≡ plane g r c) → heightsAfter l g ≡ heightsAfter m g → (r c : ℕ) →
+      r < H → c < W →
       planeAfter L W H l g P r c ≡ planeAfter L W H m g P r c
   same-end l m g P is e r c p q =
       all-strokes l g P is r c p q ∙ ap (λ (x : Grid). plane x r c) e ∙ sym (all-strokes m g P is r c p q)

@@ -1,4 +1,5 @@
--- What is copied of one band is what is in reach of it: the places of the plane in one direction (`touch-is`), the numbers that stand there (`touched`), and that
+-- What is copied of one band is what is in reach of it: the places of the plane in one direction (`touch-is`), the numbers that stand there (`touched`),
+-- and that
 -- the window has them (`reaches`). a is 0 for the low half and 1 for the high one. Assumes nothing.
 use mathlib.Core.Path.{_≡_, refl, sym, ap, ap₂, _∙_}
 use mathlib.Core.Bool.{Bool, true, false}
@@ -241,8 +242,10 @@ module _ (u v k : ℕ) (d : Direction) (L : Lies u v (suc k) d) where
   reaches-of a b =
       let rows : (i : ℕ) → i < many (d .length) (changedOf d) a → 2 * ((d .first - 1) / 2 + i - d .start / 2) + a < d .size =
       λ i c. row-in a _ b (number-held a i b c) in
-      let last-row : (m : ℕ) → 0 < many (d .length) (changedOf d) a → 2 * ((d .first - 1) / 2 - d .start / 2 + (many (d .length) (changedOf d) a - 1)) + a < d .size =
-      λ m p. let y = rows (many (d .length) (changedOf d) a - 1) (omega arith) in moved-row ((d .first - 1) / 2) (d .start / 2) (many (d .length) (changedOf d) a - 1) a (d .size) (first-held .past) y in
+      let last-row : (m : ℕ) → 0 < many (d .length) (changedOf d) a →
+      2 * ((d .first - 1) / 2 - d .start / 2 + (many (d .length) (changedOf d) a - 1)) + a < d .size =
+      λ m p. let y = rows (many (d .length) (changedOf d) a - 1) (omega arith) in moved-row ((d .first - 1) / 2) (d .start / 2) (many (d .length)
+      (changedOf d) a - 1) a (d .size) (first-held .past) y in
       record {
         past = first-held .past;
         wide = wide-of a _ ((d .first - 1) / 2 - d .start / 2) b refl (omega (arith, first-held .past)) (last-row 0);
@@ -332,7 +335,8 @@ module _ (A s : ℕ) (d e : Direction) (a h : ℕ) (ba : a ≤ 1) (bh : h ≤ 1)
       ∙ hyp _ _ (tr .counted) (tc .counted) (tr .reach) (tc .reach)))
 
   -- the same with the numbers as the code has them
-  pub band-called : (x z z′ : ℕ → ℤ) (B : Grid) (c r cs rs f : ℕ) → 0 < A → c ≡ a * (d .length - d .length / 2) + fc → r ≡ h * (e .length - e .length / 2) + fr →
+  pub band-called : (x z z′ : ℕ → ℤ) (B : Grid) (c r cs rs f : ℕ) → 0 < A → c ≡ a * (d .length - d .length / 2) + fc →
+      r ≡ h * (e .length - e .length / 2) + fr →
       cs ≡ many (d .length) (changedOf d) a → rs ≡ many (e .length) (changedOf e) h → f ≡ from →
       ((n m : ℕ) → n < count (halfOf h) (side 0 (e .length)) → m < count (halfOf a) (side 0 (d .length)) → reached (changedOf e) (halfOf h) n ≡ true →
       reached (changedOf d) (halfOf a) m ≡ true → x (placeOf s d e a h n m) ≡ B n m) →

@@ -1,4 +1,5 @@
--- The columns of a window lifted with its rows in their own order: a turn finishes low row 2n and high row 2n + 1, and the low row after them if it is the last.
+-- The columns of a window lifted with its rows in their own order: a turn finishes low row 2n and high row 2n + 1, and the low row after them if it is the
+-- last.
 -- Rows below k are done, the others as they were (RowSwept). Assumes nothing.
 use mathlib.Core.Path.{_≡_, refl, sym, ap, _∙_}
 use mathlib.Core.Logic.{_≢_}
@@ -133,7 +134,8 @@ module _ (m s w h : ℕ) (R : Rows m s w h) (X : Grid) (n : ℕ) (b : 2 * n + 1 
         elim (decLt c w) [
           | yes q ↦
               row-at (predicted wrap32) s w (2 * n + 1) (2 * n) (rowAfter h n) x c q
-              ∙ by-three (predicted wrap32) (sw .rest (2 * n + 1) c cs (omega arith)) (sw .rest (2 * n) c cs (omega arith)) (sw .rest (rowAfter h n) c cs (a .1))
+              ∙ by-three (predicted wrap32) (sw .rest (2 * n + 1) c cs (omega arith)) (sw .rest (2 * n) c cs (omega arith)) (sw .rest (rowAfter h n) c cs
+              (a .1))
               ∙ high-value c q
           | no q ↦
               row-past (predicted wrap32) s w (2 * n + 1) (2 * n) (rowAfter h n) x _ (omega arith) ∙ sw .rest (2 * n + 1) c cs (omega arith)
@@ -188,7 +190,8 @@ module _ (m s w h : ℕ) (R : Rows m s w h) (X : Grid) (n : ℕ) (b : 2 * n + 1 
         let d = high-done w h X n c b q in
         by-three (updated wrap32) refl d d
         ∙ sym (low-done w h X (n + 1) c (omega arith) q ∙ low-end wrap32 h (λ i. X i c) (n + 1) (omega arith) (omega arith)
-        ∙ ap (λ (i : ℕ). updated wrap32 (X (2 * (n + 1)) c) (lineForward wrap32 (side 0 h) (λ j. X j c) hi i) (lineForward wrap32 (side 0 h) (λ j. X j c) hi i)) k)
+        ∙ ap (λ (i : ℕ). updated wrap32 (X (2 * (n + 1)) c) (lineForward wrap32 (side 0 h) (λ j. X j c) hi i) (lineForward wrap32 (side 0 h)
+        (λ j. X j c) hi i)) k)
 
     last-row : (c : ℕ) → c < s → y₁ (2 * (n + 1) * s + c) ≡ Y w h X (2 * (n + 1)) c
     last-row c cs =
@@ -242,4 +245,5 @@ rows-after h n b = elim (ℕ-discrete (2 * n + 1) h) [ yes e ↦ simp (eq-eqb (2
 
 -- one row is as it was
 pub one-row : (s w h : ℕ) (x : ℕ → ℤ) → 0 < s → h < 2 → x ≡ flat s (columnsDone w h (cells s x))
-one-row s w h x apart g = finish apart (start s (columnsDone w h (cells s x)) 0 x (λ r c lt. absurd (omega arith))) (λ r c le. done-one w h (cells s x) r c (omega arith))
+one-row s w h x apart g = finish apart (start s (columnsDone w h (cells s x)) 0 x (λ r c lt. absurd (omega arith))) (λ r c le. done-one w h
+    (cells s x) r c (omega arith))

@@ -91,7 +91,8 @@ module _ (N f l k : ℕ) (b : f < N) (o : f ≤ l) (c : l < N) (m : N < 2 ^ 32) 
   even : a ≡ 2 * (a / 2)
   even = let e = twice k ((f + 1) / Q - 3) in omega arith
 
-  placed : (v : ℕ) (u : ℕ) → ((v ≡ 0) × (a ≡ 0)) ⊎ ((v ≡ 2) × (3 < (f + 1) / Q)) → ((u ≡ 0) × (N ≤ l + 4 * Q - 1)) ⊎ ((u ≡ 2) × (l + 4 * Q - 1 < N)) → Placed (suc k) d
+  placed : (v : ℕ) (u : ℕ) → ((v ≡ 0) × (a ≡ 0)) ⊎ ((v ≡ 2) × (3 < (f + 1) / Q)) → ((u ≡ 0) × (N ≤ l + 4 * Q - 1)) ⊎ ((u ≡ 2) × (l + 4 * Q - 1 < N)) →
+      Placed (suc k) d
   placed v u left right =
       let s = some in
       let far = start-far in

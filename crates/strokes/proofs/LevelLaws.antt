@@ -24,7 +24,8 @@ use Rattle.strokes.proofs.ColumnTurns.{high-done, low-done}
 -- ---- the window's own bands
 module _ (w h : ℕ) (X : Grid) where
   -- row r of half v, after the columns are lifted
-  column-row : (v : Half) (n j : ℕ) → n < count v (side 0 h) → j < w → columnsDone w h X (place (side 0 h) v n) j ≡ columnsLifted fiveThreeFilter wrap32 (side 0 h) X v n j
+  column-row : (v : Half) (n j : ℕ) → n < count v (side 0 h) → j < w →
+      columnsDone w h X (place (side 0 h) v n) j ≡ columnsLifted fiveThreeFilter wrap32 (side 0 h) X v n j
   unfolding columnsLifted place count
   column-row lo n j b q = let k : 2 * n + 0 ≡ 2 * n = omega arith in ap (λ (r : ℕ). columnsDone w h X r j) k ∙ low-done w h X n j (omega arith) q
   column-row hi n j b q = high-done w h X n j (omega arith) q
@@ -62,7 +63,8 @@ module _ (w h : ℕ) (X : Grid) where
 module _ (u v N a t w : ℕ) (C : Cut u v N a t w) (u′ v′ M b s h : ℕ) (D : Cut u′ v′ M b s h) (X G : Grid)
     (e : (r c : ℕ) → Sound u′ v′ h r → Sound u v w c → X r c ≡ G (b + r) (a + c)) where
   pub band-window : (x y : Half) (n m : ℕ) → n < count y (side 0 h) → m < count x (side 0 w) → v′ ≤ n → n + u′ < (h + 1) / 2 → v ≤ m → m + u < (w + 1) / 2 →
-      subband fiveThreeFilter wrap32 (side 0 w) (side 0 h) X (bandOf x y) n m ≡ subband fiveThreeFilter wrap32 (side 0 N) (side 0 M) G (bandOf x y) (s + n) (t + m)
+      subband fiveThreeFilter wrap32 (side 0 w) (side 0 h) X (bandOf x y) n m ≡ subband fiveThreeFilter wrap32 (side 0 N) (side 0 M) G (bandOf x y)
+      (s + n) (t + m)
   unfolding subband columnsLifted
   band-window x y n m p q l r l′ r′ =
       line-window wrap32 u v N a t w C (columnsLifted fiveThreeFilter wrap32 (side 0 M) G (down (bandOf x y)) (s + n))
@@ -71,8 +73,10 @@ module _ (u v N a t w : ℕ) (C : Cut u v N a t w) (u′ v′ M b s h : ℕ) (D 
       (across (bandOf x y)) m (rw (across-of x y) q) l′ r′
 
   -- in memory
-  pub window-at : (S : ℕ) (x y : Half) (n m : ℕ) → w ≤ S → n < count y (side 0 h) → m < count x (side 0 w) → v′ ≤ n → n + u′ < (h + 1) / 2 → v ≤ m → m + u < (w + 1) / 2 →
-      flat S (levelDone w h X) (place (side 0 h) y n * S + column w h X x m) ≡ subband fiveThreeFilter wrap32 (side 0 N) (side 0 M) G (bandOf x y) (s + n) (t + m)
+  pub window-at : (S : ℕ) (x y : Half) (n m : ℕ) → w ≤ S → n < count y (side 0 h) → m < count x (side 0 w) → v′ ≤ n → n + u′ < (h + 1) / 2 → v ≤ m →
+      m + u < (w + 1) / 2 →
+      flat S (levelDone w h X) (place (side 0 h) y n * S + column w h X x m) ≡ subband fiveThreeFilter wrap32 (side 0 N) (side 0 M) G (bandOf x y) (s + n)
+      (t + m)
   window-at S x y n m wide p q l r l′ r′ =
       let k = column-in w h X x m q in
       flat-at S (levelDone w h X) (place (side 0 h) y n) (column w h X x m) (omega arith) ∙ level-cell w h X x y n m p q ∙ band-window x y n m p q l r l′ r′

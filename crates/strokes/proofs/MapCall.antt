@@ -156,7 +156,8 @@ map-window {W} {H} {L} q s e ec er =
     })
 
 module _ {W H L : ℕ} {c r : Direction} (w : MapWindow W H L c r) (s : Sized W H L) where
-  pub window-load : {n m : ℕ} → W * H ≤ n → W * H ≤ m → Rows n W W (r .length) × Rows m (c .size) (c .size) (r .size) × (c .start + c .size ≤ W) × (r .start + r .size ≤ r .length)
+  pub window-load : {n m : ℕ} → W * H ≤ n → W * H ≤ m → Rows n W W (r .length) × Rows m (c .size) (c .size) (r .size) × (c .start + c .size ≤ W) ×
+      (r .start + r .size ≤ r .length)
   window-load {n} {m} a b = (
     rw (w .height) (map-rows W H L n s a),
     window-rows W H L s c r (w .columns) (w .rows) (w .width) (w .height) m b,
@@ -164,7 +165,8 @@ module _ {W H L : ℕ} {c r : Direction} (w : MapWindow W H L c r) (s : Sized W 
     w .rows .lies .cut .inside,
   )
 
-  pub window-levels : {n m : ℕ} → W * H ≤ n → W * H ≤ m → Placed L c × Placed L r × Doubling L (c .size) (c .size) × Rows m (c .size) (c .size) (r .size) × Rows n W (c .length) (r .length)
+  pub window-levels : {n m : ℕ} → W * H ≤ n → W * H ≤ m → Placed L c × Placed L r × Doubling L (c .size) (c .size) × Rows m (c .size) (c .size)
+      (r .size) × Rows n W (c .length) (r .length)
   window-levels {n} {m} a b = (
     w .columns,
     w .rows,
@@ -178,7 +180,8 @@ module _ {W H L : ℕ} {c r : Direction} (w : MapWindow W H L c r) (s : Sized W 
       r ≡ widenedOf H (q .top) (q .height) (2 ^ L) →
       x ≡ flat (c .size) (gridCopied (c .size) (r .size) (λ i j. cells W (heightsAt l) (r .start + i) (c .start + j)) (cells (c .size) y)) →
       ((u v u′ v′ : ℕ) (G : Grid) → Lies u v L c → Lies u′ v′ L r → Agrees u v u′ v′ c r G (cells (c .size) x) →
-      z′ ≡ flat W (gridMended L (c .length) (r .length) (changedOf c) (changedOf r) G (cells W z))) → z′ ≡ fronted (W * H) (mendedPlane L W H q (heightsAt l) z) z
+      z′ ≡ flat W (gridMended L (c .length) (r .length) (changedOf c) (changedOf r) G (cells W z))) →
+      z′ ≡ fronted (W * H) (mendedPlane L W H q (heightsAt l) z) z
   window-mended l y x z z′ q fits ec er load made =
       let Pc = w .columns in
       let Pr = w .rows in

@@ -47,28 +47,100 @@ module _ (W H : ℕ) (s t : Span) (G P : Grid) where
                 | yes q ↦ simp (lt-ltb c W2 p, lt-ltb c W (omega arith), lt-leb W2 c p, lt-ltb r H2 q, lt-ltb r H (omega arith), lt-leb H2 r q, second-no)
                 | no q ↦
                     elim (decLt r H) [
-                      | yes k ↦ simp (lt-ltb c W2 p, lt-ltb c W (omega arith), lt-leb W2 c p, le-ltb r H2 (omega arith), lt-ltb r H k, le-leb H2 r (omega arith), second-no)
-                      | no k ↦ simp (lt-ltb c W2 p, lt-ltb c W (omega arith), lt-leb W2 c p, le-ltb r H2 (omega arith), le-ltb r H (omega arith), le-leb H2 r (omega arith), second-no)
+                      | yes k ↦ simp (
+                        lt-ltb c W2 p,
+                        lt-ltb c W (omega arith),
+                        lt-leb W2 c p,
+                        le-ltb r H2 (omega arith),
+                        lt-ltb r H k,
+                        le-leb H2 r
+                            (omega arith),
+                        second-no,
+                      )
+                      | no k ↦ simp (
+                        lt-ltb c W2 p,
+                        lt-ltb c W (omega arith),
+                        lt-leb W2 c p,
+                        le-ltb r H2 (omega arith),
+                        le-ltb r H
+                            (omega arith),
+                        le-leb H2 r (omega arith),
+                        second-no,
+                      )
                     ]
               ]
           | no p ↦
               elim (decLt c W) [
                 | yes m ↦
                     elim (decLt r H2) [
-                      | yes q ↦ simp (le-ltb c W2 (omega arith), lt-ltb c W m, le-leb W2 c (omega arith), lt-ltb r H2 q, lt-ltb r H (omega arith), lt-leb H2 r q, second-no)
+                      | yes q ↦ simp (
+                        le-ltb c W2 (omega arith),
+                        lt-ltb c W m,
+                        le-leb W2 c (omega arith),
+                        lt-ltb r H2 q,
+                        lt-ltb r H
+                            (omega arith),
+                        lt-leb H2 r q,
+                        second-no,
+                      )
                       | no q ↦
                           elim (decLt r H) [
-                            | yes k ↦ simp (le-ltb c W2 (omega arith), lt-ltb c W m, le-leb W2 c (omega arith), le-ltb r H2 (omega arith), lt-ltb r H k, le-leb H2 r (omega arith), second-no)
-                            | no k ↦ simp (le-ltb c W2 (omega arith), lt-ltb c W m, le-leb W2 c (omega arith), le-ltb r H2 (omega arith), le-ltb r H (omega arith), le-leb H2 r (omega arith), second-no)
+                            | yes k ↦ simp (
+                              le-ltb c W2 (omega arith),
+                              lt-ltb c W m,
+                              le-leb W2 c (omega arith),
+                              le-ltb r H2
+                                  (omega arith),
+                              lt-ltb r H k,
+                              le-leb H2 r (omega arith),
+                              second-no,
+                            )
+                            | no k ↦ simp (
+                              le-ltb c W2 (omega arith),
+                              lt-ltb c W m,
+                              le-leb W2 c (omega arith),
+                              le-ltb r H2 (omega arith),
+                              le-ltb r H
+                                  (omega arith),
+                              le-leb H2 r (omega arith),
+                              second-no,
+                            )
                           ]
                     ]
                 | no m ↦
                     elim (decLt r H2) [
-                      | yes q ↦ simp (le-ltb c W2 (omega arith), le-ltb c W (omega arith), le-leb W2 c (omega arith), lt-ltb r H2 q, lt-ltb r H (omega arith), lt-leb H2 r q, second-no)
+                      | yes q ↦ simp (
+                        le-ltb c W2 (omega arith),
+                        le-ltb c W (omega arith),
+                        le-leb W2 c (omega arith),
+                        lt-ltb r H2 q,
+                        lt-ltb r H
+                            (omega arith),
+                        lt-leb H2 r q,
+                        second-no,
+                      )
                       | no q ↦
                           elim (decLt r H) [
-                            | yes k ↦ simp (le-ltb c W2 (omega arith), le-ltb c W (omega arith), le-leb W2 c (omega arith), le-ltb r H2 (omega arith), lt-ltb r H k, le-leb H2 r (omega arith), second-no)
-                            | no k ↦ simp (le-ltb c W2 (omega arith), le-ltb c W (omega arith), le-leb W2 c (omega arith), le-ltb r H2 (omega arith), le-ltb r H (omega arith), le-leb H2 r (omega arith), second-no)
+                            | yes k ↦ simp (
+                              le-ltb c W2 (omega arith),
+                              le-ltb c W (omega arith),
+                              le-leb W2 c (omega arith),
+                              le-ltb r H2
+                                  (omega arith),
+                              lt-ltb r H k,
+                              le-leb H2 r (omega arith),
+                              second-no,
+                            )
+                            | no k ↦ simp (
+                              le-ltb c W2 (omega arith),
+                              le-ltb c W (omega arith),
+                              le-leb W2 c (omega arith),
+                              le-ltb r H2
+                                  (omega arith),
+                              le-ltb r H (omega arith),
+                              le-leb H2 r (omega arith),
+                              second-no,
+                            )
                           ]
                     ]
               ]

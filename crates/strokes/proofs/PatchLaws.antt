@@ -60,7 +60,8 @@ module _ (p : Patch) (g P : Grid) (r c : ℕ) where
 
 -- row i of the patch copied
 pub patch-turn : (A R C H W i : ℕ) (g : Grid) (z x x′ : ℕ → ℤ) → C + W ≤ A → i < H → x′ ≡ spliced ((R + i) * A + C) W (g i) x →
-    RowSwept A (patchCopied (patch R C H W) g (cells A z)) (cells A z) (R + i) x → RowSwept A (patchCopied (patch R C H W) g (cells A z)) (cells A z) (R + (i + 1)) x′
+    RowSwept A (patchCopied (patch R C H W) g (cells A z)) (cells A z) (R + i) x →
+    RowSwept A (patchCopied (patch R C H W) g (cells A z)) (cells A z) (R + (i + 1)) x′
 patch-turn A R C H W i g z x x′ wide ih is sw =
     let k : R + i + 1 ≡ R + (i + 1) = omega arith in
     rw k at (copy-turn A (C + W) C W (R + i) ((R + i) * A + C) _ _ (g i) x x′ wide refl refl is

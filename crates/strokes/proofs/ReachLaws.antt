@@ -55,13 +55,15 @@ module _ (s : Span) where
         | no p ↦ simp (le-leb (s .first) i (omega arith), lt-leb i (s .last) a)
       ]
 
-  pub reached-in : (N : ℕ) (h : Half) (n i : ℕ) → s .first ≤ i → i ≤ s .last → place (side 0 N) h n ≤ i + reach h → i ≤ place (side 0 N) h n + reach h → reached s h n ≡ true
+  pub reached-in : (N : ℕ) (h : Half) (n i : ℕ) → s .first ≤ i → i ≤ s .last → place (side 0 N) h n ≤ i + reach h → i ≤ place (side 0 N) h n + reach h →
+      reached s h n ≡ true
   unfolding reached place
   reached-in N lo n i a b l r = simp (le-leb (2 * n) (s .last + 2) (omega arith), le-leb (s .first) (2 * n + 2) (omega arith))
   reached-in N hi n i a b l r = simp (le-leb (2 * n) (s .last) (omega arith), le-leb (s .first) (2 * n + 2) (omega arith))
 
   -- the places that a value reads which is not reached are not changed
-  pub changed-no : (N : ℕ) (h : Half) (n i : ℕ) → reached s h n ≡ false → place (side 0 N) h n ≤ i + reach h → i ≤ place (side 0 N) h n + reach h → changed s i ≡ false
+  pub changed-no : (N : ℕ) (h : Half) (n i : ℕ) → reached s h n ≡ false → place (side 0 N) h n ≤ i + reach h → i ≤ place (side 0 N) h n + reach h →
+      changed s i ≡ false
   changed-no N h n i un l r =
       elim (decLt i (s .first)) [
         | yes p ↦ changed-before i p
@@ -147,7 +149,8 @@ module _ (keep : ℤ → ℤ) (L W H : ℕ) (s t : Span) (g g′ : Grid) (e : Sa
 
   -- a place in the corner, and another
   by-corner : (r c : ℕ) → r < H → c < W →
-      (r < count lo (side 0 H) → c < count lo (side 0 W) → inReach L (next (side 0 W)) (next (side 0 H)) (lowSpan s) (lowSpan t) r c ≡ false → inner g r c ≡ inner g′ r c) →
+      (r < count lo (side 0 H) → c < count lo (side 0 W) → inReach L (next (side 0 W)) (next (side 0 H)) (lowSpan s) (lowSpan t) r c ≡ false →
+      inner g r c ≡ inner g′ r c) →
       (b : Bool) → inCorner (side 0 W) (side 0 H) r c ≡ b →
       pick b (inReach L (next (side 0 W)) (next (side 0 H)) (lowSpan s) (lowSpan t) r c)
       (both (reached s (halfAt (side 0 W) c) (placeIn (side 0 W) c)) (reached t (halfAt (side 0 H) r) (placeIn (side 0 H) r))) ≡ false →

@@ -57,7 +57,8 @@ module _ (u v u′ v′ k : ℕ) (c r : Direction) (Lc : Lies u v (suc k) c) (Lr
       let rm = sm .right in
       let e : n * (2 * s) + m ≡ (2 * n + 0) * s + m = omega arith in
       ap (λ (y : ℕ → ℤ). y (n * (2 * s) + m)) is ∙ ap (flat s (levelDone (c .size) (r .size) X)) e
-      ∙ window-at u v (c .length) (c .start) (c .start / 2) (c .size) (Lc .cut) u′ v′ (r .length) (r .start) (r .start / 2) (r .size) (Lr .cut) X G same s lo lo n m wide
+      ∙ window-at u v (c .length) (c .start) (c .start / 2) (c .size) (Lc .cut) u′ v′ (r .length) (r .start) (r .start / 2) (r .size)
+      (Lr .cut) X G same s lo lo n m wide
       (omega arith) (omega arith) ln (omega arith) lm (omega arith)
 
 module _ (A : ℕ) (goal : ℕ → ℤ) (u v u′ v′ k s : ℕ) (c r : Direction) (x x₁ z z₁ : ℕ → ℤ) (some : 0 < A) (wide : c .size ≤ s)
@@ -69,7 +70,8 @@ module _ (A : ℕ) (goal : ℕ → ℤ) (u v u′ v′ k s : ℕ) (c r : Directi
       let H = r .length in
       let low = subband fiveThreeFilter wrap32 (side 0 W) (side 0 H) (S .grid) LL in
       let copied = f (suc k) u v u′ v′ (S .grid) (cells s x) (S .columns) (S .rows) (S .agrees) e in
-      let there : goal ≡ flat A (gridMended (suc k) (count lo (side 0 W)) (count lo (side 0 H)) (lowSpan (changedOf c)) (lowSpan (changedOf r)) low (cells A z₁)) =
+      let there : goal ≡ flat A (gridMended (suc k) (count lo (side 0 W)) (count lo (side 0 H)) (lowSpan (changedOf c)) (lowSpan (changedOf r)) low
+      (cells A z₁)) =
       S .is
       ∙ flat-same A _ _ some
       (λ i j b.
@@ -87,11 +89,13 @@ module _ (A : ℕ) (goal : ℕ → ℤ) (u v u′ v′ k s : ℕ) (c r : Directi
   -- the last level: its low-low part is copied too
   pub standing-last : (z₂ : ℕ → ℤ) → Standing A goal u v u′ v′ 1 s c r x z →
       ((G : Grid) → Agrees u v u′ v′ c r G (cells s x) → Lies u v 1 c → Lies u′ v′ 1 r →
-      z₂ ≡ flat A (bandMended lo lo (c .length) (r .length) (changedOf c) (changedOf r) (subband fiveThreeFilter wrap32 (side 0 (c .length)) (side 0 (r .length)) G (bandOf lo lo))
+      z₂ ≡ flat A (bandMended lo lo (c .length) (r .length) (changedOf c) (changedOf r) (subband fiveThreeFilter wrap32 (side 0 (c .length)) (side 0
+      (r .length)) G (bandOf lo lo))
       (cells A z₁))) → z₂ ≡ goal
   unfolding bandOf
   standing-last z₂ S g =
-      then-band A lo lo (c .length) (r .length) (changedOf c) (changedOf r) _ _ z₁ z₂ some (f 0 u v u′ v′ (S .grid) (cells s x) (S .columns) (S .rows) (S .agrees) e)
+      then-band A lo lo (c .length) (r .length) (changedOf c) (changedOf r) _ _ z₁ z₂ some (f 0 u v u′ v′ (S .grid) (cells s x) (S .columns) (S .rows)
+      (S .agrees) e)
       (g (S .grid) (S .agrees) (S .columns) (S .rows))
       ∙ sym (S .is ∙ flat-same A _ _ some (λ i j b. mend.last (c .length) (r .length) (changedOf c) (changedOf r) (S .grid) (cells A z) i j))
 
@@ -115,16 +119,19 @@ doubling-lowered k s c D =
     rw e at (doubled (suc (suc k)) s (side 0 (c .size)) (loweredOf c .size) D (omega arith) (lows-of (c .size)))
 
 -- ---- a turn of the loop over the levels
-pub levels-turn : (A n m s left : ℕ) (c c′ r r′ : Direction) → 1 < left → c′ ≡ loweredOf c → r′ ≡ loweredOf r → Placed left c → Placed left r → Doubling left s (c .size) →
+pub levels-turn : (A n m s left : ℕ) (c c′ r r′ : Direction) → 1 < left → c′ ≡ loweredOf c → r′ ≡ loweredOf r → Placed left c → Placed left r →
+    Doubling left s (c .size) →
     Rows n s (c .size) (r .size) → Rows m A (c .length) (r .length) →
-    (1 ≤ left - 1) × Placed (left - 1) c′ × Placed (left - 1) r′ × Doubling (left - 1) (2 * s) (c′ .size) × Rows n (2 * s) (c′ .size) (r′ .size) × Rows m A (c′ .length) (r′ .length)
+    (1 ≤ left - 1) × Placed (left - 1) c′ × Placed (left - 1) r′ × Doubling (left - 1) (2 * s) (c′ .size) × Rows n (2 * s) (c′ .size)
+    (r′ .size) × Rows m A (c′ .length) (r′ .length)
 levels-turn A n m s zero c c′ r r′ b ec er Pc Pr D R T = absurd (omega arith)
 levels-turn A n m s (suc zero) c c′ r r′ b ec er Pc Pr D R T = absurd (omega arith)
 levels-turn A n m s (suc (suc k)) c c′ r r′ b ec er Pc Pr D R T =
     let e : suc (suc k) - 1 ≡ suc k = omega arith in
     rw (e, ec, er) (omega arith, placed-next k c Pc, placed-next k r Pr, doubling-lowered k s c D, rows-lowered n m A s c r R T, plane-lowered n m A s c r R T)
 
-pub standing-turn : (A : ℕ) (goal : ℕ → ℤ) (u v u′ v′ left s : ℕ) (c c′ r r′ : Direction) (x x₁ z z₁ : ℕ → ℤ) → 1 < left → c′ ≡ loweredOf c → r′ ≡ loweredOf r → 0 < A →
+pub standing-turn : (A : ℕ) (goal : ℕ → ℤ) (u v u′ v′ left s : ℕ) (c c′ r r′ : Direction) (x x₁ z z₁ : ℕ → ℤ) → 1 < left → c′ ≡ loweredOf c →
+    r′ ≡ loweredOf r → 0 < A →
     c .size ≤ s → x₁ ≡ flat s (levelDone (c .size) (r .size) (cells s x)) → Copied A s c r x₁ z z₁ → Standing A goal u v u′ v′ left s c r x z →
     Standing A goal u v u′ v′ (left - 1) (2 * s) c′ r′ x₁ z₁
 standing-turn A goal u v u′ v′ zero s c c′ r r′ x x₁ z z₁ b ec er some wide e f S = absurd (omega arith)

@@ -68,7 +68,8 @@ mended-same : (a h : Half) (W H : ℕ) (s t : Span) (B P Q : Grid) (r c : ℕ) �
 unfolding bandMended
 mended-same a h W H s t B P Q r c e = rw e
 
-pub then-band : (A : ℕ) (a h : Half) (W H : ℕ) (s t : Span) (B P : Grid) (z z′ : ℕ → ℤ) → 0 < A → z ≡ flat A P → z′ ≡ flat A (bandMended a h W H s t B (cells A z)) →
+pub then-band : (A : ℕ) (a h : Half) (W H : ℕ) (s t : Span) (B P : Grid) (z z′ : ℕ → ℤ) → 0 < A → z ≡ flat A P →
+    z′ ≡ flat A (bandMended a h W H s t B (cells A z)) →
     z′ ≡ flat A (bandMended a h W H s t B P)
 then-band A a h W H s t B P z z′ some e f =
     f ∙ flat-same A _ _ some (λ r c b. mended-same a h W H s t B _ _ r c (ap (λ (y : ℕ → ℤ). cells A y r c) e ∙ cells-flat A P r c b))

@@ -44,7 +44,8 @@ module _ (keep : ℤ → ℤ) (u v N a t w : ℕ) (K : Cut u v N a t w) (x y : �
       (λ k. elim (decLt (2 * n + 2) w) [ yes p ↦ high n l (omega arith) | no p ↦ high-last n l (k .0) (k .1) (omega arith) ])
       (λ k. high n l (omega arith)) (K .right)
 
-  highs-to : (n m k : ℕ) → v ≤ 2 * n → 2 * n + 1 < w → n + u < (w + 1) / 2 → n ≡ k → t + n ≡ m → lineForward keep (side 0 w) y hi k ≡ lineForward keep (side 0 N) x hi m
+  highs-to : (n m k : ℕ) → v ≤ 2 * n → 2 * n + 1 < w → n + u < (w + 1) / 2 → n ≡ k → t + n ≡ m →
+      lineForward keep (side 0 w) y hi k ≡ lineForward keep (side 0 N) x hi m
   highs-to n m k l b r from to = ap (lineForward keep (side 0 w) y hi) (sym from) ∙ highs n l b r ∙ ap (lineForward keep (side 0 N) x hi) to
 
   -- a low value with a high one after it, and without

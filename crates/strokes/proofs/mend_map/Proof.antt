@@ -38,7 +38,8 @@ returns c =
     let a = start .args in
     let n = a .width * a .height in (
       called .mend-window .ensures,
-      cleared-part n (n - 0) (a .work .now) (called .mend-window .last .1 .1 .1 .1 .1 .1 .0) _ (omega arith) (start .pre .3) (called .mend-window .kept .1 .1 .1 .1 .1 .1 .0) (clear .clear .ensures .1),
+      cleared-part n (n - 0) (a .work .now) (called .mend-window .last .1 .1 .1 .1 .1 .1 .0) _ (omega arith) (start .pre .3)
+          (called .mend-window .kept .1 .1 .1 .1 .1 .1 .0) (clear .clear .ensures .1),
     )
 
 pub mend-map-spec : {M : Type 1} → statement M

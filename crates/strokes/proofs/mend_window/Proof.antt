@@ -60,7 +60,8 @@ returns c =
     let p = start .pre in
     let fits : (i : ℕ) → getD (start .args .heights .now) i 0 < 65536 = λ i. omega (arith, one .before .shared-slice-known .given i) in
     let w = map-window (start .args .q) (p .0) (p .4) (one .widened .ensures) (two .widened2 .ensures) in
-    window-mended w (p .0) (start .args .heights .now) _ _ _ _ (start .args .q) fits (one .widened .ensures) (two .widened2 .ensures) (load .load .ensures) (levels .mend-levels .ensures)
+    window-mended w (p .0) (start .args .heights .now) _ _ _ _ (start .args .q) fits (one .widened .ensures) (two .widened2 .ensures)
+    (load .load .ensures) (levels .mend-levels .ensures)
 
 pub mend-window-spec : {M : Type 1} → statement M
 mend-window-spec =

@@ -42,8 +42,10 @@ returns c =
     let a = start .args in
     λ k u v u′ v′ G X Lc Lr same is.
     let band = work-band u v u′ v′ k (a .columns) (a .rows) Lc Lr G X same (a .stride) (start .pre .3 .wide) (at (a .work .now)) is in
-    highs-copied (a .across) (a .columns .length) (a .rows .length) (changedOf (a .columns)) (changedOf (a .rows)) G (cells (a .across) (at (a .plane .now))) _ _ _
-    (start .pre .4 .apart) (one .copy-band .ensures _ (band 1 0 (omega arith) (omega arith))) (two .copy-band2 .ensures _ (band 0 1 (omega arith) (omega arith)))
+    highs-copied (a .across) (a .columns .length) (a .rows .length) (changedOf (a .columns)) (changedOf (a .rows)) G (cells (a .across) (at
+    (a .plane .now))) _ _ _
+    (start .pre .4 .apart) (one .copy-band .ensures _ (band 1 0 (omega arith) (omega arith))) (two .copy-band2 .ensures _ (band 0 1 (omega arith)
+    (omega arith)))
     (three .copy-band3 .ensures _ (band 1 1 (omega arith) (omega arith)))
 
 pub copy-highs-spec : {M : Type 1} → statement M

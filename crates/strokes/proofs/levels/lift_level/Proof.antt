@@ -9,7 +9,11 @@ lift-columns-requires : tie.Need-lift-columns-requires
 lift-columns-requires c κs = c .before .pre .0
 
 lift-rows-requires : tie.Need-lift-rows-requires
-lift-rows-requires c κs = (rows-kept (c .before .before .lift-columns .kept .0) (c .before .before .before .before .pre .0), c .before .before .before .before .pre .1)
+lift-rows-requires c κs = (
+  rows-kept (c .before .before .lift-columns .kept .0)
+      (c .before .before .before .before .pre .0),
+  c .before .before .before .before .pre .1,
+)
 
 same-length : tie.Need-same-length
 same-length c = search needs

@@ -42,8 +42,14 @@ lift-level-requires c κs = let inv = c .before .before .loop .inv in (inv .6, i
 copy-highs-requires : tie.Need-copy-highs-requires Inv-loop μ-loop
 copy-highs-requires c κs =
     let lift = c .before .before .before in
-    let inv = lift .before .before .before .loop .inv in
-    (ready _ _ (inv .3) (inv .0), ready _ _ (inv .4) (inv .0), omega (arith, stride-small _ _ _ (inv .5)), rows-kept (lift .lift-level .kept .0) (inv .6), inv .7)
+    let inv = lift .before .before .before .loop .inv in (
+      ready _ _ (inv .3) (inv .0),
+      ready _ _ (inv .4) (inv .0),
+      omega (arith, stride-small _ _ _ (inv .5)),
+      rows-kept (lift .lift-level .kept .0)
+          (inv .6),
+      inv .7,
+    )
 
 lowered-requires : tie.Need-lowered-requires Inv-loop μ-loop
 lowered-requires c κs = let head = c .before .before .before .before .before .before .before .before in head .loop .inv .3 .lies .ends
@@ -52,7 +58,11 @@ lowered-requires-2 : tie.Need-lowered-requires-2 Inv-loop μ-loop
 lowered-requires-2 c κs = let head = c .before .before .before .before .before .before .before .before .before in head .loop .inv .4 .lies .ends
 
 mul-stride : tie.Need-mul-stride Inv-loop μ-loop
-mul-stride c = let head = c .before .before .before .before .before .before .before .before .before .before in omega (arith, stride-small _ _ _ (head .loop .inv .5))
+mul-stride c = let head = c .before .before .before .before .before .before .before .before .before .before in omega (
+  arith,
+  stride-small _ _ _
+      (head .loop .inv .5),
+)
 
 sub-left : tie.Need-sub-left Inv-loop μ-loop
 sub-left c = let head = c .before .before .before .before .before .before .before .before .before .before in omega (arith, head .loop .inv .0)
@@ -69,8 +79,10 @@ loop-again c =
     let head = turn .before in
     let inv = head .loop .inv in
     let a = head .before .args in
-    let next = levels-turn (a .across) _ _ (head .loop .stride) (head .loop .left) (head .loop .c) _ (head .loop .r) _ (turn .loop-test .taken) (low .lowered .ensures)
-    (c .lowered2 .ensures) (inv .3) (inv .4) (inv .5) (rows-kept (lift .lift-level .kept .0) (inv .6)) (rows-kept (copy .copy-highs .kept .1 .1 .0) (inv .7)) in (
+    let next = levels-turn (a .across) _ _ (head .loop .stride) (head .loop .left) (head .loop .c) _ (head .loop .r) _ (turn .loop-test .taken)
+    (low .lowered .ensures)
+    (c .lowered2 .ensures) (inv .3) (inv .4) (inv .5) (rows-kept (lift .lift-level .kept .0) (inv .6)) (rows-kept (copy .copy-highs .kept .1 .1 .0)
+    (inv .7)) in (
       next .0,
       lift .lift-level .kept .0 ∙ inv .1,
       copy .copy-highs .kept .1 .1 .0 ∙ inv .2,
@@ -81,7 +93,8 @@ loop-again c =
       next .5,
       λ goal u v u′ v′ S.
           standing-turn (a .across) goal u v u′ v′ (head .loop .left) (head .loop .stride) (head .loop .c) _ (head .loop .r) _ (at (head .loop .work)) _
-          (at (head .loop .plane)) _ (turn .loop-test .taken) (low .lowered .ensures) (c .lowered2 .ensures) (inv .7 .apart) (inv .6 .wide) (lift .lift-level .ensures)
+          (at (head .loop .plane)) _ (turn .loop-test .taken) (low .lowered .ensures) (c .lowered2 .ensures) (inv .7 .apart) (inv .6 .wide)
+          (lift .lift-level .ensures)
           (copy .copy-highs .ensures) (inv .8 goal u v u′ v′ S),
     )
 
@@ -91,15 +104,29 @@ lift-level-requires-2 c κs = let inv = c .before .before .loop .inv in (inv .6,
 copy-highs-requires-2 : tie.Need-copy-highs-requires-2 Inv-loop μ-loop
 copy-highs-requires-2 c κs =
     let lift = c .before .before .before in
-    let inv = lift .before .before .before .loop .inv in
-    (ready _ _ (inv .3) (inv .0), ready _ _ (inv .4) (inv .0), omega (arith, stride-small _ _ _ (inv .5)), rows-kept (lift .lift-level2 .kept .0) (inv .6), inv .7)
+    let inv = lift .before .before .before .loop .inv in (
+      ready _ _ (inv .3) (inv .0),
+      ready _ _ (inv .4) (inv .0),
+      omega (arith, stride-small _ _ _ (inv .5)),
+      rows-kept (lift .lift-level2 .kept .0)
+          (inv .6),
+      inv .7,
+    )
 
 copy-band-requires : tie.Need-copy-band-requires Inv-loop μ-loop
 copy-band-requires c κs =
     let copy = c .before .before .before in
     let lift = copy .before .before .before .before in
-    let inv = lift .before .before .before .loop .inv in
-    (ready _ _ (inv .3) (inv .0), ready _ _ (inv .4) (inv .0), omega arith, omega arith, omega (arith, stride-small _ _ _ (inv .5)), rows-kept (lift .lift-level2 .kept .0) (inv .6), rows-kept (copy .copy-highs2 .kept .1 .1 .0) (inv .7))
+    let inv = lift .before .before .before .loop .inv in (
+      ready _ _ (inv .3) (inv .0),
+      ready _ _ (inv .4) (inv .0),
+      omega arith,
+      omega arith,
+      omega (arith, stride-small _ _ _ (inv .5)),
+      rows-kept
+          (lift .lift-level2 .kept .0) (inv .6),
+      rows-kept (copy .copy-highs2 .kept .1 .1 .0) (inv .7),
+    )
 
 same-length : tie.Need-same-length Inv-loop μ-loop
 same-length c =

@@ -38,7 +38,12 @@ mul-first c =
     let p = start .pre in
     let R = p .1 in
     row-fits _ _ _ _ _ (p .5) (omega (arith, start .good .0 .1)) (p .4)
-    (omega (arith, c .before .part-of2 .ensures .2, first-row (R .placed .u) (R .placed .v) (R .more) (start .args .rows) (start .args .h) (R .placed .lies) (p .3)))
+    (omega (
+      arith,
+      c .before .part-of2 .ensures .2,
+      first-row (R .placed .u) (R .placed .v) (R .more) (start .args .rows) (start .args .h)
+          (R .placed .lies) (p .3),
+    ))
 
 add-first : tie.Need-add-first
 add-first c =
@@ -47,7 +52,12 @@ add-first c =
     let p = start .pre in
     let R = p .1 in
     place-fits _ _ _ _ _ (p .5) (omega (arith, start .good .0 .1)) (p .4)
-    (omega (arith, two .part-of2 .ensures .2, first-row (R .placed .u) (R .placed .v) (R .more) (start .args .rows) (start .args .h) (R .placed .lies) (p .3))) _
+    (omega (
+      arith,
+      two .part-of2 .ensures .2,
+      first-row (R .placed .u) (R .placed .v) (R .more) (start .args .rows) (start .args .h) (R .placed .lies)
+          (p .3),
+    )) _
     (across-in (start .args .columns) (start .args .a) _ (reaches (start .args .columns) (start .args .a) (p .0) (p .2)) (two .before .part-of .ensures .1))
 
 mul-copy-patch : tie.Need-mul-copy-patch
@@ -77,7 +87,8 @@ returns c =
     let p = start .pre in
     λ B hyp.
     band-called (a .across) (a .stride) (a .columns) (a .rows) (a .a) (a .h) (p .2) (p .3) (reaches (a .columns) (a .a) (p .0) (p .2))
-    (reaches (a .rows) (a .h) (p .1) (p .3)) (at (a .work .now)) (at (a .plane .now)) _ B _ _ _ _ _ (p .6 .apart) (one .part-of .ensures .0) (two .part-of2 .ensures .0)
+    (reaches (a .rows) (a .h) (p .1) (p .3)) (at (a .work .now)) (at (a .plane .now)) _ B _ _ _ _ _ (p .6 .apart) (one .part-of .ensures .0)
+    (two .part-of2 .ensures .0)
     (one .part-of .ensures .3) (two .part-of2 .ensures .3)
     (ap₂ (λ (x y : ℕ). x * a .stride + y) (two .part-of2 .ensures .2) (one .part-of .ensures .1)) hyp (copy .copy-patch .ensures)
 

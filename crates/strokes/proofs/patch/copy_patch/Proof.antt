@@ -20,7 +20,8 @@ Inv-loop from a stride to₀ across row column rows columns i₀ to i =
     × (column + columns ≤ across)
     × ((j : ℕ) → j < rows → a + j * stride + columns ≤ length from)
     × ((j : ℕ) → j < rows → (row + j) * across + column + columns ≤ length to₀)
-    × RowSwept across (patchCopied (patch row column rows columns) (λ j k. at from (a + j * stride + k)) (cells across (at to₀))) (cells across (at to₀)) (row + i)
+    × RowSwept across (patchCopied (patch row column rows columns) (λ j k. at from (a + j * stride + k)) (cells across (at to₀))) (cells across (at to₀))
+    (row + i)
     (at to)
 
 abbrev μ-loop : tie.MeasureT-loop
@@ -39,11 +40,13 @@ loop-holds c =
     )
 
 room : (c : tie.In-loop Inv-loop μ-loop) →
-    c .before .before .args .a + c .before .loop .i * c .before .before .args .stride + c .before .before .args .p .columns ≤ length (c .before .before .args .from .now)
+    c .before .before .args .a + c .before .loop .i * c .before .before .args .stride + c .before .before .args .p .columns ≤ length
+    (c .before .before .args .from .now)
 room c = c .before .loop .inv .4 (c .before .loop .i) (c .loop-test .taken)
 
 room-to : (c : tie.After-copy-to-arg Inv-loop μ-loop) →
-    (c .before .before .before .args .p .row + c .before .before .loop .i) * c .before .before .before .args .across + c .before .before .before .args .p .column +
+    (c .before .before .before .args .p .row + c .before .before .loop .i) * c .before .before .before .args .across + c .before .before .before .args .p
+    .column +
     c .before .before .before .args .p .columns ≤ length (c .before .before .loop .to)
 room-to c =
     let head = c .before .before in
@@ -88,7 +91,8 @@ loop-again c =
       inv .3,
       inv .4,
       inv .5,
-      patch-turn (a .across) (a .p .row) (a .p .column) (a .p .rows) (a .p .columns) (head .loop .i) (λ j k. at (a .from .now) (a .a + j * a .stride + k)) (at (a .to .now))
+      patch-turn (a .across) (a .p .row) (a .p .column) (a .p .rows) (a .p .columns) (head .loop .i) (λ j k. at (a .from .now) (a .a + j * a .stride + k))
+          (at (a .to .now))
           (at (head .loop .to)) _ (inv .3) (row .loop-test .taken) (called .copy-to .ensures) (inv .6),
     )
 

@@ -11,7 +11,8 @@ use Rattle.strokes.proofs.patch.copy_to.Statement.{statement}
 use Rattle.strokes.proofs.patch.copy_to.Tie as tie
 
 abbrev Inv-loop : tie.InvT-loop
-Inv-loop from a to₀ b n i₀ to i = (a + n ≤ length from) × (b + n ≤ length to₀) × (i ≤ n) × Swept (length to₀) (spliced b n (λ j. at from (a + j)) (at to₀)) (at to₀) (b + i) to
+Inv-loop from a to₀ b n i₀ to i = (a + n ≤ length from) × (b + n ≤ length to₀) × (i ≤ n) × Swept (length to₀) (spliced b n (λ j. at from (a + j))
+    (at to₀)) (at to₀) (b + i) to
 
 abbrev μ-loop : tie.MeasureT-loop
 μ-loop from a to₀ b n i₀ to i = n - i

@@ -20,7 +20,8 @@ Inv-loop heights across work₀ first top width height r₀ work r =
     × ((i : ℕ) → i < height → (top + i) * across + across ≤ length heights)
     × Rows (length work₀) width width height
     × (first + width ≤ across)
-    × RowSwept width (gridCopied width height (λ i j. cells across (heightsAt heights) (top + i) (first + j)) (cells width (at work₀))) (cells width (at work₀)) r
+    × RowSwept width (gridCopied width height (λ i j. cells across (heightsAt heights) (top + i) (first + j)) (cells width (at work₀))) (cells width
+    (at work₀)) r
     (at work)
 
 abbrev μ-loop : tie.MeasureT-loop
@@ -38,7 +39,8 @@ loop-holds c =
     )
 
 room : (c : tie.In-loop Inv-loop μ-loop) →
-    (c .before .before .before .args .rows .start + c .before .loop .r) * c .before .before .before .args .across + c .before .before .before .args .across ≤ length
+    (c .before .before .before .args .rows .start + c .before .loop .r) * c .before .before .before .args .across + c .before .before .before .args .across
+    ≤ length
     (c .before .before .before .args .heights .now)
 room c = c .before .loop .inv .2 (c .before .loop .r) (c .loop-test .taken)
 

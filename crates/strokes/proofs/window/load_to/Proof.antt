@@ -12,7 +12,8 @@ use Rattle.strokes.proofs.window.load_to.Statement.{statement}
 use Rattle.strokes.proofs.window.load_to.Tie as tie
 
 abbrev Inv-loop : tie.InvT-loop
-Inv-loop heights a work₀ b n i₀ work i = (a + n ≤ length heights) × (b + n ≤ length work₀) × (i ≤ n) × Swept (length work₀) (spliced b n (λ j. heightsAt heights (a + j)) (at work₀)) (at work₀) (b + i) work
+Inv-loop heights a work₀ b n i₀ work i = (a + n ≤ length heights) × (b + n ≤ length work₀) × (i ≤ n) × Swept (length work₀) (spliced b n
+    (λ j. heightsAt heights (a + j)) (at work₀)) (at work₀) (b + i) work
 
 abbrev μ-loop : tie.MeasureT-loop
 μ-loop heights a work₀ b n i₀ work i = n - i
