@@ -1,2 +1,3 @@
-pub mod BackLaws
-pub mod ForwardLaws
+pub mod FigureLaws
+pub mod RangeLaws
+pub mod Filters

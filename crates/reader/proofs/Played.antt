@@ -28,8 +28,8 @@ use Rattle.calls.specs.Lists.{Reply, gives, refused, Area, All, all-none, all-m
 use Rattle.calls.specs.Lists as lists
 use Rattle.calls.proofs.AllLaws.{all-append, In, first, later, in-left, in-right, all-in, in-all}
 use Rattle.calls.proofs.ListLaws.{ever-append, final-append, events-append, events-length}
-use Rattle.nine_seven.specs.Filters.{filterOf}
-use Rattle.nine_seven.proofs.Filters.{filter-laws}
+use Rattle.filters.specs.Filters.{filterOf}
+use Rattle.filters.proofs.Filters.{filter-laws}
 use Rattle.reader.specs.Answers.{row, drawNow, done, ended}
 use Rattle.reader.specs.Questions.{runFits, setUpQuestion}
 use Rattle.reader.specs.Demand3.{Call, want, feed, draw, Given, heights, Event, wanted, fed, drew, World, event, events}

@@ -13,7 +13,7 @@ use Rattle.numbers.specs.Signal.{pick}
 use Rattle.wavelet.specs.Questions.{ask}
 use Rattle.lifting.specs.Grid.{Side}
 use Rattle.wavelet.specs.Limits.{maxOrigin}
-use Rattle.figures.specs.Figures.{storeBy}
+use Rattle.filters.specs.Figures.{storeBy}
 use Rattle.wavelet.specs.View.{bandColumns}
 use Rattle.wavelet.specs.Order.{RowName}
 use Rattle.calls.specs.Lists.{Reply, gives, refused, unless, seen, Area}

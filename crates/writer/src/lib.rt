@@ -124,7 +124,7 @@ impl Writer {
         if 0 < no {
             return SetUp::Refused(no);
         }
-        let n = figures::store_length(filter, shape.width, x, shape.levels);
+        let n = filters::store_length(filter, shape.width, x, shape.levels);
         copies::clear(store, n);
         SetUp::Ready(Writer {
             width: shape.width,

@@ -8,8 +8,8 @@ use Rattle.numbers.specs.Signal.{pick}
 use Rattle.lifting.specs.Grid.{Side}
 use Rattle.wavelet.specs.Limits.{maxWidth}
 use Rattle.wavelet.specs.Questions.{within}
-use Rattle.nine_seven.specs.Filters.{filterOf, isFilter}
-use Rattle.figures.specs.Figures.{storeBy, streamable}
+use Rattle.filters.specs.Filters.{filterOf, isFilter}
+use Rattle.filters.specs.Figures.{storeBy, streamable}
 use Rattle.writer.specs.Questions.{setUpQuestion}
 use Rattle.writer.proofs.gate.set_up_question.Statement.{statement}
 use Rattle.writer.proofs.gate.set_up_question.Tie as tie

@@ -1,2 +1,0 @@
-pub mod FigureLaws
-pub mod RangeLaws
