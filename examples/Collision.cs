@@ -1,6 +1,7 @@
 // Collision ground from a reader's rows, as an engine in C# would load it: band rows in the order that the reader wants, height rows as they come, each one
 // at once a strip of two triangles a cell. Every machine gets the same ground, so the same wheel stands at the same height.
-//   mcs -unsafe examples/Collision.cs bindings/csharp/Terrain.cs -out:target/Collision.exe && LD_LIBRARY_PATH=target/ports/lib/x86_64-linux mono target/Collision.exe
+//   mcs -unsafe examples/Collision.cs bindings/csharp/Terrain.cs -out:target/Collision.exe
+//   LD_LIBRARY_PATH=target/ports/lib/x86_64-linux mono target/Collision.exe
 using System;
 using Terrain;
 
@@ -24,7 +25,8 @@ sealed class Ground
     // The ground's height in 1/65,536 of a step at a place in 1/256 of a cell, in whole numbers: no machine rounds otherwise.
     public long At(int x, int y)
     {
-        int column = Math.Min(x >> 8, width - 2), row = Math.Min(y >> 8, height - 2), right = x - (column << 8), down = y - (row << 8), at = row * width + column;
+        int column = Math.Min(x >> 8, width - 2), row = Math.Min(y >> 8, height - 2), at = row * width + column;
+        int right = x - (column << 8), down = y - (row << 8);
         long a = heights[at], b = heights[at + 1], c = heights[at + width], d = heights[at + width + 1];
         // the cell's two triangles meet on the way from its upper right to its lower left corner
         if (right + down <= 256) return (a << 16) + ((b - a) * right + (c - a) * down << 8);

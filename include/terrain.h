@@ -1,4 +1,6 @@
-/* The terrain streamer's C interface, for x86-64 Linux: link libterrain.a (from target/staticlib, or from where it is installed).
+/* The terrain streamer's C interface: link libterrain.a (from target/staticlib or from where it is installed for x86-64 Linux, from target/ports
+ * for other machines). What is proved is the source, for every machine; each build is tested, where something runs it; the compiler's back end is
+ * trusted (STUDIOS.md, "Which file for which platform").
  *
  * Each call answers 0, or the number of the question that turned it away; a call turned away changes nothing that was lent to it, the
  * numbers it would have set included. (14 is the one exception, and the calls that give it say what it changes.)
@@ -188,7 +190,7 @@ uint32_t terrain_map_backward(const int32_t *plane, size_t plane_len, terrain_sh
  * rectangle reaches in the plane gets what the whole transform of the new heights has there; all else stays. So a plane that belonged to a
  * map equal outside the rectangle is the new map's afterwards. The heights read are the rectangle widened by at most 4 * 2^levels - 2 each
  * way, so the work goes with the rectangle, not with the map; but the work area, width * height numbers, is zeroed as by the whole map, which
- * takes time with the map (docs/requests/Q-9.md has the figures).
+ * takes time with the map (STUDIOS.md has the figures).
  *
  * It answers 2, 3, 4 (1 to 5 levels), 5 (an area is too short) as above, and 19: the rectangle is empty or leaves the map, its sums taken
  * without wrapping. A call that is turned away changes nothing. */
@@ -323,6 +325,8 @@ uint32_t terrain_turns_give(uint64_t turns[4], size_t *reader);
 #define TERRAIN_BAD_INPUT 15
 #define TERRAIN_BAD_SAMPLE 16
 #define TERRAIN_BAD_FILTER 18
+#define TERRAIN_BAD_RECTANGLE 19
+#define TERRAIN_BAD_READER 21
 
 /* What the question of that number says; STUDIOS.md says what to do about each. It is this header's own and not in the archive. */
 TERRAIN_INLINE const char *terrain_sentence(uint32_t number)

@@ -50,7 +50,8 @@ export function bands(canvas, plane, shape, widths, heightsOf) {
   }
   for (const [b, values] of members) {
     values.sort((x, y) => x - y);
-    scales[b] = b ? { from: 0, span: Math.max(1, values[Math.floor(values.length * 0.98)]) } : { from: values[0], span: Math.max(1, values[values.length - 1] - values[0]) };
+    const last = values[values.length - 1], most = values[Math.floor(values.length * 0.98)];
+    scales[b] = b ? { from: 0, span: Math.max(1, most) } : { from: values[0], span: Math.max(1, last - values[0]) };
   }
   paint(canvas, width, height, (i) => {
     const b = band(Math.floor(i / width), i % width), { from, span } = scales[b];

@@ -55,7 +55,8 @@ async function readPng(bytes) {
     if (kind === 'IDAT') parts.push(data);
     at += 12 + length;
   }
-  if (!header || header.colour !== 0 || ![8, 16].includes(header.bits) || header.interlaced) throw new Error('a PNG of 8 or 16 bits grey, not interlaced, is wanted');
+  const known = header && header.colour === 0 && [8, 16].includes(header.bits) && !header.interlaced;
+  if (!known) throw new Error('a PNG of 8 or 16 bits grey, not interlaced, is wanted');
   const stream = new Blob(parts).stream().pipeThrough(new DecompressionStream('deflate'));
   return unfiltered(new Uint8Array(await new Response(stream).arrayBuffer()), header);
 }

@@ -19,7 +19,10 @@ function roundTrip({ width, height, heights }, levels, plane) {
   const shape = { width, height, levels }, writer = terrain.writer(shape), made = new Int32Array(plane.length);
   let cuts = 0, rows = 0;
   const draw = () => {
-    for (let row = writer.draw(); row; row = writer.draw(), rows++) made.set(row.values, terrain.bandRow(plane.length, shape, row.level, row.band, row.row).start);
+    for (let row = writer.draw(); row; row = writer.draw(), rows++) {
+      const { start } = terrain.bandRow(plane.length, shape, row.level, row.band, row.row);
+      made.set(row.values, start);
+    }
   };
   for (let at = 0; at < heights.length; cuts++) {
     at += writer.offer(heights.subarray(at, at + 1 + Math.floor(Math.random() * 3 * width)));
@@ -53,11 +56,12 @@ function readBack(shape, plane, heights) {
 
 function facts(map, levels, trip) {
   const { low, high } = range(map.heights);
+  const cut = `in ${sized(trip.cuts)} runs cut at random, ${sized(trip.rows)} band rows`;
   return [
     ['Size', `${sized(map.width)} × ${sized(map.height)}`],
     ['Heights', `${sized(low)} to ${sized(high)}`],
     ['Sum', sha256(fixedForm(map))],
-    ['Round trip', trip.same && trip.back ? `identical, through writer and reader at ${levels} levels, in ${sized(trip.cuts)} runs cut at random, ${sized(trip.rows)} band rows` : 'NOT identical: please report this map'],
+    ['Round trip', trip.same && trip.back ? `identical, through writer and reader at ${levels} levels, ${cut}` : 'NOT identical: please report this map'],
   ];
 }
 
@@ -82,14 +86,16 @@ function compare(name, map) {
   element('compared').hidden = false;
   const said = element('difference');
   if (map.width !== first.map.width || map.height !== first.map.height) {
-    said.textContent = `${name} is ${sized(map.width)} × ${sized(map.height)}, ${first.name} is ${sized(first.map.width)} × ${sized(first.map.height)}: two different grounds.`;
+    const size = (of) => `${sized(of.width)} × ${sized(of.height)}`;
+    said.textContent = `${name} is ${size(map)}, ${first.name} is ${size(first.map)}: two different grounds.`;
     element('where').hidden = true;
     return;
   }
   element('where').hidden = false;
   const found = difference(element('where'), first.map, map);
+  const share = `${sized(found.count)} of ${sized(map.heights.length)} heights differ, by at most ${sized(found.largest)}`;
   said.textContent = found.count
-    ? `${sized(found.count)} of ${sized(map.heights.length)} heights differ, by at most ${sized(found.largest)}; the first at row ${found.row}, column ${found.column} (from 0). Red: higher in ${name}; blue: lower.`
+    ? `${share}; the first at row ${found.row}, column ${found.column} (from 0). Red: higher in ${name}; blue: lower.`
     : `${name} is the same ground: every height is equal.`;
 }
 

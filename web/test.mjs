@@ -41,6 +41,8 @@ assert.deepEqual(await readMap('a.png', png(7, 11, heights)), map);
 assert.deepEqual(await readMap('a.pgm', fixedForm(map)), map);
 assert.deepEqual(await readMap('a.pgm', bytes('P5#c\n3 #d\r1\t255#e\n\x01\x02\x03')), { width: 3, height: 1, heights: Uint16Array.of(1, 2, 3) });
 assert.deepEqual(await readMap('a.r16', bytes('\x01\x02')), { width: 1, height: 1, heights: Uint16Array.of(513) });
-for (const wrong of ['P53 1 255 abc', 'P5 3 1 255 ab', 'P5 3 1 2 abc', 'P5 0 1 255 ', 'P5 1 1 65536 ab', 'GIF']) await assert.rejects(readMap('a.pgm', bytes(wrong)), Error, wrong);
+for (const wrong of ['P53 1 255 abc', 'P5 3 1 255 ab', 'P5 3 1 2 abc', 'P5 0 1 255 ', 'P5 1 1 65536 ab', 'GIF']) {
+  await assert.rejects(readMap('a.pgm', bytes(wrong)), Error, wrong);
+}
 assert.equal(sha256(bytes('abc')), 'ba7816bf8f01cfea414140de5dae2223b00361a396177a9cb410ff61f20015ad');
 assert.equal(sha256(new Uint8Array(119)).length, 64);

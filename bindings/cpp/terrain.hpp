@@ -38,7 +38,10 @@ private:
 // The question that turned a call away.
 class Refused : public std::runtime_error {
 public:
-    explicit Refused(std::uint32_t question) : std::runtime_error(std::string(terrain_sentence(question)) + " (" + std::to_string(question) + ")"), question(question) {}
+    explicit Refused(std::uint32_t question)
+        : std::runtime_error(std::string(terrain_sentence(question)) + " (" + std::to_string(question) + ")"), question(question)
+    {
+    }
     const std::uint32_t question;
 };
 
@@ -70,6 +73,12 @@ inline void map_forward(Area<const std::uint16_t> heights, Shape shape, Area<std
 inline void map_backward(Area<const std::int32_t> plane, Shape shape, Area<std::uint16_t> heights, Area<std::int32_t> work)
 {
     detail::passed(terrain_map_backward(plane.data(), plane.size(), shape, heights.data(), heights.size(), work.data(), work.size()));
+}
+
+// As the library names it: level, band, number, length.
+inline BandRow band_row_of(const std::uint64_t named[4])
+{
+    return {static_cast<std::size_t>(named[0]), static_cast<std::size_t>(named[1]), static_cast<std::size_t>(named[2]), static_cast<std::size_t>(named[3])};
 }
 
 // Where a band row stands in a plane.
@@ -117,7 +126,7 @@ public:
     {
         std::uint64_t named[TERRAIN_ROW_LENGTH] = {};
         detail::passed(terrain_writer_draw(state_.data(), store_.data(), store_.size(), detail::lent(out), out.size(), named));
-        row = {static_cast<std::size_t>(named[0]), static_cast<std::size_t>(named[1]), static_cast<std::size_t>(named[2]), static_cast<std::size_t>(named[3])};
+        row = band_row_of(named);
         return named[0] != 0;
     }
 
@@ -136,7 +145,7 @@ public:
     {
         std::uint64_t wanted[TERRAIN_WANT_LENGTH] = {};
         detail::passed(terrain_reader_want(state_.data(), wanted));
-        row = {static_cast<std::size_t>(wanted[1]), static_cast<std::size_t>(wanted[2]), static_cast<std::size_t>(wanted[3]), static_cast<std::size_t>(wanted[4])};
+        row = band_row_of(wanted + 1);
         return static_cast<Want>(wanted[0]);
     }
 

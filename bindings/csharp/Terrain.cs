@@ -1,6 +1,6 @@
 // Height maps to wavelet coefficients and back, exactly: C# over the proved library (include/terrain.h), by P/Invoke, as Unity loads a native plug-in.
-// Writer and Reader own their state and their line store. A call that is turned away throws Refused, which has the question's number; it has changed nothing that
-// was lent to it, but for 14, which ends a reader.
+// Writer and Reader own their state and their line store. A call that is turned away throws Refused, which has the question's number; it has changed
+// nothing that was lent to it, but for 14, which ends a reader.
 using System;
 using System.Runtime.InteropServices;
 
@@ -64,7 +64,8 @@ namespace Terrain
         public static ArraySegment<int> Row(int[] plane, Shape shape, BandRow row)
         {
             UIntPtr start = UIntPtr.Zero, length = UIntPtr.Zero;
-            Refused.IfNot(Native.terrain_band_row(Size(plane), shape, (UIntPtr)(ulong)row.Level, (UIntPtr)(ulong)row.Band, (UIntPtr)(ulong)row.Row, ref start, ref length));
+            UIntPtr level = (UIntPtr)(uint)row.Level, band = (UIntPtr)(uint)row.Band, number = (UIntPtr)(ulong)row.Row;
+            Refused.IfNot(Native.terrain_band_row(Size(plane), shape, level, band, number, ref start, ref length));
             return new ArraySegment<int>(plane, (int)start, (int)length);
         }
 
@@ -96,7 +97,10 @@ namespace Terrain
             UIntPtr taken = UIntPtr.Zero;
             ushort none = 0;
             fixed (ushort* first = run.Array)
-                Refused.IfNot(Native.terrain_writer_offer(state, store, Map.Size(store), run.Count == 0 ? &none : first + run.Offset, (UIntPtr)(uint)run.Count, ref taken));
+            {
+                ushort* from = run.Count == 0 ? &none : first + run.Offset;
+                Refused.IfNot(Native.terrain_writer_offer(state, store, Map.Size(store), from, (UIntPtr)(uint)run.Count, ref taken));
+            }
             return (int)taken;
         }
 
@@ -133,7 +137,10 @@ namespace Terrain
         {
             int none = 0;
             fixed (int* first = values.Array)
-                Refused.IfNot(Native.terrain_reader_feed(state, store, Map.Size(store), values.Count == 0 ? &none : first + values.Offset, (UIntPtr)(uint)values.Count));
+            {
+                int* from = values.Count == 0 ? &none : first + values.Offset;
+                Refused.IfNot(Native.terrain_reader_feed(state, store, Map.Size(store), from, (UIntPtr)(uint)values.Count));
+            }
         }
 
         // How many heights of the next row stand at the front of `heights`; 0 where none can be drawn.
@@ -148,18 +155,31 @@ namespace Terrain
     static unsafe class Native
     {
         const string Library = "terrain";
-        [DllImport(Library)] internal static extern UIntPtr terrain_store_length(Shape shape);
-        [DllImport(Library)] internal static extern uint terrain_map_forward(ushort[] heights, UIntPtr n, Shape shape, int[] plane, UIntPtr m, int[] work, UIntPtr w);
-        [DllImport(Library)] internal static extern uint terrain_map_backward(int[] plane, UIntPtr n, Shape shape, ushort[] heights, UIntPtr m, int[] work, UIntPtr w);
-        [DllImport(Library)] internal static extern uint terrain_band_row(UIntPtr plane, Shape shape, UIntPtr level, UIntPtr band, UIntPtr row, ref UIntPtr start, ref UIntPtr length);
-        [DllImport(Library)] internal static extern uint terrain_profile(ushort[] row, UIntPtr n, float[] profile, UIntPtr m);
-        [DllImport(Library)] internal static extern uint terrain_writer_set_up(ulong[] state, Shape shape, int[] store, UIntPtr n);
-        [DllImport(Library)] internal static extern uint terrain_writer_offer(ulong[] state, int[] store, UIntPtr n, ushort* run, UIntPtr m, ref UIntPtr taken);
-        [DllImport(Library)] internal static extern uint terrain_writer_draw(ulong[] state, int[] store, UIntPtr n, int[] values, UIntPtr m, ulong[] row);
-        [DllImport(Library)] internal static extern uint terrain_writer_finish(ulong[] state, int[] store, UIntPtr n);
-        [DllImport(Library)] internal static extern uint terrain_reader_set_up(ulong[] state, Shape shape, int[] store, UIntPtr n);
-        [DllImport(Library)] internal static extern uint terrain_reader_want(ulong[] state, ulong[] want);
-        [DllImport(Library)] internal static extern uint terrain_reader_feed(ulong[] state, int[] store, UIntPtr n, int* values, UIntPtr m);
-        [DllImport(Library)] internal static extern uint terrain_reader_draw(ulong[] state, int[] store, UIntPtr n, ushort[] heights, UIntPtr m, ref UIntPtr drawn);
+        [DllImport(Library)]
+        internal static extern UIntPtr terrain_store_length(Shape shape);
+        [DllImport(Library)]
+        internal static extern uint terrain_map_forward(ushort[] heights, UIntPtr n, Shape shape, int[] plane, UIntPtr m, int[] work, UIntPtr w);
+        [DllImport(Library)]
+        internal static extern uint terrain_map_backward(int[] plane, UIntPtr n, Shape shape, ushort[] heights, UIntPtr m, int[] work, UIntPtr w);
+        [DllImport(Library)]
+        internal static extern uint terrain_band_row(UIntPtr plane, Shape shape, UIntPtr level, UIntPtr band, UIntPtr row, ref UIntPtr start, ref UIntPtr length);
+        [DllImport(Library)]
+        internal static extern uint terrain_profile(ushort[] row, UIntPtr n, float[] profile, UIntPtr m);
+        [DllImport(Library)]
+        internal static extern uint terrain_writer_set_up(ulong[] state, Shape shape, int[] store, UIntPtr n);
+        [DllImport(Library)]
+        internal static extern uint terrain_writer_offer(ulong[] state, int[] store, UIntPtr n, ushort* run, UIntPtr m, ref UIntPtr taken);
+        [DllImport(Library)]
+        internal static extern uint terrain_writer_draw(ulong[] state, int[] store, UIntPtr n, int[] values, UIntPtr m, ulong[] row);
+        [DllImport(Library)]
+        internal static extern uint terrain_writer_finish(ulong[] state, int[] store, UIntPtr n);
+        [DllImport(Library)]
+        internal static extern uint terrain_reader_set_up(ulong[] state, Shape shape, int[] store, UIntPtr n);
+        [DllImport(Library)]
+        internal static extern uint terrain_reader_want(ulong[] state, ulong[] want);
+        [DllImport(Library)]
+        internal static extern uint terrain_reader_feed(ulong[] state, int[] store, UIntPtr n, int* values, UIntPtr m);
+        [DllImport(Library)]
+        internal static extern uint terrain_reader_draw(ulong[] state, int[] store, UIntPtr n, ushort[] heights, UIntPtr m, ref UIntPtr drawn);
     }
 }

@@ -113,6 +113,8 @@ static const part parts[CHECK_PARTS] = {
     {"scribbled", scribbled_streams, 1500},
     {"limits", limits, 300},
     {"turns", turn_givers, 2000},
+    {"nearest", nearest_changes, 2000},
+    {"strokes", strokes, 2000},
     {"wide maps", maps, 1500},
     {"wide pictures", pictures, 3000},
 };

@@ -38,4 +38,6 @@ void streams(void);
 void scribbled_streams(void);
 void limits(void);
 void turn_givers(void);
+void nearest_changes(void);
+void strokes(void);
 #endif

@@ -1,14 +1,8 @@
 //! The built programs, run on an input and an output of the test's own.
+pub use crate::built::program;
 use std::io::Read;
-use std::path::{Path, PathBuf};
 use std::process::{Child, Command, Stdio};
 use std::thread;
-
-pub fn program(name: &str) -> PathBuf {
-    let path = Path::new(env!("CARGO_MANIFEST_DIR")).join("../target/bin").join(name);
-    assert!(path.is_file(), "{} is missing: run `rt check {name}`", path.display());
-    path
-}
 
 /// What a program wrote, and what it said on standard error.
 pub struct Said {

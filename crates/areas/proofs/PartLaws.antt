@@ -12,8 +12,8 @@ use Rattle.lifting.specs.Line.{Half, lo, hi}
 use Rattle.lifting.specs.Grid.{Side, half, count, place, parted, joined}
 use Rattle.lifting.specs.GridHalves.{halvesOf, inHalves, partedInto}
 use Rattle.lifting.proofs.GridLaws.{halves-are}
-use Rattle.half_places.specs.Places.{begins}
-use Rattle.half_places.proofs.HalfLaws.{evens, odds, by-parity, evens-fit, odds-fit, evens-last, odds-first}
+use Rattle.areas.specs.Places.{begins}
+use Rattle.areas.proofs.HalfLaws.{evens, odds, by-parity, evens-fit, odds-fit, evens-last, odds-first}
 use Rattle.areas.proofs.Splices.{splice-swap}
 
 -- ---- m numbers f laid in memory z from place a on

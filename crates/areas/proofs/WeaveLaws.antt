@@ -14,10 +14,10 @@ use Rattle.numbers.proofs.Parts.{length-mid, at-mid, window-in, splice-below, s
 use Rattle.lifting.specs.Grid.{Side, joined}
 use Rattle.lifting.specs.GridHalves.{halvesOf}
 use Rattle.lifting.specs.Halves.{fronted}
-use Rattle.half_places.specs.Places.{begins}
+use Rattle.areas.specs.Places.{begins}
 use Rattle.areas.specs.Areas.{alternated, inTurn, heightsAt, wholes}
 use Rattle.areas.proofs.AreaLaws.{front-at, front-rest}
-use Rattle.half_places.proofs.HalfLaws.{evens, odds}
+use Rattle.areas.proofs.HalfLaws.{evens, odds}
 use Rattle.areas.proofs.PartLaws.{half-at, even-place, odd-place, Halves}
 use Rattle.areas.proofs.HeightLaws.{finish-heights}
 

@@ -1,6 +1,6 @@
 // Heights, u16, of a row that starts at any coordinate, read into a row in halves, written from one, and cleared. Of the start its parity counts.
 use crate::place;
-use half_places::rows;
+use crate::rows;
 ghost use mathlib.Core.Path.{_≡_};
 ghost use Prim.Native.Nat.{_+_, _-_, _*_, _/_, _≤_};
 ghost use lib.IntN.{pos};

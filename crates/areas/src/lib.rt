@@ -5,3 +5,4 @@ pub mod height_rows;
 pub mod lines;
 mod place;
 pub mod ranges;
+pub mod rows;

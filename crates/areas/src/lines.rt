@@ -1,6 +1,6 @@
 // Lines that start at any coordinate, laid in halves and woven into their own order. Of the start its parity counts.
 use crate::place;
-use half_places::rows;
+use crate::rows;
 ghost use mathlib.Core.Path.{_≡_};
 ghost use Prim.Native.Nat.{_+_, _-_, _*_, _/_, _≤_};
 ghost use lib.ListN.{length};

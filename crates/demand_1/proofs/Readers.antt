@@ -9,8 +9,8 @@ use borrow.Author.Tests.{eqb-true}
 use Rattle.numbers.specs.Signal.{pick}
 use Rattle.lifting.specs.Grid.{Side}
 use Rattle.wavelet.specs.Asks.{needed, ReaderSetUpAsks}
-use Rattle.figures.specs.Figures.{storeBy}
-use Rattle.figures.proofs.PlainFigures.{needed-is}
+use Rattle.filters.specs.Figures.{storeBy}
+use Rattle.filters.proofs.PlainFigures.{needed-is}
 use Rattle.reader.specs.declared.Reader.{Reader}
 use Rattle.reader.specs.Answers.{Reply, gives, refused, impossible, number}
 use Rattle.reader.specs.State.{columns}

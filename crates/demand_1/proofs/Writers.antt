@@ -13,11 +13,11 @@ use Rattle.wavelet.specs.Limits.{maxWidth}
 use Rattle.wavelet.specs.Questions.{within}
 use Rattle.wavelet.specs.Asks.{Width, Known, Levels, needed, WriterSetUpAsks}
 use Rattle.wavelet.proofs.AskLaws.{width-exactly}
-use Rattle.nine_seven.specs.Filters.{filterOf, isFilter}
+use Rattle.filters.specs.Filters.{filterOf, isFilter}
 use Rattle.calls.specs.Lists.{Reply, gives, refused, unless, changedUnless}
 use Rattle.level.specs.Level.{Memory}
-use Rattle.figures.specs.Figures.{storeBy, streamable}
-use Rattle.figures.proofs.PlainFigures.{known-exactly, levels-exactly, needed-is}
+use Rattle.filters.specs.Figures.{storeBy, streamable}
+use Rattle.filters.proofs.PlainFigures.{known-exactly, levels-exactly, needed-is}
 use Rattle.writer.specs.declared.Writer.{Writer}
 use Rattle.writer.specs.Taking.{columnsOf}
 use Rattle.writer.specs.Questions.{setUpQuestion, offerQuestion, drawQuestion, waitsQuestion, finishQuestion}

@@ -13,7 +13,7 @@ use Rattle.wavelet.specs.Bands.{Grid}
 use Rattle.wavelet.specs.Plane.{flat, planeOf, mapBack}
 use Rattle.wavelet.specs.ViewCall.{viewQuestion, viewRow, viewStart, viewLength}
 use Rattle.wavelet.specs.Asks.{Passes, MapAsks, ViewAsks}
-use Rattle.nine_seven.specs.Filters.{filterOf}
+use Rattle.filters.specs.Filters.{filterOf}
 use Rattle.map_questions.specs.Calls.{forwardQuestion, backwardQuestion, zeros, passed, rebuilt}
 use Rattle.map_questions.specs.Plain.{BackwardAsks}
 use Rattle.level.specs.Level.{Memory}

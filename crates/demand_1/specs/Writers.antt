@@ -10,7 +10,7 @@ use Rattle.numbers.specs.Signal.{pick}
 use Rattle.lifting.specs.Grid.{Side}
 use Rattle.wavelet.specs.Asks.{Width, Known, Levels, needed, WriterSetUpAsks}
 use Rattle.level.specs.Level.{Memory}
-use Rattle.figures.specs.Figures.{storeBy, streamable}
+use Rattle.filters.specs.Figures.{storeBy, streamable}
 use Rattle.writer.specs.declared.Writer.{Writer}
 use Rattle.writer.specs.Taking.{columnsOf}
 use Rattle.writer.specs.Questions.{offerQuestion, drawQuestion, waitsQuestion, finishQuestion}

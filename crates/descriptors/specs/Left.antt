@@ -31,7 +31,13 @@ readsNow w l = cond w (leb (l .to) (l .from)) false
 -- what is so once a read of a chunk of n bytes answered `got`: so many bytes came, and none at the input's end; below 0 it failed, which is not the end
 abbrev pub came : ℤ → ℕ → Filled
 came got n =
-    record { left = record { from = 0; to = clamped got n }; got = got; read = clamped got n; ended = cond (ltZ got (pos 0)) false (eqb (clamped got n) 0); failed = ltZ got (pos 0) }
+    record {
+      left = record { from = 0; to = clamped got n };
+      got = got;
+      read = clamped got n;
+      ended = cond (ltZ got (pos 0)) false (eqb (clamped got n) 0);
+      failed = ltZ got (pos 0);
+    }
 
 abbrev pub nothingNew : Left → Filled
 nothingNew l = record { left = l; got = pos 0; read = 0; ended = false; failed = false }

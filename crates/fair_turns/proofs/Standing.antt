@@ -23,11 +23,13 @@ use Rattle.calls.specs.Lists as lists
 use Rattle.calls.proofs.ListLaws.{ever-snoc, events-snoc, gathered-snoc}
 use Rattle.reader_steps.specs.Sets.{ahead}
 use Rattle.reader_steps.proofs.Looks.{named-code}
-use Rattle.reader.specs.Questions.{runFits, setUpQuestion}
+use Rattle.reader.specs.Questions.{runFits, storeFits, setUpQuestion}
 use Rattle.reader.specs.Demand3.{Call, want, feed, draw, Given, heights, nothing, Event, wanted, fed, drew, World, event, events, final, freshWorld}
-use Rattle.reader.specs.Demand3.{goesOn, rest, leftBy, left, ends, endedBy, wantSays, feedTurned, drawSays, OneOf, this, that, Draws, Demand3}
+use Rattle.reader.specs.Demand3.{goesOn, rest, leftBy, left, ends, endedBy, wantSays, feedAway, feedTurned, drawGives, drawSays, OneOf, this, that}
+use Rattle.reader.specs.Demand3.{Draws, Demand3}
 use Rattle.reader.specs.Demand3 as demand
 use Rattle.reader.proofs.Demand3.{left-append, demand-3}
+use Rattle.reader.proofs.Played.{set-up-room}
 use Rattle.fair_turns.specs.Reading.{Reading, ReadingLaws}
 use Rattle.fair_turns.specs.Together as together
 use Rattle.fair_turns.specs.FedInTurn.{moments, InTurn, FedInOrder}
@@ -59,29 +61,46 @@ module _ (f : ℕ) (W : Side) where
   unfolding namesRow wantSays
   names-it x t = ap (λ b. rowName (x .level) b (x .row) ∷ []) (named-code (x .band))
 
-  -- by no 14, and by nothing only where a row is the next step
-  not-fourteen : (b : Bool) (t : List Step) (a : Area) → eqb (feedTurned f W b t a) 14 ≡ false
-  unfolding feedTurned
-  not-fourteen true t a = refl
-  not-fourteen false [] a = refl
-  not-fourteen false (step.draw r ∷ t) a = refl
-  not-fourteen false (step.feed y ∷ t) a = go (eqb (a .size) (bandColumns W (y .level) (y .band))) (runFits f (y .level) (a .size) (a .numbers))
+  -- by no 14, and by nothing only where a row is the next step; n numbers of the store are lent
+  away-not-fourteen : (b : Bool) (t : List Step) (a : Area) → eqb (feedAway f W b t a) 14 ≡ false
+  unfolding feedAway
+  away-not-fourteen true t a = refl
+  away-not-fourteen false [] a = refl
+  away-not-fourteen false (step.draw r ∷ t) a = refl
+  away-not-fourteen false (step.feed y ∷ t) a = go (eqb (a .size) (bandColumns W (y .level) (y .band))) (runFits f (y .level) (a .size) (a .numbers))
     where
       go : (p q : Bool) → eqb (ask p 13 (ask q 7 0)) 14 ≡ false
       go true true = refl
       go true false = refl
       go false q = refl
 
-  taken-step : (b : Bool) (t : List Step) (a : Area) → feedTurned f W b t a ≡ 0 → (y : RowName) × ((u : List Step) × (t ≡ step.feed y ∷ u))
+  not-fourteen : (L : ℕ) (b : Bool) (t : List Step) (n : ℕ) (a : Area) → eqb (feedTurned f W L b t n a) 14 ≡ false
   unfolding feedTurned
-  taken-step true t a e = absurd (omega arith)
-  taken-step false [] a e = absurd (omega arith)
-  taken-step false (step.draw r ∷ t) a e = absurd (omega arith)
-  taken-step false (step.feed y ∷ t) a e = (y, (t, refl))
+  not-fourteen L b t n a = go (storeFits f W L n)
+    where
+      go : (p : Bool) → eqb (ask p 5 (feedAway f W b t a)) 14 ≡ false
+      go true = away-not-fourteen b t a
+      go false = refl
 
-  fits-taken : (x : RowName) (t : List Step) (a : Area) → FitsRow f W x a → feedTurned f W false (step.feed x ∷ t) a ≡ 0
+  away-step : (b : Bool) (t : List Step) (a : Area) → feedAway f W b t a ≡ 0 → (y : RowName) × ((u : List Step) × (t ≡ step.feed y ∷ u))
+  unfolding feedAway
+  away-step true t a e = absurd (omega arith)
+  away-step false [] a e = absurd (omega arith)
+  away-step false (step.draw r ∷ t) a e = absurd (omega arith)
+  away-step false (step.feed y ∷ t) a e = (y, (t, refl))
+
+  taken-step : (L : ℕ) (b : Bool) (t : List Step) (n : ℕ) (a : Area) → feedTurned f W L b t n a ≡ 0 → (y : RowName) × ((u : List Step) × (t ≡ step.feed y ∷ u))
   unfolding feedTurned
-  fits-taken x t a h = rw (eq-eqb (a .size) (bandColumns W (x .level) (x .band)) (h .size), h .numbers) refl
+  taken-step L b t n a = go (storeFits f W L n)
+    where
+      go : (p : Bool) → ask p 5 (feedAway f W b t a) ≡ 0 → (y : RowName) × ((u : List Step) × (t ≡ step.feed y ∷ u))
+      go true e = away-step b t a e
+      go false e = absurd (omega arith)
+
+  fits-taken : (L n : ℕ) → storeFits f W L n ≡ true → (x : RowName) (t : List Step) (a : Area) → FitsRow f W x a →
+      feedTurned f W L false (step.feed x ∷ t) n a ≡ 0
+  unfolding feedTurned feedAway
+  fits-taken L n room x t a h = rw (room, eq-eqb (a .size) (bandColumns W (x .level) (x .band)) (h .size), h .numbers) refl
 
 -- ---- what an event does to the steps left, t
 data Effect (t : List Step) (e : Event) : Type 0 where
@@ -91,25 +110,27 @@ data Effect (t : List Step) (e : Event) : Type 0 where
   fed-ends : (a : Area) → takesRun e ≡ a ∷ [] → ends e ≡ true → Effect t e
   drawn-ends : (r : ℕ) (u : List Step) → t ≡ step.draw r ∷ u → ends e ≡ true → Effect t e
 
--- a draw
-drawn-effect : (W : Side) (t : List Step) (a b : Area) (v : Reply Given) → OneOf v (drawSays W false t (a .size)) (refused 14) →
-    (v ≡ refused 14 → drawSays W false t (a .size) ≡ gives (heights (W .length))) → Effect t (drew a v b)
-unfolding drawSays goesOn ends takesRun
-drawn-effect W [] a b v (this e) p = rw e (same refl refl refl)
-drawn-effect W (step.feed y ∷ t) a b v (this e) p = rw e (same refl refl refl)
-drawn-effect W (step.draw r ∷ t) a b v (this e) p = rw e (go (leb (W .length) (a .size)))
+-- a draw; p says whether the store that it is lent is long enough
+drawn-effect : (W : Side) (t : List Step) (p : Bool) (a b : Area) (v : Reply Given) → OneOf v (pick p (drawGives W false t (a .size)) (refused 5)) (refused 14) →
+    (v ≡ refused 14 → pick p (drawGives W false t (a .size)) (refused 5) ≡ gives (heights (W .length))) → Effect t (drew a v b)
+unfolding drawGives goesOn ends takesRun
+drawn-effect W t false a b v (this e) possible = rw e (same refl refl refl)
+drawn-effect W t false a b v (that e) possible = absurd (let g = possible e in let z : _≡_ {A = ℕ} 0 1 = cc in omega arith)
+drawn-effect W [] true a b v (this e) possible = rw e (same refl refl refl)
+drawn-effect W (step.feed y ∷ t) true a b v (this e) possible = rw e (same refl refl refl)
+drawn-effect W (step.draw r ∷ t) true a b v (this e) possible = rw e (go (leb (W .length) (a .size)))
   where
     go : (q : Bool) → Effect (step.draw r ∷ t) (drew a (pick q (gives (heights (W .length))) (refused 12)) b)
     go true = drawn-on r t refl refl refl
     go false = same refl refl refl
-drawn-effect W [] a b v (that e) p = absurd (let g = p e in let z : _≡_ {A = ℕ} 0 1 = cc in omega arith)
-drawn-effect W (step.feed y ∷ t) a b v (that e) p = absurd (let g = p e in let z : _≡_ {A = ℕ} 0 1 = cc in omega arith)
-drawn-effect W (step.draw r ∷ t) a b v (that e) p = rw e (drawn-ends r t refl refl)
+drawn-effect W [] true a b v (that e) possible = absurd (let g = possible e in let z : _≡_ {A = ℕ} 0 1 = cc in omega arith)
+drawn-effect W (step.feed y ∷ t) true a b v (that e) possible = absurd (let g = possible e in let z : _≡_ {A = ℕ} 0 1 = cc in omega arith)
+drawn-effect W (step.draw r ∷ t) true a b v (that e) possible = rw e (drawn-ends r t refl refl)
 
 -- ---- every list of calls on the fresh reader
 module _ (f : ℕ) (W H : Side) (L m : ℕ) (across : W .start ≤ maxOrigin) (down : H .start ≤ maxOrigin) (ok : setUpQuestion f W H L m ≡ 0) (x₀ : ℕ → ℤ) where
   abbrev w₀ : World
-  w₀ = freshWorld f W H L m x₀
+  w₀ = freshWorld f W H L x₀
 
   abbrev T₀ : List Step
   T₀ = steps (ahead f) W H L
@@ -118,26 +139,27 @@ module _ (f : ℕ) (W H : Side) (L m : ℕ) (across : W .start ≤ maxOrigin) (d
   claim cs = demand-3 f W H L m across down ok x₀ cs .claim
 
   effect : (cs : List Call) (c : Call) → endedBy (events cs w₀) ≡ false → Effect (left T₀ (events cs w₀)) (event c (final cs w₀))
-  unfolding event goesOn ends takesRun
+  unfolding event goesOn ends takesRun drawSays
   effect cs want h = same refl refl refl
-  effect cs (feed a) h = go (feedTurned f W (endedBy (events cs w₀)) (left T₀ (events cs w₀)) a) refl
+  effect cs (feed n a) h = go (feedTurned f W L (endedBy (events cs w₀)) (left T₀ (events cs w₀)) n a) refl
     where
-      on : feedTurned f W (endedBy (events cs w₀)) (left T₀ (events cs w₀)) a ≡ 0 →
-          OneOf (event (feed a) (final cs w₀)) (fed a (gives tt)) (fed a (refused 14)) → Effect (left T₀ (events cs w₀)) (event (feed a) (final cs w₀))
-      on z (this e) = let s = taken-step f W _ _ a z in subst (Effect (left T₀ (events cs w₀))) (sym e) (fed-on (s .0) (s .1 .0) a (s .1 .1) refl refl)
+      on : feedTurned f W L (endedBy (events cs w₀)) (left T₀ (events cs w₀)) n a ≡ 0 →
+          OneOf (event (feed n a) (final cs w₀)) (fed a (gives tt)) (fed a (refused 14)) → Effect (left T₀ (events cs w₀)) (event (feed n a) (final cs w₀))
+      on z (this e) = let s = taken-step f W L _ _ n a z in subst (Effect (left T₀ (events cs w₀))) (sym e) (fed-on (s .0) (s .1 .0) a (s .1 .1) refl refl)
       on z (that e) = subst (Effect (left T₀ (events cs w₀))) (sym e) (fed-ends a refl refl)
 
-      go : (q : ℕ) → feedTurned f W (endedBy (events cs w₀)) (left T₀ (events cs w₀)) a ≡ q → Effect (left T₀ (events cs w₀)) (event (feed a) (final cs w₀))
-      go zero z = on z (claim cs .feeds-on a z)
+      go : (q : ℕ) → feedTurned f W L (endedBy (events cs w₀)) (left T₀ (events cs w₀)) n a ≡ q →
+          Effect (left T₀ (events cs w₀)) (event (feed n a) (final cs w₀))
+      go zero z = on z (claim cs .feeds-on n a z)
       go (suc q) z =
-          let no : eqb (suc q) 14 ≡ false = ap (λ k. eqb k 14) (sym z) ∙ not-fourteen f W (endedBy (events cs w₀)) (left T₀ (events cs w₀)) a in
-          subst (Effect (left T₀ (events cs w₀))) (sym (claim cs .feeds-turned a q z)) (same refl no (ap (λ b. pick b (a ∷ []) []) no))
-  effect cs (draw a) h =
-      let d = claim cs .draws a in
+          let no : eqb (suc q) 14 ≡ false = ap (λ k. eqb k 14) (sym z) ∙ not-fourteen f W L (endedBy (events cs w₀)) (left T₀ (events cs w₀)) n a in
+          subst (Effect (left T₀ (events cs w₀))) (sym (claim cs .feeds-turned n a q z)) (same refl no (ap (λ b. pick b (a ∷ []) []) no))
+  effect cs (draw n a) h =
+      let d = claim cs .draws n a in
       subst (Effect (left T₀ (events cs w₀))) (sym (d .is))
-      (drawn-effect W (left T₀ (events cs w₀)) a (d .after) (d .answer)
-      (subst (λ b. OneOf (d .answer) (drawSays W b (left T₀ (events cs w₀)) (a .size)) (refused 14)) h (d .says))
-      (λ e. ap (λ b. drawSays W b (left T₀ (events cs w₀)) (a .size)) (sym h) ∙ d .possible e))
+      (drawn-effect W (left T₀ (events cs w₀)) (storeFits f W L n) a (d .after) (d .answer)
+      (subst (λ b. OneOf (d .answer) (pick (storeFits f W L n) (drawGives W b (left T₀ (events cs w₀)) (a .size)) (refused 5)) (refused 14)) h (d .says))
+      (λ e. ap (λ b. pick (storeFits f W L n) (drawGives W b (left T₀ (events cs w₀)) (a .size)) (refused 5)) (sym h) ∙ d .possible e))
 
   -- one call more
   module _ (cs : List Call) (d : Call) where
@@ -206,8 +228,8 @@ module _ (f : ℕ) (W H : Side) (L m : ℕ) (across : W .start ≤ maxOrigin) (d
   is-named cs want x e =
       let a = asks-row f W (endedBy (events cs w₀)) (left T₀ (events cs w₀)) x (ap namesRow (sym (claim cs .wants)) ∙ e) in
       record { live = a .0; later = a .1 .0; next = a .1 .1 }
-  is-named cs (feed a) x e = absurd (let z : _≡_ {A = ℕ} 0 1 = cc in omega arith)
-  is-named cs (draw a) x e = absurd (let z : _≡_ {A = ℕ} 0 1 = cc in omega arith)
+  is-named cs (feed n a) x e = absurd (let z : _≡_ {A = ℕ} 0 1 = cc in omega arith)
+  is-named cs (draw n a) x e = absurd (let z : _≡_ {A = ℕ} 0 1 = cc in omega arith)
 
   named-is : (cs : List Call) (x : RowName) → Named cs x → namesRow (event want (final cs w₀)) ≡ x ∷ []
   named-is cs x n =
@@ -245,14 +267,15 @@ module _ (f : ℕ) (W H : Side) (L m : ℕ) (across : W .start ≤ maxOrigin) (d
     names-stay = λ cs c d x e s. let n = is-named cs c x e in named-is (cs ++ (d ∷ [])) x (stays cs d x n s (effect cs d (n .live)));
     takes-named = λ cs c x a e h.
         let n = is-named cs c x e in
-        takes-it a (event (feed a) (final cs w₀))
-        (claim cs .feeds-on a (ap₂ (λ b t. feedTurned f W b t a) (n .live) (n .next) ∙ fits-taken f W x (n .later) a h));
+        takes-it a (event (feed m a) (final cs w₀))
+        (claim cs .feeds-on m a (ap₂ (λ b t. feedTurned f W L b t m a) (n .live) (n .next)
+        ∙ fits-taken f W L m (set-up-room f W H L m ok) x (n .later) a h));
   }
 
 -- ---- so sixteen of them, of whatever filters, sizes, levels and stores, of which reader n was set up by a call that passed
 pub standing-in-turn : (f : ℕ → ℕ) (W H : ℕ → Side) (L m : ℕ → ℕ) (x : ℕ → ℕ → ℤ) (n : ℕ) → W n .start ≤ maxOrigin → H n .start ≤ maxOrigin →
     setUpQuestion (f n) (W n) (H n) (L n) (m n) ≡ 0 → (disk : RowName → Area) →
-    (w : together.World (λ k. standing (f k) (W k) (H k) (L k) (m k) (x k))) → w .readers n ≡ freshWorld (f n) (W n) (H n) (L n) (m n) (x n) →
+    (w : together.World (λ k. standing (f k) (W k) (H k) (L k) (m k) (x k))) → w .readers n ≡ freshWorld (f n) (W n) (H n) (L n) (x n) →
     (cs : List (together.Call (λ k. standing (f k) (W k) (H k) (L k) (m k) (x k)))) →
     InTurn (standing (f n) (W n) (H n) (L n) (m n) (x n)) n disk false [] (moments (λ k. standing (f k) (W k) (H k) (L k) (m k) (x k)) n
     (together.events (λ k. standing (f k) (W k) (H k) (L k) (m k) (x k)) cs w)) →

@@ -1,4 +1,5 @@
--- The reader that stands, as one that takes turns: of the filter f, the columns W and the rows H at L levels, on a store of n numbers in which x stood.
+-- The reader that stands, as one that takes turns: of the filter f, the columns W and the rows H at L levels, on a store in which x stood; its feeds are lent n
+-- numbers of it.
 use mathlib.Core.Path.{_≡_}
 use mathlib.Core.Bool.{true}
 use mathlib.Core.List.{List, [], _∷_}
@@ -44,10 +45,10 @@ standing f W H L n x = record {
   Event = Event;
   event = event;
   next = next;
-  fresh = freshWorld f W H L n x;
+  fresh = freshWorld f W H L x;
   rows = bandRowsOf (steps (ahead f) W H L);
   want = want;
-  feed = feed;
+  feed = feed n;
   names = namesRow;
   takes = takesRun;
   Fits = FitsRow f W;

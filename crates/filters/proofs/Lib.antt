@@ -1,2 +1,4 @@
-pub mod BackLaws
-pub mod ForwardLaws
+pub mod FigureLaws
+pub mod RangeLaws
+pub mod Filters
+pub mod PlainFigures

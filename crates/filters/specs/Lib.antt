@@ -1,2 +1,3 @@
-pub mod Back
-pub mod Forward
+pub mod Figures
+pub mod Range
+pub mod Filters

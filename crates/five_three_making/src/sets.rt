@@ -1,9 +1,9 @@
 // The sets of a level. Slots are told by the set's parity, so that no number of a row can overflow: row 2n is in slot 2 × (n mod 2).
 // The module is private: only this crate, which meets what is required, can call it.
-use five_three_lines::line;
-use five_three_lines::pairs;
-use five_three_lines::rows;
 use level::moves;
+use lifting::line;
+use lifting::pairs;
+use lifting::rows;
 ghost use mathlib.Core.Path.{_≡_};
 ghost use Prim.Native.Nat.{_≤_, _*_};
 ghost use lib.ListN.{length};

@@ -1,6 +1,6 @@
 // The calls of `nine_seven` that `terrain` does not export, exported likewise: each has that crate's own promise.
-use nine_seven_lines::line;
-use nine_seven_lines::rows;
+use nine_seven::line;
+use nine_seven::rows;
 ghost use mathlib.Core.Path.{_≡_};
 ghost use lib.ListN.{length};
 ghost use Rattle.numbers.specs.Signal.{at, pick};

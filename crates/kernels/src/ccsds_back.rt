@@ -1,20 +1,18 @@
-// The calls of `nine_seven_rebuilding`, exported likewise: each has that crate's own promise.
-use nine_seven_rebuilding::rebuilding;
+// The calls of `synthesis` at the 9/7, exported likewise: each has that crate's own promise.
+use synthesis::back;
 ghost use mathlib.Core.Path.{_≡_};
 ghost use lib.ListN.{length};
 ghost use lib.Dec.{leb};
 ghost use Rattle.numbers.specs.Signal.{at, pick};
 ghost use Rattle.lifting.specs.Grid.{side};
 ghost use Rattle.level.specs.Rebuilding.{widest, workAnswer};
-ghost use Rattle.nine_seven_rebuilding.specs.Slots.{rowPlace};
-ghost use Rattle.nine_seven_rebuilding.specs.Work.{setWorked};
-ghost use Rattle.nine_seven_rebuilding.specs.Rebuilding.{workable, workLeft};
+ghost use Rattle.synthesis.specs.Back.{backOf, rowPlaceOf, workableOf, workLeftOf};
 
 #[no_mangle]
 pub extern "C" fn ccsds_row_place(w: usize, r: usize) -> usize
-    ensures { λ a. ⌜ a ≡ pick (leb w widest) (rowPlace w r) 0 ⌝ }
+    ensures { λ a. ⌜ a ≡ pick (leb w widest) (rowPlaceOf 1 w r) 0 ⌝ }
 {
-    rebuilding::row_place(w, r)
+    back::row_place(1, w, r)
 }
 
 #[no_mangle]
@@ -29,11 +27,11 @@ pub extern "C" fn ccsds_work_set(
     n: usize,
 ) -> u32
     ensures { λ r. ⌜ r ≡
-        workAnswer (workable last k (side x w) (side y h) n (length (now (stretch .entry))))
-        (setWorked last k (side x w) (side y h) n (at (now (stretch .entry)))) ⌝ }
+        workAnswer (workableOf 1 last k (side x w) (side y h) n (length (now (stretch .entry))))
+        (backOf 1 .work last k (side x w) (side y h) n (at (now (stretch .entry)))) ⌝ }
     ensures { λ _. ⌜ at (now (stretch .exit)) ≡
-        workLeft (side x w) (workable last k (side x w) (side y h) n (length (now (stretch .entry))))
-        (setWorked last k (side x w) (side y h) n (at (now (stretch .entry)))) (at (now (stretch .entry))) ⌝ }
+        workLeftOf 1 (side x w) (workableOf 1 last k (side x w) (side y h) n (length (now (stretch .entry))))
+        (backOf 1 .work last k (side x w) (side y h) n (at (now (stretch .entry)))) (at (now (stretch .entry))) ⌝ }
 {
-    rebuilding::work_set(stretch, last, k, w, h, x, y, n) as u32
+    back::work_set(stretch, 1, last, k, w, h, x, y, n) as u32
 }

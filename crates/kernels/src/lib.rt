@@ -5,10 +5,10 @@ mod ccsds_back;
 mod ccsds_columns;
 mod ccsds_level;
 
-use five_three_lines::halves;
-use five_three_lines::line;
-use five_three_lines::pairs;
-use five_three_lines::rows;
+use lifting::halves;
+use lifting::line;
+use lifting::pairs;
+use lifting::rows;
 ghost use mathlib.Core.Path.{_≡_};
 ghost use lib.ListN.{length};
 ghost use lib.Dec.{leb};

@@ -88,7 +88,7 @@ same-range F m k h = let e : min k m ≡ k = omega arith in ap (λ (i : ℕ). po
 -- ---- a row's test, made on the part that is lent
 module _ (m : ℕ) (F : Filter) where
   pub admit-is : (k w r a n : ℕ) (l : List ℤ) (low high : ℤ) → a ≡ rowPlace m w r → n ≡ w → a + n ≤ length l → low ≡ lowestBy F k → high ≡ pos (range F k) →
-      every (length (midOf a n l)) (λ i. between low high (at (midOf a n l) i)) ≡ rowFits m F k w r (at l)
+      every (length (midOf a n l)) (λ i. between low high (at (midOf a n l) i)) ≡ rowFits m (valueFits F) k w r (at l)
   unfolding rowFits
   admit-is k w r a n l low high ea en room el eh =
       ap (λ (n′ : ℕ). every n′ (λ i. between low high (at (midOf a n l) i))) (length-mid a n l room ∙ en)

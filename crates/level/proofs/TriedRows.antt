@@ -1,22 +1,16 @@
--- Rows tried in a level's stretch of m rows, by any filter F: what trying comes to, and a row tested. Assumes nothing.
+-- Rows tried in a level's stretch of m rows: what trying comes to, and a row tested. Assumes nothing.
 use mathlib.Core.Path.{_≡_, refl, sym, subst, _∙_}
 use mathlib.Core.Bool.{Bool, true, false}
 use Prim.Native.Nat.{ℕ, _+_, _<_}
 use lib.IntN.{ℤ}
 use lib.Dec.{T}
 use Rattle.numbers.specs.Signal.{pick}
-use Rattle.numbers.specs.Word.{wrap32}
 use Rattle.numbers.proofs.TestLaws.{every-each, each-every}
 use Rattle.lifting.specs.Line.{Half}
 use Rattle.lifting.specs.Grid.{Side, place, count, parted}
-use Rattle.lifting.specs.Filter.{Filter}
 use Rattle.lifting.proofs.GridLaws.{place-in, in-place, by-place}
-use Rattle.wavelet.specs.Bands.{Grid, Band, levelBack}
-use Rattle.wavelet.specs.Maps.{valueFits}
-use Rattle.wavelet.specs.Steps.{setOf}
 use Rattle.level.specs.Tried.{Tried, failed, passed, bind}
 use Rattle.level.specs.Stretch.{rowPlace, halfPlace, rowFits, admitted, RowStands}
-use Rattle.level.specs.Stands.{SetFitsBy}
 use Rattle.level.proofs.RowsIn.{half-inside, by-halves}
 
 -- ---- what trying comes to: a memory with a property, or a value that does not fit where N says that all do
@@ -48,15 +42,14 @@ module _ (m : ℕ) (W : Side) (P : ℤ → Bool) (q : ℕ) (x row : ℕ → ℤ)
       by-halves W (λ j. P (x (rowPlace m (W .length) q + j)) ≡ true)
       (λ a i b. subst (λ v. P v ≡ true) (sym (s a i b)) (f (place W a i) (place-in W a i b)))
 
--- ---- the test of 14 of row r of the grid, which set n makes at the look-ahead a
-pub admit : (F : Filter) (m a k : ℕ) (W H : Side) (p : Band → Grid) (P : (ℕ → ℤ) → Type 0) (n q r : ℕ) (x : ℕ → ℤ) → r < H .length → setOf a H r ≡ n →
-    RowStands m W x q (parted W (levelBack F wrap32 W H p r)) →
-    (((c : ℕ) → c < W .length → valueFits F k (levelBack F wrap32 W H p r c) ≡ true) → P x) →
-    Outcome (SetFitsBy F a k W H p n) P (admitted m F k (W .length) q x)
+-- ---- the test of a row, by which nothing goes on if a value does not pass and N says that all do
+pub admit : (test : ℕ → ℤ → Bool) (m k : ℕ) (W : Side) (N : Type 0) (P : (ℕ → ℤ) → Type 0) (q : ℕ) (row x : ℕ → ℤ) →
+    (N → (c : ℕ) → c < W .length → test k (row c) ≡ true) → RowStands m W x q (parted W row) →
+    (((c : ℕ) → c < W .length → test k (row c) ≡ true) → P x) → Outcome N P (admitted m test k (W .length) q x)
 unfolding admitted rowFits
-admit F m a k W H p P n q r x b o s f = go (rowFits m F k (W .length) q x) refl
+admit test m k W N P q row x all s f = go (rowFits m test k (W .length) q x) refl
   where
-    go : (t : Bool) → rowFits m F k (W .length) q x ≡ t → Outcome (SetFitsBy F a k W H p n) P (pick t (passed x) failed)
-    go true e = goes x (f (each-stands m W (valueFits F k) q x (levelBack F wrap32 W H p r) s (every-each (W .length) _ e)))
-    go false e = stops (λ all. not-false (rowFits m F k (W .length) q x)
-        (each-every (W .length) _ (stands-each m W (valueFits F k) q x (levelBack F wrap32 W H p r) s (λ c u. all .fit r c b o u))) e)
+    go : (t : Bool) → rowFits m test k (W .length) q x ≡ t → Outcome N P (pick t (passed x) failed)
+    go true e = goes x (f (each-stands m W (test k) q x row s (every-each (W .length) _ e)))
+    go false e = stops (λ n. not-false (rowFits m test k (W .length) q x)
+        (each-every (W .length) _ (stands-each m W (test k) q x row s (all n))) e)

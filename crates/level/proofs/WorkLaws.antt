@@ -9,7 +9,6 @@ use Rattle.numbers.specs.Signal.{pick, windowed, spliced}
 use Rattle.lifting.specs.Line.{lo}
 use Rattle.lifting.specs.Grid.{Side, side, count, joined}
 use Rattle.lifting.specs.GridHalves.{halvesOf}
-use Rattle.lifting.specs.Filter.{Filter}
 use Rattle.wavelet.specs.Levels.{next}
 use Rattle.wavelet.specs.Order.{firstSet}
 use Rattle.level.specs.Tried.{Tried, failed, passed, outcome, bind}
@@ -66,19 +65,19 @@ module _ (m : ℕ) (back : Side → (ℕ → ℤ) → ℕ → ℤ) (W H : Side) 
   unfolding stretch.setUnlifted
   set-high y e = bind-passed _ (stretch.highTried m back W H n) y e
 
--- ---- a row tested by the filter F; an only row, at an odd coordinate
-module _ (m : ℕ) (F : Filter) (k w q : ℕ) where
-  pub told : (ok : Bool) (z y : ℕ → ℤ) → z ≡ y → ok ≡ stretch.rowFits m F k w q z → outcome ok z ≡ stretch.admitted m F k w q y
+-- ---- a row tested; an only row, at an odd coordinate
+module _ (m : ℕ) (test : ℕ → ℤ → Bool) (k w q : ℕ) where
+  pub told : (ok : Bool) (z y : ℕ → ℤ) → z ≡ y → ok ≡ stretch.rowFits m test k w q z → outcome ok z ≡ stretch.admitted m test k w q y
   unfolding stretch.admitted
-  told ok z y ez eo = ap (λ (b : Bool). outcome b z) eo ∙ ap (stretch.admitted m F k w q) ez
+  told ok z y ez eo = ap (λ (b : Bool). outcome b z) eo ∙ ap (stretch.admitted m test k w q) ez
 
   module _ (x : ℕ → ℤ) where
-    pub lone-no : stretch.rowIsEven m w q x ≡ false → failed ≡ stretch.loneMade m (stretch.admitted m F) k w q x
+    pub lone-no : stretch.rowIsEven m w q x ≡ false → failed ≡ stretch.loneMade m (stretch.admitted m test) k w q x
     unfolding stretch.loneMade
     lone-no e = rw e refl
 
-    pub lone-made : (ok : Bool) (z : ℕ → ℤ) → stretch.rowIsEven m w q x ≡ true → z ≡ stretch.rowHalved m w q x → ok ≡ stretch.rowFits m F k w q z →
-        outcome ok z ≡ stretch.loneMade m (stretch.admitted m F) k w q x
+    pub lone-made : (ok : Bool) (z : ℕ → ℤ) → stretch.rowIsEven m w q x ≡ true → z ≡ stretch.rowHalved m w q x → ok ≡ stretch.rowFits m test k w q z →
+        outcome ok z ≡ stretch.loneMade m (stretch.admitted m test) k w q x
     unfolding stretch.loneMade
     lone-made ok z e ez eo = rw e (told ok z _ ez eo)
 

@@ -5,7 +5,6 @@ use lib.IntN.{ℤ}
 use lib.Dec.{ltb}
 use Rattle.numbers.specs.Signal.{pick}
 use Rattle.lifting.specs.Grid.{Side}
-use Rattle.lifting.specs.Filter.{Filter}
 use Rattle.level.specs.Tried.{Tried, failed, passed, bind}
 use Rattle.level.specs.Stretch as stretch
 use Rattle.level.specs.Stretch.{endOf, hasLow}
@@ -23,9 +22,9 @@ module _ (n : ℕ) where
   tried x y a true = goes a
   tried x y a false = stops
 
-  pub admits : (m : ℕ) (F : Filter) (k w r : ℕ) (x y : ℕ → ℤ) → Kept n x y → Keeps n x (stretch.admitted m F k w r y)
+  pub admits : (m : ℕ) (test : ℕ → ℤ → Bool) (k w r : ℕ) (x y : ℕ → ℤ) → Kept n x y → Keeps n x (stretch.admitted m test k w r y)
   unfolding stretch.admitted
-  admits m F k w r x y a = tried x y a (stretch.rowFits m F k w r y)
+  admits m test k w r x y a = tried x y a (stretch.rowFits m test k w r y)
 
   -- what is done only where a test says so
   pub either : (x : ℕ → ℤ) (u v : Tried) → Keeps n x u → Keeps n x v → (t : Bool) → Keeps n x (pick t u v)
@@ -66,10 +65,10 @@ module _ {m : ℕ} (some : 0 < m) (W H : Side) where
     unfolding stretch.setUnlifted
     rows-past n x = bound room x _ _ (low-past n x) (high-past n)
 
-  pub lone-past : (F : Filter) (k q : ℕ) (x : ℕ → ℤ) → Keeps room x (stretch.loneMade m (stretch.admitted m F) k (W .length) q x)
+  pub lone-past : (test : ℕ → ℤ → Bool) (k q : ℕ) (x : ℕ → ℤ) → Keeps room x (stretch.loneMade m (stretch.admitted m test) k (W .length) q x)
   unfolding stretch.loneMade
-  lone-past F k q x =
-      either room x _ _ (admits room m F k (W .length) q x (stretch.rowHalved m (W .length) q x) (only-kept (only-halved some W q x))) stops
+  lone-past test k q x =
+      either room x _ _ (admits room m test k (W .length) q x (stretch.rowHalved m (W .length) q x) (only-kept (only-halved some W q x))) stops
       (stretch.rowIsEven m (W .length) q x)
 
   -- a set made, its low-low row taken first

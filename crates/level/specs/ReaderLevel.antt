@@ -1,11 +1,12 @@
 -- What a level does on the way back, of the columns W and the rows H, in its own stretch of the line store. The store is a signal x: what stands at each place,
 -- counted from where the level's stretch begins.
--- The machine above knows a level by these definitions alone; the 5/3 level is `fiveThreeBack` (FiveThreeBack).
+-- The machine above knows a level by these definitions alone; those of the two filters are `backOf` (crate synthesis). The way back and the test are fields, so
+-- that another reader, which limits a value where this one refuses it, is another level and no other machine.
 use mathlib.Core.Bool.{Bool}
 use Prim.Native.Nat.{ℕ}
 use lib.IntN.{ℤ}
 use Rattle.lifting.specs.Grid.{Side}
-use Rattle.wavelet.specs.Bands.{Band}
+use Rattle.wavelet.specs.Bands.{Band, Grid}
 use Rattle.level.specs.Tried.{Tried}
 
 pub record ReaderLevel : Type 0 where
@@ -20,3 +21,7 @@ pub record ReaderLevel : Type 0 where
   pub work : Bool → ℕ → Side → Side → ℕ → (ℕ → ℤ) → Tried
   -- made W s r: row r, in its own order, once its set is worked out; the level's rows start at s
   pub made : Side → ℕ → ℕ → (ℕ → ℤ) → ℕ → ℤ
+  -- back k W H p: the grid that the bands p come to, its rows low-low values of level k (k = 0: heights)
+  pub back : ℕ → Side → Side → (Band → Grid) → Grid
+  -- fits k v: v may stand in such a row; else 14
+  pub fits : ℕ → ℤ → Bool

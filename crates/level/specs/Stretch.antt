@@ -14,10 +14,8 @@ use Rattle.lifting.specs.Line.{Half, lo, hi}
 use Rattle.lifting.specs.Grid.{Side, count, joined, isEven}
 use Rattle.lifting.specs.GridHalves.{halvesOf, hasLineIn}
 use Rattle.lifting.specs.Rows.{rowChanged}
-use Rattle.lifting.specs.Filter.{Filter}
 use Rattle.wavelet.specs.Bands.{Grid, Band, across, down}
 use Rattle.wavelet.specs.Levels.{next}
-use Rattle.wavelet.specs.Maps.{valueFits}
 use Rattle.wavelet.specs.Order.{firstSet, setRow, setHas}
 use Rattle.level.specs.Tried.{Tried, passed, failed, outcome, bind}
 
@@ -93,12 +91,12 @@ module _ (m : ℕ) where
   unfoldable pub loneMade : Admission → ℕ → ℕ → ℕ → (ℕ → ℤ) → Tried
   loneMade admit k w q x = pick (rowIsEven w q x) (admit k w q (rowHalved w q x)) failed
 
-  -- the test of 14 by the filter F: the row is left if all of it fits
-  unfoldable pub rowFits : Filter → ℕ → ℕ → ℕ → (ℕ → ℤ) → Bool
-  rowFits F k w q x = every w (λ i. valueFits F k (x (rowPlace w q + i)))
+  -- a test of each value of level k's low-low part, as 14 is: the row is left if all of it passes
+  unfoldable pub rowFits : (ℕ → ℤ → Bool) → ℕ → ℕ → ℕ → (ℕ → ℤ) → Bool
+  rowFits test k w q x = every w (λ i. test k (x (rowPlace w q + i)))
 
-  unfoldable pub admitted : Filter → Admission
-  admitted F k w q x = outcome (rowFits F k w q x) x
+  unfoldable pub admitted : (ℕ → ℤ → Bool) → Admission
+  admitted test k w q x = outcome (rowFits test k w q x) x
 
   -- in the slot of the row at q stands a row by its halves: two band rows, or the even and the odd coordinates of a line
   abbrev pub RowStands : Side → (ℕ → ℤ) → ℕ → (Half → ℕ → ℤ) → Type 0

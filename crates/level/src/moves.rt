@@ -1,7 +1,7 @@
 // Rows moved within a store, whatever filter the level has. Each call answers 0, or 5 with nothing changed where a row does not lie in the store.
 use crate::copies;
 use crate::heights;
-use five_three_lines::rows;
+use lifting::rows;
 ghost use mathlib.Core.Path.{_≡_};
 ghost use Prim.Native.Nat.{_+_};
 ghost use lib.ListN.{length};

@@ -23,3 +23,9 @@ pub mod PassLaws
 pub mod GridThereAndBack
 pub mod ThereAndBack
 pub mod ColumnLaws
+pub mod PlaceLaws
+pub mod AreaLaws
+pub mod LiftLaws
+pub mod BackLaws
+pub mod LoneTests
+pub mod EachLaws

@@ -10,7 +10,7 @@ use lib.ListN.{length, drop, getD}
 use Rattle.numbers.specs.Word.{whole}
 use Rattle.lifting.specs.Grid.{side}
 use Rattle.lifting.specs.FiveThree.{fiveThreeFilter}
-use Rattle.nine_seven.specs.Filters.{filterOf}
+use Rattle.filters.specs.Filters.{filterOf}
 use Rattle.wavelet.specs.Limits.{maxHeight, maxSample}
 use Rattle.wavelet.specs.Bands.{Grid, Band, LL, HL, LH, HH, code}
 use Rattle.wavelet.specs.Levels.{levelBand}

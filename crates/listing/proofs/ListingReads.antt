@@ -55,7 +55,8 @@ module _ (n k : ℕ) (store : mapStore ≤ n) (row : maxPictureWidth ≤ k) (s :
   ReachedAs E f o y = ReachedBy n k E f o (progressOf y) (stepTo n k w (s .store) (s .row) y)
 
   -- ---- before the head is there
-  head-reads : (E : List Event) (f : Bool) (o : List ℕ) (y : StepAnswer) → E ≡ [] → f ≡ false → i .phase < 3 → o ≡ [] → StepIs i y → SaneThen y → ReachedAs E f o y
+  head-reads : (E : List Event) (f : Bool) (o : List ℕ) (y : StepAnswer) → E ≡ [] → f ≡ false → i .phase < 3 → o ≡ [] → StepIs i y → SaneThen y →
+      ReachedAs E f o y
   head-reads E f o y a b c d (on j p q) (more t) = record { reached = quiet (append-nil E ∙ a) b q refl d; input = refl; sane = t }
   head-reads E f o y a b c d (begins-so j W H p q r g) (begun-sane t) = record {
     reached = rw (a, b, d) (begin-reached n k store row j w W H (s .store) (s .row) q r shape);

@@ -10,7 +10,7 @@ use lib.ListN.{length, drop}
 use borrow.Author.Tests.{le-leb}
 use Rattle.numbers.specs.Signal.{pick}
 use Rattle.lifting.specs.Grid.{side}
-use Rattle.nine_seven.specs.Filters.{filterOf}
+use Rattle.filters.specs.Filters.{filterOf}
 use Rattle.wavelet.specs.Bands.{across}
 use Rattle.wavelet.specs.Levels.{sideAt}
 use Rattle.wavelet.specs.View.{bandColumns}

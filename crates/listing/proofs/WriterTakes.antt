@@ -16,8 +16,8 @@ use Rattle.wavelet.specs.Questions.{within}
 use Rattle.wavelet.proofs.StoreLaws.{store-in, store-grows}
 use Rattle.calls.specs.Lists.{Reply, gives, refused, unless}
 use Rattle.level.specs.Level.{Memory}
-use Rattle.nine_seven.specs.Filters.{filterOf, isFilter}
-use Rattle.figures.specs.Figures.{storeBy}
+use Rattle.filters.specs.Filters.{filterOf, isFilter}
+use Rattle.filters.specs.Figures.{storeBy}
 use Rattle.writer.specs.Questions.{either, setUpQuestion}
 use Rattle.writer.specs.Answers.{Took}
 use Rattle.writer.specs.Calls.{offerReply, offerStore, finishReply, finishStore}

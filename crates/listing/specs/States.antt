@@ -9,7 +9,7 @@ use Rattle.lifting.specs.Grid.{side}
 use Rattle.wavelet.specs.Limits.{maxLevels}
 use Rattle.pgm.specs.Limits.{maxPictureWidth}
 use Rattle.level.specs.Level.{Memory}
-use Rattle.figures.specs.Figures.{storeBy}
+use Rattle.filters.specs.Figures.{storeBy}
 use Rattle.calls.specs.Lists.{Reply, gives, refused}
 use Rattle.writer.specs.Answers.{Took, Handed, aRow, nothing}
 use Rattle.writer.specs.Calls.{fresh, setUpReply, setUpStore, offerReply, offerStore, drawReply, drawStore, drawArea, finishReply, finishStore}

@@ -19,7 +19,7 @@ use Rattle.wavelet.specs.Bands.{Grid}
 use Rattle.wavelet.specs.Plane.{cells, flat}
 use Rattle.wavelet.proofs.GridLaws.{cells-flat}
 use Rattle.map_levels.specs.Passes.{Rows, within, rowsMapped}
-use Rattle.nine_seven.specs.Filters.{filterOf}
+use Rattle.filters.specs.Filters.{filterOf}
 use Rattle.map_levels.specs.ByFilter.{liftedBy, columnsLiftedBy, levelLiftedBy}
 use Rattle.map_levels.specs.LevelPasses.{columnsLiftedInPlace, levelLifted, LevelMade, LevelMadeBy}
 use Rattle.map_levels.proofs.LevelMath.{five-three-made}

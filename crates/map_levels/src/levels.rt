@@ -3,10 +3,9 @@
 // the first low row. The plane's rows are `across` apart at every level. x and y are where the level starts on the grid.
 // The module is private: only this crate, which meets what is required, can call it.
 use crate::passes;
-use crate::rowwise;
-use five_three_lines::halves;
-use five_three_lines::rows;
-use lifting::sample;
+use lifting::halves;
+use lifting::lone;
+use lifting::rows;
 use nine_seven_sweep::columns;
 use wavelet::sizes;
 ghost use mathlib.Core.Path.{_≡_};
@@ -26,7 +25,7 @@ ghost use Rattle.wavelet.specs.Plane.{cells, flat};
 ghost use Rattle.wavelet.specs.Questions.{Sized};
 ghost use Rattle.map_levels.specs.Rowwise.{partedInPlace, wovenInPlace, halvedInPlace};
 ghost use Rattle.map_levels.specs.Passes.{Rows, KeptFrom, isLow, planeRow, levelRow, rowsMapped, rowsFetched, gridHalved, gridCopied};
-ghost use Rattle.nine_seven.specs.Filters.{filterOf};
+ghost use Rattle.filters.specs.Filters.{filterOf};
 ghost use Rattle.map_levels.specs.ByFilter.{rowCopied};
 ghost use Rattle.map_levels.specs.LevelPasses.{cornerGrid, levelUnlifted, rowBack, firstBack, planeWritten, goesOn, rowsEven, rowsBetween};
 ghost use Rattle.map_levels.specs.LevelPasses.{regionInRange, LevelRoom, Doubling, LevelMade, LevelMadeBy, LevelsBack};
@@ -233,7 +232,7 @@ fn lowest(level: usize, filter: usize) -> i32
     requires { ⌜ level ≤ filterOf filter .levels ⌝ }
     ensures { λ r. ⌜ r ≡ negℤ (pos (range (filterOf filter) level)) ⌝ }
 {
-    0 - figures::range_of(filter, level)
+    0 - filters::range_of(filter, level)
 }
 
 // Whether the numbers of some rows lie from `low` to `high`: rows `first` up to `last`, columns `from` up to `to`.
@@ -285,7 +284,7 @@ fn rows_in_range(
         from,
         to,
         lowest(level, filter),
-        figures::range_of(filter, level),
+        filters::range_of(filter, level),
     )
 }
 
@@ -312,38 +311,19 @@ fn weave_low(
         width,
         height,
         lowest(level, filter),
-        figures::range_of(filter, level),
+        filters::range_of(filter, level),
     )
-}
-
-// Whether each number of the first column is even.
-fn column_even(plane: &[i32], across: usize, height: usize) -> bool
-    requires { ⌜ Rows (length (now plane)) across 1 height ⌝ }
-    ensures { λ r. ⌜ r ≡ every height (λ i. isEven (cells across (at (now (plane .entry))) i 0)) ⌝ }
-{
-    let mut r = 0;
-    while r < height {
-        if !sample::is_even(plane[r * across]) {
-            return false;
-        }
-        r += 1;
-    }
-    true
 }
 
 // Whether each row of a level is a line's: in a lone column at an odd coordinate each value is halved, so it has to be even. The low-low part is empty
 // then, and all of them stand in the plane.
 fn rows_even(plane: &[i32], across: usize, x: usize, width: usize, height: usize) -> bool
-    requires { ⌜ Rows (length (now plane)) across width height ⌝ }
     ensures { λ r. ⌜ r ≡ rowsEven (side x width) height (cells across (at (now (plane .entry)))) ⌝ }
 {
-    if width != 1 {
+    if !lone::is_lone(width, x) {
         return true;
     }
-    if x % 2 == 0 {
-        return true;
-    }
-    column_even(plane, across, height)
+    lone::column_even(plane, across, height)
 }
 
 // The columns of a level of one row lifted back: at an odd coordinate they are halved, and the answer is whether each was even.
@@ -355,7 +335,7 @@ fn unlift_lone(work: &mut [i32], width: usize, y: usize) -> bool
     if y % 2 == 0 {
         return true;
     }
-    rowwise::halve_row(&mut work[0..width])
+    lone::halve_all(&mut work[0..width])
 }
 
 // The first rows of a level of more than one: a low one is lifted back along the columns by the high one after it.
@@ -527,7 +507,7 @@ fn unlift_rows(work: &mut [i32], stride: usize, x: usize, width: usize, height: 
     while r < height {
         let a = r * stride;
         let e = a + width;
-        nine_seven_lines::line::unlift(&mut work[a..e], x);
+        nine_seven::line::unlift(&mut work[a..e], x);
         r += 1;
     }
 }

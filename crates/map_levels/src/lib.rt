@@ -13,7 +13,7 @@ ghost use Rattle.lifting.specs.Halves.{fronted};
 ghost use Rattle.lifting.specs.Grid.{side};
 ghost use Rattle.wavelet.specs.Plane.{cells, flat, planeOf, mapBack};
 ghost use Rattle.wavelet.specs.Questions.{Sized};
-ghost use Rattle.nine_seven.specs.Filters.{filterOf};
+ghost use Rattle.filters.specs.Filters.{filterOf};
 ghost use Rattle.map_questions.specs.Calls.{sizeQuestions, planeQuestions, zeros, passed, rebuilt};
 ghost use Rattle.map_levels.specs.Rowwise.{heightsAt};
 ghost use Rattle.map_levels.specs.LevelPasses.{MapRebuilt};

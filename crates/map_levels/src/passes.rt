@@ -1,8 +1,9 @@
 // Passes over the rows of one area: `height` rows of `width` numbers, `stride` apart, x and y where they start on the grid. The module is private, as `rowwise`
 // is.
 use crate::rowwise;
-use five_three_lines::line;
-use five_three_lines::rows;
+use lifting::line;
+use lifting::lone;
+use lifting::rows;
 use nine_seven_sweep::columns;
 use wavelet::sizes;
 ghost use mathlib.Core.Path.{_≡_};
@@ -20,7 +21,7 @@ ghost use Rattle.wavelet.specs.Limits.{maxWidth};
 ghost use Rattle.wavelet.specs.Plane.{cells, flat};
 ghost use Rattle.map_levels.specs.Rowwise.{wovenInPlace, doubledInPlace};
 ghost use Rattle.map_levels.specs.Passes.{after, before, nextChanged, pairChanged, rowsMapped, Rows};
-ghost use Rattle.nine_seven.specs.Filters.{filterOf};
+ghost use Rattle.filters.specs.Filters.{filterOf};
 ghost use Rattle.map_levels.specs.ByFilter.{levelLiftedBy};
 ghost use Rattle.map_levels.specs.LevelPasses.{rowLifted, pairLifted, firstLifted, levelLifted, rowsBetween};
 
@@ -173,7 +174,7 @@ fn lift_lone(area: &mut [i32], width: usize, y: usize)
     ensures { λ _. ⌜ at (now (area .exit)) ≡ pick (loneHigh (side y 1)) (doubledInPlace width (at (now (area .entry)))) (at (now (area .entry))) ⌝ }
 {
     if y % 2 == 1 {
-        rowwise::double_row(&mut area[0..width]);
+        lone::double_all(&mut area[0..width]);
     }
 }
 
@@ -200,7 +201,7 @@ fn lift_rows(area: &mut [i32], stride: usize, x: usize, width: usize, height: us
     while r < height {
         let a = r * stride;
         let e = a + width;
-        nine_seven_lines::line::lift(&mut area[a..e], x);
+        nine_seven::line::lift(&mut area[a..e], x);
         r += 1;
     }
 }

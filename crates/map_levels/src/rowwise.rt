@@ -1,14 +1,13 @@
 // What is done to one row of numbers. The module is private: only this crate, which meets what is required, can call it.
-use lifting::sample;
 use wavelet::limits;
 ghost use mathlib.Core.Path.{_≡_};
 ghost use Prim.Native.Nat.{_≤_};
 ghost use lib.ListN.{length};
 ghost use Rattle.numbers.specs.Signal.{at};
 ghost use Rattle.lifting.specs.Halves.{fronted};
-ghost use Rattle.lifting.specs.Grid.{side, isEven};
+ghost use Rattle.lifting.specs.Grid.{side};
 ghost use Rattle.wavelet.specs.Maps.{every};
-ghost use Rattle.map_levels.specs.Rowwise.{wovenInPlace, doubledInPlace, halvedInPlace, between};
+ghost use Rattle.map_levels.specs.Rowwise.{wovenInPlace, between};
 
 // The longest row that is woven in place: half the largest width, rounded up.
 pub const LONGEST: usize = limits::MAX_WIDTH - limits::MAX_WIDTH / 2;
@@ -39,34 +38,5 @@ pub fn weave(row: &mut [i32], x: usize, line: &mut [i32], low: i32, high: i32) -
     let n = row.len();
     let ok = copy_tested(row, line, low, high);
     areas::lines::weave_line(&line[0..n], x, row);
-    ok
-}
-
-// The numbers of a lone row at an odd coordinate: each is a column by itself. Forward it is doubled,
-pub fn double_row(row: &mut [i32])
-    ensures { λ _. ⌜ at (now (row .exit)) ≡ doubledInPlace (length (now (row .entry))) (at (now (row .entry))) ⌝ }
-{
-    let n = row.len();
-    let mut i = 0;
-    while i < n {
-        row[i] = sample::double(row[i]);
-        i += 1;
-    }
-}
-
-// and back it is halved; the answer is whether each was even.
-pub fn halve_row(row: &mut [i32]) -> bool
-    ensures { λ r. ⌜ r ≡ every (length (now (row .entry))) (λ i. isEven (at (now (row .entry)) i)) ⌝ }
-    ensures { λ _. ⌜ at (now (row .exit)) ≡ halvedInPlace (length (now (row .entry))) (at (now (row .entry))) ⌝ }
-{
-    let n = row.len();
-    let mut ok = true;
-    let mut i = 0;
-    while i < n {
-        let v = row[i];
-        ok = ok & sample::is_even(v);
-        row[i] = sample::halve(v);
-        i += 1;
-    }
     ok
 }

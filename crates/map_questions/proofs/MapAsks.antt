@@ -24,8 +24,8 @@ use Rattle.wavelet.specs.Questions.{within}
 use Rattle.wavelet.specs.Asks.{Passes, Width, Height, Known, Levels, MapAsks}
 use Rattle.wavelet.proofs.AskLaws.{went, passed, asked, shape-went, shape-passed, width-exactly, height-exactly}
 use Rattle.wavelet.proofs.MapTheorems.{cells-each, each-cells}
-use Rattle.nine_seven.specs.Filters.{filterOf, isFilter}
-use Rattle.figures.proofs.PlainFigures.{known-exactly, levels-exactly, range-is}
+use Rattle.filters.specs.Filters.{filterOf, isFilter}
+use Rattle.filters.proofs.PlainFigures.{known-exactly, levels-exactly, range-is}
 use Rattle.map_questions.specs.Calls.{shapeQuestions, sizeQuestions, forwardQuestion, planeQuestions, backwardQuestion}
 use Rattle.map_questions.specs.Plain.{InRange, BackwardAsks}
 

@@ -12,9 +12,9 @@ use Rattle.lifting.specs.Halves.{fronted}
 use Rattle.wavelet.specs.Limits.{maxWidth, maxHeight}
 use Rattle.wavelet.specs.Questions.{ask, within, Sized}
 use Rattle.wavelet.proofs.QuestionLaws.{within-true}
-use Rattle.nine_seven.specs.Filters.{filterOf, isFilter}
+use Rattle.filters.specs.Filters.{filterOf, isFilter}
 use Rattle.map_questions.specs.Calls.{shapeQuestions, sizeQuestions, zeros, passed, rebuilt}
-use Rattle.figures.proofs.FigureLaws.{levels-most}
+use Rattle.filters.proofs.FigureLaws.{levels-most}
 
 -- ---- four questions, and what follows them
 abbrev asked : Bool → Bool → Bool → Bool → ℕ → ℕ

@@ -10,7 +10,7 @@ use Rattle.wavelet.specs.Limits.{maxWidth, maxHeight}
 use Rattle.wavelet.specs.Questions.{ask, within}
 use Rattle.wavelet.specs.Bands.{Grid}
 use Rattle.wavelet.specs.Maps.{inRange, rebuiltFits}
-use Rattle.nine_seven.specs.Filters.{filterOf, isFilter}
+use Rattle.filters.specs.Filters.{filterOf, isFilter}
 
 -- questions 2, 3, 18 and 4 of the filter f, and then `rest`: 18 "before 4, if the filter is unknown", and as many levels as it has (document 02, Q-8). Where
 -- the map starts is not asked.

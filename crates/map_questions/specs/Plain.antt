@@ -8,7 +8,7 @@ use Rattle.wavelet.specs.Bands.{Grid}
 use Rattle.wavelet.specs.Plane.{levelAt}
 use Rattle.wavelet.specs.Maps.{rebuiltFits}
 use Rattle.wavelet.specs.Asks.{Asks, Passes, largest, MapAsks}
-use Rattle.nine_seven.specs.Filters.{filterOf}
+use Rattle.filters.specs.Filters.{filterOf}
 
 -- question 7: "Is each coefficient in its level's range?" ±65,535 × 4^k, or 6^k, k being the level whose coefficient stands there
 pub record InRange (f L : ℕ) (W H : Side) (x : Grid) : Type 0 where

@@ -13,10 +13,10 @@ fn shape_question(filter: usize, width: usize, height: usize, levels: usize) -> 
     if !limits::is_within(height, limits::MAX_HEIGHT) {
         return 3;
     }
-    if !figures::is_filter(filter) {
+    if !filters::is_filter(filter) {
         return 18;
     }
-    if !limits::is_within(levels, figures::most_levels(filter)) {
+    if !limits::is_within(levels, filters::most_levels(filter)) {
         return 4;
     }
     0

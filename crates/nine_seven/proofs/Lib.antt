@@ -7,6 +7,7 @@ pub mod NineSeven
 pub mod NineSevenReads
 pub mod NineSevenTheorems
 pub mod NineSevenFilter
-pub mod Filters
 pub mod LiftLaws
 pub mod ThereAndBack
+pub mod NearLaws
+pub mod PutLaws

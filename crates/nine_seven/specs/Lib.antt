@@ -3,4 +3,4 @@ pub mod NineSevenFilter
 pub mod Memory
 pub mod Passes
 pub mod Rows
-pub mod Filters
+pub mod Near

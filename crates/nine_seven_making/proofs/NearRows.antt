@@ -14,7 +14,7 @@ use Rattle.lifting.proofs.Neighbours.{left, right}
 use Rattle.nine_seven.specs.NineSeven.{before, after}
 use Rattle.nine_seven.specs.Passes.{farLeft, farRight}
 use Rattle.nine_seven.proofs.MirrorLaws.{before-is, after-is, farBefore, farAfter, far-before-is, far-after-is}
-use Rattle.nine_seven_lines.specs.Near.{Beside, Around}
+use Rattle.nine_seven.specs.Near.{Beside, Around}
 use Rattle.wavelet.specs.Order.{firstSet}
 use Rattle.nine_seven_making.specs.NineSevenLevel.{rowBefore, rowAfter, hasRow}
 

@@ -1,8 +1,8 @@
 // Which rows a row of a level goes by, mirrored at the ends. The level's rows start at y and are m; only the parity of y counts. Slots are told by a row's
 // number in its half, so that no coordinate can overflow. The module is private: only this crate, which meets what is required, can call it.
-use nine_seven_lines::near;
-use nine_seven_lines::near::Four;
-use nine_seven_lines::near::Two;
+use nine_seven::near;
+use nine_seven::near::Four;
+use nine_seven::near::Two;
 use wavelet::sizes;
 ghost use mathlib.Core.Path.{_≡_};
 ghost use Prim.Native.Nat.{_+_, _-_, _*_, _%_, _<_, _≤_};

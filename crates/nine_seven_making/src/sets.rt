@@ -1,10 +1,10 @@
 // The sets of a level. Slots are told by a set's number modulo 4, so that no number of a row can overflow: row 2n is in slot 2 × (n mod 4).
 // The module is private: only this crate, which meets what is required, can call it.
 use crate::near;
-use five_three_lines::rows as means;
 use level::moves;
-use nine_seven_lines::line;
-use nine_seven_lines::rows;
+use lifting::rows as means;
+use nine_seven::line;
+use nine_seven::rows;
 ghost use mathlib.Core.Path.{_≡_};
 ghost use mathlib.Core.Bool.{true};
 ghost use Prim.Native.Nat.{_≤_, _*_, _+_, _<_};

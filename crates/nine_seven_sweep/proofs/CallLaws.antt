@@ -11,8 +11,8 @@ use Rattle.lifting.specs.Grid.{Side, count, place}
 use Rattle.lifting.specs.Rows.{rowsChanged}
 use Rattle.lifting.proofs.GridLaws.{counts}
 use Rattle.nine_seven.specs.Rows.{rowsBy}
-use Rattle.nine_seven_lines.specs.Near.{Beside, Around}
-use Rattle.nine_seven_lines.proofs.NearLaws.{two-there, four-there}
+use Rattle.nine_seven.specs.Near.{Beside, Around}
+use Rattle.nine_seven.proofs.NearLaws.{two-there, four-there}
 use Rattle.nine_seven_sweep.specs.Passes.{inHalf, highChanged, lowChanged, highTurn, lowTurn}
 
 -- the low rows are no more than all, and how many high ones there are

@@ -2,8 +2,8 @@
 // number: only whether it is odd counts. Both calls answer 5, with nothing changed, where a row does not lie in the area or is wider than the stride.
 use crate::back;
 use crate::forth;
-use five_three_lines::rows;
-use lone_rows::lone;
+use lifting::lone;
+use lifting::rows;
 ghost use mathlib.Core.Path.{_≡_};
 ghost use mathlib.Core.Bool.{true};
 ghost use Prim.Native.Nat.{_-_, _≤_};

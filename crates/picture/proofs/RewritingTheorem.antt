@@ -342,7 +342,8 @@ module _ (e : Bool) (z : List ℕ) (room : maxPictureWidth ≤ length z) where
       rw d (begun-due k w h m r (f .0) (f .1))
   shape k w h m r false d = rw d (refused e (phased 4 (early k)) 0 0 0 15 z r (omega arith))
 
-  step-due : (k : Header) (x : NextAnswer) (s : List ℕ) → ((k : Header) → owed e (idle (early k) 0 0 0) z s ≡ pictureDue e (andThen (readBy (feed k s)) sizeEnd))
+  step-due : (k : Header) (x : NextAnswer) (s : List ℕ) → ((k : Header) →
+      owed e (idle (early k) 0 0 0) z s ≡ pictureDue e (andThen (readBy (feed k s)) sizeEnd))
       → after k s (nextRead (early k) x) ≡ pictureDue e (andThen (readBy (stepped (λ y. feed y s) s x)) sizeEnd)
   step-due k (next.More y) s g = g y
   step-due k (next.Done w h m) s g = shape k w h m s (sizeFits w h) refl

@@ -12,10 +12,10 @@ use Rattle.wavelet.specs.Levels.{next}
 use Rattle.wavelet.specs.Order.{firstSet, setRow, setHas}
 use Rattle.wavelet.proofs.StoreLaws.{store-none, store-below}
 use Rattle.wavelet.proofs.SideLaws.{count-lo, count-hi, next-start, next-length}
-use Rattle.nine_seven.specs.Filters.{filterOf}
+use Rattle.filters.specs.Filters.{filterOf}
 use Rattle.level.specs.Level.{prev, completes}
 use Rattle.level.proofs.Places.{prev-is}
-use Rattle.figures.proofs.FigureLaws.{store-few}
+use Rattle.filters.proofs.FigureLaws.{store-few}
 use Rattle.progress.specs.Counts.{deeper, deeperBy, further, made, most, mostLeft, bandAt, skip, startOf}
 use lib.Dec.{ltb, leb, eqb}
 use borrow.Author.Tests.{lt-ltb, le-ltb, le-leb, lt-leb, eq-eqb, ne-eqb, eqb-true, ltb-true, leb-true}

@@ -6,7 +6,7 @@ use Rattle.lifting.specs.Grid.{Side}
 use Rattle.wavelet.specs.Bands.{Band, LL, HL, LH, HH}
 use Rattle.wavelet.specs.Order.{setHas}
 use Rattle.level.specs.Level.{prev}
-use Rattle.figures.specs.Figures.{storeBy}
+use Rattle.filters.specs.Figures.{storeBy}
 
 -- A level's number seen from the level above it, and from k levels above it; 0 is no level.
 unfoldable pub deeper : ℕ → ℕ

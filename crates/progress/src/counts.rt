@@ -10,7 +10,7 @@ ghost use Rattle.lifting.specs.Grid.{side, count};
 ghost use Rattle.wavelet.specs.Bands.{across, down, code};
 ghost use Rattle.wavelet.specs.Order.{firstSet, lastSet, setRow, setHas};
 ghost use Rattle.level.specs.Level.{completes};
-ghost use Rattle.nine_seven.specs.Filters.{filterOf};
+ghost use Rattle.filters.specs.Filters.{filterOf};
 ghost use Rattle.progress.specs.Counts.{made, most, bandAt, skip};
 
 // n less k, and 0 where k is more.
@@ -25,7 +25,7 @@ pub fn minus(n: usize, k: usize) -> usize
 pub fn made(filter: usize, c: usize, y: usize, m: usize) -> usize
     ensures { λ r. ⌜ r ≡ made (filterOf filter .ahead) c y m ⌝ }
 {
-    let a = figures::look_ahead(filter);
+    let a = filters::look_ahead(filter);
     let all = m / 2 + (y % 2 + m % 2 + 1) / 2;
     if a <= c {
         return all;
@@ -54,7 +54,7 @@ pub fn sets_off(filter: usize, l: usize, y: usize, m: usize) -> bool
     if l == 0 {
         return false;
     }
-    if m < 2 * figures::look_ahead(filter) - y % 2 {
+    if m < 2 * filters::look_ahead(filter) - y % 2 {
         return false;
     }
     y % 2 == m % 2

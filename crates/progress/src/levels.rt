@@ -3,7 +3,7 @@ use crate::counts;
 use wavelet::sizes;
 ghost use mathlib.Core.Path.{_≡_};
 ghost use Rattle.lifting.specs.Grid.{side};
-ghost use Rattle.nine_seven.specs.Filters.{filterOf};
+ghost use Rattle.filters.specs.Filters.{filterOf};
 ghost use Rattle.progress.specs.Levels.{levelAt};
 
 // Its columns and the first one's coordinate, the rows that it has received and the first one's coordinate, and the number of the set.
@@ -26,7 +26,7 @@ pub fn level_of(filter: usize, w: usize, x: usize, y: usize, c: usize, v: usize,
     let mut row = y;
     let mut closed = c;
     let mut k = v;
-    let a = figures::look_ahead(filter);
+    let a = filters::look_ahead(filter);
     while 1 < k {
         rows = counts::minus(counts::made(filter, closed, row, rows), row % 2);
         row = sizes::next_start(row);

@@ -13,7 +13,7 @@ use Rattle.wavelet.specs.Limits.{maxOrigin}
 use Rattle.wavelet.specs.Steps.{Step}
 use Rattle.calls.specs.Lists as lists
 use Rattle.calls.proofs.ListLaws.{list-reached}
-use Rattle.figures.specs.Figures.{storeBy}
+use Rattle.filters.specs.Figures.{storeBy}
 use Rattle.reader_steps.specs.Places.{Place}
 use Rattle.reader.specs.Store.{stretchAt}
 use Rattle.reader.specs.Questions.{countsFit, setUpQuestion}

@@ -22,13 +22,13 @@ use Rattle.lifting.specs.GridHalves.{halvesOf}
 use Rattle.wavelet.specs.Limits.{maxLevels}
 use Rattle.wavelet.specs.Questions.{ask}
 use Rattle.wavelet.proofs.StoreLaws.{first-room}
-use Rattle.nine_seven.specs.Filters.{filterOf}
+use Rattle.filters.specs.Filters.{filterOf}
 use Rattle.calls.specs.Lists.{all-none, all-more}
 use Rattle.calls.proofs.QuestionLaws.{asks, asks-no, asks-yes, asks-none}
-use Rattle.figures.specs.Figures.{storeBy}
-use Rattle.filters.specs.Back.{rowPlaceOf}
-use Rattle.filters.proofs.BackLaws.{back-made}
-use Rattle.figures.proofs.FigureLaws.{row-few}
+use Rattle.filters.specs.Figures.{storeBy}
+use Rattle.synthesis.specs.Back.{rowPlaceOf}
+use Rattle.synthesis.proofs.BackLaws.{back-made}
+use Rattle.filters.proofs.FigureLaws.{row-few}
 use Rattle.reader.specs.declared.Reader.{Reader}
 use Rattle.reader.specs.declared.walk.Spot.{Spot}
 use Rattle.areas.specs.Areas.{height16}

@@ -10,7 +10,7 @@ use lib.Dec.{eqb}
 use borrow.Author.Tests.{lt-ltb, le-ltb, le-leb, lt-leb, ne-eqb, eqb-true}
 use Rattle.numbers.specs.Signal.{pick}
 use Rattle.wavelet.specs.Limits.{maxWidth, maxHeight, maxOrigin}
-use Rattle.nine_seven.specs.Filters.{filterOf, isFilter}
+use Rattle.filters.specs.Filters.{filterOf, isFilter}
 use Rattle.wavelet.specs.Bands.{Band, code}
 use Rattle.lifting.specs.Grid.{Side}
 use Rattle.wavelet.specs.Levels.{sideAt}

@@ -33,8 +33,8 @@ use Rattle.calls.specs.Lists as lists
 use Rattle.calls.proofs.AllLaws.{In, all-left, all-last, all-in, in-all}
 use Rattle.calls.proofs.ListLaws.{either-swap, gathered-snoc, ever-snoc, list-reached}
 use Rattle.calls.proofs.QuestionLaws.{asked-yes}
-use Rattle.nine_seven.specs.Filters.{filterOf, isFilter}
-use Rattle.nine_seven.proofs.Filters.{filter-laws}
+use Rattle.filters.specs.Filters.{filterOf, isFilter}
+use Rattle.filters.proofs.Filters.{filter-laws}
 use Rattle.reader.specs.declared.Reader.{Reader}
 use Rattle.reader.specs.Rebuilt.{Rows, rebuilt, bandsAt, partAt, SetFits, SetsFit}
 use Rattle.reader_steps.specs.Places.{hasCells, Ready, spot, Place, placeOf, lastOfSet, past, beyond, enter}

@@ -20,9 +20,9 @@ use Rattle.wavelet.specs.Bands.{Grid, Band, LL, HL, LH, HH, Band-discrete, code
 use Rattle.wavelet.specs.Maps.{valueFits}
 use Rattle.wavelet.specs.Levels.{next, sideAt}
 use Rattle.wavelet.specs.Order.{firstSet, lastSet, setRow, setHas}
-use Rattle.nine_seven.specs.Filters.{filterOf}
-use Rattle.filters.specs.Back.{backOf, standsOf}
-use Rattle.filters.proofs.BackLaws.{back-ahead, back-laws}
+use Rattle.filters.specs.Filters.{filterOf}
+use Rattle.synthesis.specs.Back.{backOf, standsOf}
+use Rattle.synthesis.proofs.BackLaws.{back-ahead, back-laws}
 use Rattle.reader_steps.specs.Sets.{ahead, hasRow, rowOf, taking, needed, firstRow, makes, waiting, waitsAt}
 use Rattle.reader_steps.specs.Asked.{keptAt, asked, bandsFrom, those, look, firstCode, nextBand, named}
 use Rattle.reader.specs.Rebuilt.{Rows, bandsBy, rebuilt, bandsAt, partAt, SetFits, SetsFit}
@@ -64,10 +64,12 @@ with-tested N P Q t = by-outcome N N P Q t (λ n. n)
 -- a set worked out: its rows are those of the way back and fit, and it halved no odd number
 set-made : (f k : ℕ) (W H : Side) (p : Band → Grid) (n : ℕ) (x : ℕ → ℤ) → standsOf f .Leaves k W H p n x → (r : ℕ) → r < H .length →
     setOf (ahead f) H r ≡ n → (c : ℕ) → c < W .length → backOf f .made W (H .start) r x c ≡ levelBack (filterOf f) wrap32 W H p r c
+unfolding backOf
 set-made f k W H p n x s r b e = back-laws f .made-is k W H p n x s r b (ap (λ a. setOf a H r) (back-ahead f) ∙ e)
 
 pub set-fits : (f k : ℕ) (W H : Side) (p : Band → Grid) (n : ℕ) (x : ℕ → ℤ) → standsOf f .Leaves k W H p n x → (r : ℕ) → r < H .length →
     setOf (ahead f) H r ≡ n → (c : ℕ) → c < W .length → valueFits (filterOf f) k (levelBack (filterOf f) wrap32 W H p r c) ≡ true
+unfolding backOf
 set-fits f k W H p n x s r b e = back-laws f .made-fits k W H p n x s r b (ap (λ a. setOf a H r) (back-ahead f) ∙ e)
 
 pub set-has : (f k : ℕ) (W H : Side) (p : Band → Grid) (n : ℕ) (x : ℕ → ℤ) → standsOf f .Leaves k W H p n x → SetHasBy (filterOf f) (ahead f) W H p n
@@ -76,15 +78,15 @@ set-has f k W H p n x s = subst (λ a. SetHasBy (filterOf f) a W H p n) (back-ah
 laws : (f : ℕ) → ReaderLawsBy (filterOf f) (backOf f) (M f)
 laws f = record {
   leaves-reads = λ k W H p n x y e s. (back-laws f .leaves-reads k W H p n x y e (s .0), s .1);
-  before-reads = λ W H p n x y e s. (back-laws f .before-reads W H p n x y e (s .0), s .1);
+  before-reads = λ k W H p n x y e s. (back-laws f .before-reads k W H p n x y e (s .0), s .1);
   got-reads = back-laws f .got-reads;
   feed-past = back-laws f .feed-past;
-  feed-before = λ W H p n c v x s. (back-laws f .feed-before W H p n c v x (s .0), s .1);
+  feed-before = λ k W H p n c v x s. (back-laws f .feed-before k W H p n c v x (s .0), s .1);
   feed-old = back-laws f .feed-old;
   feed-new = back-laws f .feed-new;
   got-none = back-laws f .got-none;
   looks = back-laws f .looks;
-  before-first = λ W H p x. (back-laws f .before-first W H p x, λ m b. absurd (omega arith));
+  before-first = λ k W H p x. (back-laws f .before-first k W H p x, λ m b. absurd (omega arith));
   before-next = λ k W H p n x b s. (back-laws f .before-next k W H p n x b (s .0), tested-next f W H p n (s .1) (set-has f k W H p n x (s .0)));
   work-last = λ k W H p n x some there before got. with-tested _ _ _ _ (λ y a. ((a .0, before .1), a .1))
       (back-laws f .work-last k W H p n x some there (before .0) got);
@@ -181,7 +183,7 @@ module _ (f : ℕ) (W H : Side) (l : ℕ) (P : Rows) where
 
   -- what of the set before set n is still needed
   abbrev pub Before : ℕ → ℕ → (ℕ → ℤ) → Type 0
-  Before k n m = M f .Before (sideAt k W) (sideAt k H) (B k) n m
+  Before k n m = M f .Before k (sideAt k W) (sideAt k H) (B k) n m
 
   -- the row of band c of set n is there, if there is one
   abbrev pub Got : ℕ → ℕ → (ℕ → ℤ) → Band → Type 0
@@ -202,7 +204,7 @@ module _ (f : ℕ) (W H : Side) (l : ℕ) (P : Rows) where
   leaves-same k n m m′ e s = laws f .leaves-reads k (sideAt k W) (sideAt k H) (B k) n m m′ e s
 
   before-same : (k n : ℕ) (m m′ : ℕ → ℤ) → SameMem f (sideAt k W) m m′ → Before k n m → Before k n m′
-  before-same k n m m′ e s = laws f .before-reads (sideAt k W) (sideAt k H) (B k) n m m′ e s
+  before-same k n m m′ e s = laws f .before-reads k (sideAt k W) (sideAt k H) (B k) n m m′ e s
 
   got-same : (k n : ℕ) (c : Band) (m m′ : ℕ → ℤ) → SameMem f (sideAt k W) m m′ → Got k n m c → Got k n m′ c
   got-same k n c m m′ e s = laws f .got-reads (sideAt k W) (sideAt k H) (B k) n c m m′ e s
@@ -264,7 +266,7 @@ module _ (f : ℕ) (W H : Side) (l : ℕ) (P : Rows) where
         before = λ j h e. elim (ℕ-discrete j k) [
           | yes z ↦ here-before k n j (behind (stretchAt f W k) x y) z
               (before-same k n y _ (λ i _. here f W k x y past i)
-              (laws f .feed-before (sideAt k W) (sideAt k H) (B k) n c v (mem f W k x) (before-here k n (code c) x inside s)))
+              (laws f .feed-before k (sideAt k W) (sideAt k H) (B k) n c v (mem f W k x) (before-here k n (code c) x inside s)))
           | no z ↦ before-same j _ _ _ (finer f W k x y past j (omega (arith, z))) (s .before j h e)
         ];
         got = λ j h e b kept less. let z : j ≡ k = omega arith in
@@ -374,16 +376,18 @@ module _ (f : ℕ) (W H : Side) (l : ℕ) (P : Rows) where
     }
 
     work-made : Outcome (SetFits f W H P (suc l) k n) (Worked k n) (workedAt f W H (suc l) k n x)
-    unfolding workedAt hasSet
+    unfolding workedAt hasSet backOf
     work-made = rw (live .1, le-leb n (lastSet (sideAt k H)) there)
         (onto-outcome _ _ _ _ (behind (stretchAt f W k) x) _
-        (subst (λ a. SetFitsBy (filterOf f) a k (sideAt k W) (sideAt k H) (B k) n) (sym (back-ahead f)))
+        (subst (λ a. SetFitsBy (filterOf f) a (backOf f .fits k) (backOf f .back k (sideAt k W) (sideAt k H) (B k)) (sideAt k W) (sideAt k H) (B k) n)
+        (sym (back-ahead f)))
         worked-of (go (ℕ-discrete k l)))
       where
         some : 0 < sideAt k H .length
         some = cells-are (sideAt k W) (sideAt k H) (live .1) .1
 
-        go : Dec (k ≡ l) → Outcome (SetFitsBy (filterOf f) (backOf f .ahead) k (sideAt k W) (sideAt k H) (B k) n)
+        go : Dec (k ≡ l) → Outcome
+            (SetFitsBy (filterOf f) (backOf f .ahead) (backOf f .fits k) (backOf f .back k (sideAt k W) (sideAt k H) (B k)) (sideAt k W) (sideAt k H) (B k) n)
             (λ y. LeavesAt k n y × ((j : ℕ) → backOf f .stretch (sideAt k W) ≤ j → y j ≡ m j))
             (backOf f .work (eqb (suc k) (suc l)) k (sideAt k W) (sideAt k H) n m)
         go (yes e) = rw (eq-eqb (suc k) (suc l) (omega arith)) (laws f .work-last k (sideAt k W) (sideAt k H) (B k) n m some there (before-here k n 4 x live s)
@@ -470,7 +474,7 @@ module _ (f : ℕ) (W H : Side) (l : ℕ) (P : Rows) where
   down-begun : (k n r : ℕ) (x : ℕ → ℤ) → Live k → taking H k r ≡ n → opens (ahead f) (sideAt k H) r ≡ true → Down k n r x →
       Begun k (setsBefore (ahead f) (sideAt k H) r) x
   down-begun k n zero x live t o s = rw (before-zero (ahead f) (sideAt k H)) (record {
-    own = laws f .before-first (sideAt k W) (sideAt k H) (B k) (mem f W k x);
+    own = laws f .before-first k (sideAt k W) (sideAt k H) (B k) (mem f W k x);
     before = λ j h e. subst (λ i. Before j i (mem f W j x)) (sym (up j e)) (s .before j h e);
     done = λ q e. absurd (omega arith);
   })

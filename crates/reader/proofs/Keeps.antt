@@ -9,7 +9,7 @@ use borrow.Author.Tests.{leb-true, eqb-true}
 use Rattle.numbers.specs.Signal.{pick}
 use Rattle.numbers.proofs.Sweep.{both}
 use Rattle.wavelet.specs.Limits.{maxWidth, maxHeight, maxOrigin}
-use Rattle.nine_seven.specs.Filters.{filterOf, isFilter}
+use Rattle.filters.specs.Filters.{filterOf, isFilter}
 use Rattle.lifting.specs.Grid.{Side, side}
 use Rattle.wavelet.specs.Bands.{Band, code}
 use Rattle.wavelet.proofs.QuestionLaws.{within-true}

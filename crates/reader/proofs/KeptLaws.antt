@@ -15,10 +15,10 @@ use Rattle.wavelet.specs.Levels.{sideAt}
 use Rattle.level.specs.Stretch.{rowOfSet, halfPlace}
 use Rattle.level.specs.Rebuilding.{Kept}
 use Rattle.level.proofs.RowsIn.{half-end}
-use Rattle.nine_seven.specs.Filters.{filterOf}
-use Rattle.figures.specs.Figures.{storeBy}
-use Rattle.filters.specs.Back.{rowPlaceOf}
-use Rattle.filters.proofs.BackLaws.{back-feed, place-room}
+use Rattle.filters.specs.Filters.{filterOf}
+use Rattle.filters.specs.Figures.{storeBy}
+use Rattle.synthesis.specs.Back.{rowPlaceOf}
+use Rattle.synthesis.proofs.BackLaws.{back-feed, place-room}
 use Rattle.reader.specs.declared.walk.Level.{Level}
 use Rattle.reader_steps.specs.Asked.{named}
 use Rattle.reader.specs.Store.{stretchAt, from, fedAt}

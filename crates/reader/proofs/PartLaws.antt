@@ -30,11 +30,11 @@ use Rattle.areas.proofs.AreaLaws.{front-at, did}
 use Rattle.level.specs.Tried.{Tried, passed, failed, outcome, onto}
 use Rattle.level.specs.Stretch.{rowOfSet, halfPlace}
 use Rattle.level.proofs.RowsIn.{half-end}
-use Rattle.nine_seven.specs.Filters.{filterOf}
-use Rattle.filters.specs.Back.{backOf, workableOf, rowPlaceOf}
-use Rattle.filters.proofs.BackLaws.{back-feed, place-room, workable-of}
-use Rattle.figures.proofs.FigureLaws.{levels-most}
-use Rattle.figures.specs.Figures.{storeBy}
+use Rattle.filters.specs.Filters.{filterOf}
+use Rattle.synthesis.specs.Back.{backOf, workableOf, rowPlaceOf}
+use Rattle.synthesis.proofs.BackLaws.{back-feed, place-room, workable-of}
+use Rattle.filters.proofs.FigureLaws.{levels-most}
+use Rattle.filters.specs.Figures.{storeBy}
 use Rattle.reader.specs.declared.walk.Level.{Level}
 use Rattle.reader_steps.specs.Asked.{named}
 use Rattle.reader_steps.specs.Places.{hasCells}

@@ -29,8 +29,8 @@ use Rattle.calls.specs.Lists as lists
 use Rattle.calls.proofs.AllLaws.{all-append, In, first, later, in-left, in-right, all-in, in-all}
 use Rattle.calls.proofs.ListLaws.{ever-append, final-append, events-append, events-length}
 use Rattle.calls.proofs.QuestionLaws.{asked-yes}
-use Rattle.nine_seven.specs.Filters.{filterOf, isFilter}
-use Rattle.nine_seven.proofs.Filters.{filter-laws}
+use Rattle.filters.specs.Filters.{filterOf, isFilter}
+use Rattle.filters.proofs.Filters.{filter-laws}
 use Rattle.reader.specs.Answers.{row, drawNow, done, ended}
 use Rattle.reader.specs.Questions.{runFits, storeFits, setUpQuestion}
 use Rattle.reader.specs.Demand3.{Call, want, feed, draw, Given, heights, Event, wanted, fed, drew, World, event, events}
@@ -128,7 +128,7 @@ row-in-range f W H L g m y e = let p = exists-parts W H L (y .level) (y .band) (
         map-band-range (filterOf f) (filter-laws f) W H g m k (y .band) (y .row) i (rw z at r) (rw z at p)
 
 -- a set-up that passed was lent a store that is long enough
-set-up-room : (f : ℕ) (W H : Side) (L n : ℕ) → setUpQuestion f W H L n ≡ 0 → storeFits f W L n ≡ true
+pub set-up-room : (f : ℕ) (W H : Side) (L n : ℕ) → setUpQuestion f W H L n ≡ 0 → storeFits f W L n ≡ true
 unfolding setUpQuestion
 set-up-room f W H L n e =
     let a = asked-yes (within 1 maxWidth (W .length)) 1 _ e in

@@ -14,9 +14,9 @@ use Rattle.wavelet.specs.Questions.{ask, within}
 use Rattle.wavelet.proofs.LimitLaws.{width-small, height-small, origin-small}
 use Rattle.wavelet.proofs.QuestionLaws.{within-true, within-yes}
 use Rattle.wavelet.proofs.StoreLaws.{store-most}
-use Rattle.nine_seven.specs.Filters.{filterOf, isFilter}
-use Rattle.figures.specs.Figures.{storeBy, anyBy, streamable}
-use Rattle.figures.proofs.FigureLaws.{levels-most}
+use Rattle.filters.specs.Filters.{filterOf, isFilter}
+use Rattle.filters.specs.Figures.{storeBy, anyBy, streamable}
+use Rattle.filters.proofs.FigureLaws.{levels-most}
 use Rattle.calls.proofs.QuestionLaws.{asked-yes}
 use Rattle.reader.proofs.StoreLaws.{length-is}
 use Rattle.reader.specs.declared.Reader.{Reader}

@@ -6,7 +6,7 @@ use Rattle.numbers.specs.Tests.{every}
 use Rattle.numbers.proofs.TestLaws.{every-same}
 use Rattle.wavelet.specs.Limits.{range}
 use Rattle.areas.specs.Areas.{between}
-use Rattle.nine_seven.specs.Filters.{filterOf}
+use Rattle.filters.specs.Filters.{filterOf}
 use Rattle.reader.specs.Questions.{runFits}
 use Rattle.level.proofs.AdmitLaws.{abs-between}
 

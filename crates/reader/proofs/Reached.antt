@@ -29,7 +29,7 @@ use Rattle.wavelet.specs.Steps as step
 use Rattle.numbers.proofs.TestLaws.{every-each}
 use Rattle.calls.specs.Lists.{Area, All, all-none, all-more}
 use Rattle.calls.proofs.AllLaws.{all-append, all-left, all-last}
-use Rattle.nine_seven.specs.Filters.{filterOf}
+use Rattle.filters.specs.Filters.{filterOf}
 use Rattle.reader.specs.declared.Reader.{Reader}
 use Rattle.level.specs.Sets.{opens}
 use Rattle.level.specs.Stands.{SetHasBy}

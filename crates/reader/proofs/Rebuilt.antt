@@ -27,8 +27,8 @@ use Rattle.wavelet.proofs.LevelTheory.{OnCells, OnBands, Same, SameBands, level
 use Rattle.wavelet.proofs.LevelTheory.{words-forward-back, subband-same, same-low}
 use Rattle.calls.specs.Lists.{All, all-none, all-more}
 use Rattle.calls.proofs.AllLaws.{In, first, later}
-use Rattle.nine_seven.specs.Filters.{filterOf}
-use Rattle.nine_seven.proofs.Filters.{filter-laws}
+use Rattle.filters.specs.Filters.{filterOf}
+use Rattle.filters.proofs.Filters.{filter-laws}
 use Rattle.reader_steps.specs.Asked.{named}
 use Rattle.reader.specs.Rebuilt.{Rows, bandsBy, rebuilt, bandsAt, partAt}
 use Rattle.reader_steps.specs.Places.{hasCells}

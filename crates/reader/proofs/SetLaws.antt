@@ -14,7 +14,7 @@ use Rattle.wavelet.specs.Bands.{across, down}
 use Rattle.wavelet.specs.Order.{firstSet, lastSet, setRow}
 use Rattle.wavelet.specs.Steps.{setTo, setOf, setsBefore}
 use Rattle.wavelet.proofs.StepLaws.{to-first, to-later, set-of, before-suc}
-use Rattle.nine_seven.specs.Filters.{filterOf}
+use Rattle.filters.specs.Filters.{filterOf}
 use Rattle.level.specs.Sets.{opens}
 use Rattle.level.specs.Stretch.{rowOfSet, halfPlace}
 use Rattle.reader_steps.specs.Sets.{ahead, rowTo, firstRow}

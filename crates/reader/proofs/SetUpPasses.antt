@@ -18,8 +18,8 @@ use Rattle.wavelet.specs.Limits.{maxWidth, maxHeight, range}
 use Rattle.wavelet.specs.Questions.{within}
 use Rattle.wavelet.specs.Asks.{Width, Height, Known, Levels, needed, largest, ReaderSetUpAsks}
 use Rattle.wavelet.proofs.AskLaws.{went, passed, asked, shape-went, shape-passed, width-exactly, height-exactly}
-use Rattle.nine_seven.specs.Filters.{filterOf, isFilter}
-use Rattle.figures.proofs.PlainFigures.{known-exactly, levels-exactly, store-exactly, range-is}
+use Rattle.filters.specs.Filters.{filterOf, isFilter}
+use Rattle.filters.proofs.PlainFigures.{known-exactly, levels-exactly, store-exactly, range-is}
 use Rattle.level.specs.Tried.{fits}
 use Rattle.reader.specs.declared.Reader.{Reader}
 use Rattle.reader.specs.State.{columns, next, nextLength, rowDue, feeds}

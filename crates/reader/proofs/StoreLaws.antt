@@ -13,10 +13,10 @@ use Rattle.wavelet.specs.Steps.{setOf}
 use Rattle.wavelet.specs.Store.{widths}
 use Rattle.wavelet.proofs.SideLaws.{size-suc}
 use Rattle.wavelet.proofs.StoreLaws as grid
-use Rattle.nine_seven.specs.Filters.{filterOf, isFilter}
-use Rattle.figures.specs.Figures.{storeBy, streamable}
-use Rattle.filters.proofs.BackLaws.{back-stretch}
-use Rattle.figures.proofs.FigureLaws.{store-few}
+use Rattle.filters.specs.Filters.{filterOf, isFilter}
+use Rattle.filters.specs.Figures.{storeBy, streamable}
+use Rattle.synthesis.proofs.BackLaws.{back-stretch}
+use Rattle.filters.proofs.FigureLaws.{store-few}
 use Rattle.reader.specs.declared.walk.Level.{Level}
 use Rattle.wavelet.specs.Order.{firstSet}
 use Rattle.reader_steps.specs.Sets.{ahead, rowOf, taking, needed, firstRow, waiting}

@@ -10,10 +10,10 @@ use borrow.Author.Tests.{eqb-true}
 use Rattle.numbers.specs.Signal.{pick}
 use Rattle.lifting.specs.Grid.{Side}
 use Rattle.wavelet.specs.Levels.{sideAt}
-use Rattle.nine_seven.specs.Filters.{filterOf}
-use Rattle.filters.specs.Back.{backOf}
-use Rattle.filters.proofs.BackLaws.{back-worked}
-use Rattle.figures.specs.Figures.{storeBy}
+use Rattle.filters.specs.Filters.{filterOf}
+use Rattle.synthesis.specs.Back.{backOf}
+use Rattle.synthesis.proofs.BackLaws.{back-worked}
+use Rattle.filters.specs.Figures.{storeBy}
 use Rattle.reader.specs.declared.Reader.{Reader}
 use Rattle.reader_steps.specs.Sets.{waiting}
 use Rattle.level.specs.Tried.{Tried, passed, bind, onto, memory}

@@ -9,7 +9,7 @@ use Rattle.lifting.specs.Grid.{Side}
 use Rattle.reader.specs.declared.Reader.{Reader}
 use Rattle.areas.specs.Areas.{height16}
 use Rattle.level.specs.Tried.{memory}
-use Rattle.filters.specs.Back.{backOf}
+use Rattle.synthesis.specs.Back.{backOf}
 use Rattle.reader.specs.Store.{zeroed}
 use Rattle.reader.specs.Answers.{Reply, gives, refused, impossible, Want, Handed, aRow, nothing}
 use Rattle.reader_steps.specs.Places.{placeOf, enter}

@@ -12,7 +12,7 @@ use lib.Dec.{leb, eqb}
 use Rattle.numbers.specs.Signal.{pick, both}
 use Rattle.numbers.specs.Word.{whole}
 use Rattle.lifting.specs.Grid.{Side}
-use Rattle.nine_seven.specs.Filters.{filterOf}
+use Rattle.filters.specs.Filters.{filterOf}
 use Rattle.wavelet.specs.Bands.{Grid, code, down}
 use Rattle.wavelet.specs.Maps.{IsMap}
 use Rattle.wavelet.specs.Levels.{sideAt, levelBand}

@@ -15,8 +15,8 @@ use Rattle.reader_steps.specs.Sets.{ahead, hasRow, needed, waitsAt}
 use Rattle.reader_steps.specs.Asked.{keptAt, named}
 use Rattle.reader_steps.specs.Places.{lastOfSet, hasCells, Ready}
 use Rattle.level.specs.Stands.{SetHasBy, BackMeaning}
-use Rattle.nine_seven.specs.Filters.{filterOf}
-use Rattle.filters.specs.Back.{standsOf}
+use Rattle.filters.specs.Filters.{filterOf}
+use Rattle.synthesis.specs.Back.{standsOf}
 use Rattle.reader.specs.Rebuilt.{Rows, bandsAt, partAt, SetFits, SetsFit}
 use Rattle.reader.specs.Store.{stretchAt, from}
 use Rattle.reader.specs.State.{columns, rows, spotNow, next, nextRow, nextLength}
@@ -28,7 +28,7 @@ Tested f W H p n = (m : ℕ) → m < n → SetHasBy (filterOf f) (ahead f) W H p
 abbrev pub M : ℕ → BackMeaning
 M f = record {
   Leaves = λ k W H p n x. standsOf f .Leaves k W H p n x × Tested f W H p n;
-  Before = λ W H p n x. standsOf f .Before W H p n x × Tested f W H p n;
+  Before = λ k W H p n x. standsOf f .Before k W H p n x × Tested f W H p n;
   Got = standsOf f .Got;
 }
 
@@ -46,7 +46,7 @@ module _ (P : Rows) (s : Reader) where
         M (s .filter) .Leaves k (sideAt k (columns s)) (sideAt k (rows s)) (bandsAt (s .filter) (columns s) (rows s) P (s .levels) k)
         (needed (s .filter) (rows s) (s .level) (spotNow s .set) (suc k)) (from (stretchAt (s .filter) (columns s) k) x)
     pub before : s .drawn < s .height → (k : ℕ) → Level k → suc k ≤ s .level →
-        M (s .filter) .Before (sideAt k (columns s)) (sideAt k (rows s)) (bandsAt (s .filter) (columns s) (rows s) P (s .levels) k)
+        M (s .filter) .Before k (sideAt k (columns s)) (sideAt k (rows s)) (bandsAt (s .filter) (columns s) (rows s) P (s .levels) k)
         (waitsAt (s .filter) (rows s) (s .level) (spotNow s .set) (suc k)) (from (stretchAt (s .filter) (columns s) k) x)
     pub got : s .drawn < s .height → (k : ℕ) → Level k → suc k ≡ s .level → (c : Band) → keptAt (eqb (suc k) (s .levels)) c ≡ true → code c < s .band →
         M (s .filter) .Got (sideAt k (columns s)) (sideAt k (rows s)) (bandsAt (s .filter) (columns s) (rows s) P (s .levels) k) (spotNow s .set)

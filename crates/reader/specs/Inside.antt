@@ -6,7 +6,7 @@ use lib.IntN.{ℤ}
 use lib.Dec.{eqb}
 use Rattle.wavelet.specs.Limits.{maxWidth, maxHeight, maxLevels, maxOrigin}
 use Rattle.lifting.specs.Grid.{Side}
-use Rattle.nine_seven.specs.Filters.{filterOf, isFilter}
+use Rattle.filters.specs.Filters.{filterOf, isFilter}
 use Rattle.wavelet.specs.Levels.{sideAt}
 use Rattle.wavelet.specs.Questions.{ask}
 use Rattle.reader.specs.declared.Reader.{Reader}

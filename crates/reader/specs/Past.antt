@@ -3,7 +3,7 @@
 use Prim.Native.Nat.{ℕ}
 use lib.IntN.{ℤ}
 use Rattle.lifting.specs.Halves.{fronted}
-use Rattle.figures.specs.Figures.{storeBy}
+use Rattle.filters.specs.Figures.{storeBy}
 use Rattle.reader.specs.State.{columns}
 use Rattle.reader.specs.Demand3.{Call, Event, World, event, next}
 

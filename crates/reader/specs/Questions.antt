@@ -9,8 +9,8 @@ use Rattle.wavelet.specs.Limits.{maxWidth, maxHeight, range, maxOrigin}
 use Rattle.numbers.specs.Tests.{every}
 use Rattle.wavelet.specs.Questions.{ask, within}
 use Rattle.lifting.specs.Grid.{Side}
-use Rattle.nine_seven.specs.Filters.{filterOf, isFilter}
-use Rattle.figures.specs.Figures.{storeBy}
+use Rattle.filters.specs.Filters.{filterOf, isFilter}
+use Rattle.filters.specs.Figures.{storeBy}
 use Rattle.reader.specs.declared.Reader.{Reader}
 use Rattle.level.specs.Tried.{fits}
 use Rattle.reader_steps.specs.Sets.{ahead}

@@ -5,10 +5,11 @@ use Prim.Native.Nat.{ℕ, zero, suc, _-_, _≤_, _<_}
 use lib.IntN.{ℤ}
 use Rattle.numbers.specs.Word.{wrap32}
 use Rattle.lifting.specs.Grid.{Side}
-use Rattle.nine_seven.specs.Filters.{filterOf}
+use Rattle.filters.specs.Filters.{filterOf}
 use Rattle.wavelet.specs.Bands.{Grid, Band, LL, HL, LH, HH, levelBack}
 use Rattle.wavelet.specs.Order.{RowName, rowName}
 use Rattle.wavelet.specs.Levels.{sideAt}
+use Rattle.wavelet.specs.Maps.{valueFits}
 use Rattle.level.specs.Stands.{SetFitsBy}
 use Rattle.reader_steps.specs.Sets.{ahead, needed}
 use Rattle.reader_steps.specs.Places.{hasCells}
@@ -39,7 +40,7 @@ module _ (f : ℕ) (W H : Side) (P : Rows) where
 
   -- set n of level k + 1 fits: the rows that it makes fit, and no number that it halves is odd
   abbrev pub SetFits : ℕ → ℕ → ℕ → Type 0
-  SetFits L k n = SetFitsBy (filterOf f) (ahead f) k (sideAt k W) (sideAt k H) (bandsAt L k) n
+  SetFits L k n = SetFitsBy (filterOf f) (ahead f) (valueFits (filterOf f) k) (partAt L k) (sideAt k W) (sideAt k H) (bandsAt L k) n
 
 -- The sets of the levels above level k that number n of level k (level 0: a height row) needs fit, up to the last of each.
 pub record SetsFit (f : ℕ) (W H : Side) (L : ℕ) (P : Rows) (k n : ℕ) : Type 0 where

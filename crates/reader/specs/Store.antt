@@ -10,8 +10,8 @@ use Rattle.lifting.specs.Grid.{Side}
 use Rattle.wavelet.specs.Levels.{sideAt}
 use Rattle.wavelet.specs.Order.{lastSet}
 use Rattle.level.specs.Tried.{Tried, passed, onto}
-use Rattle.figures.specs.Figures.{storeBy}
-use Rattle.filters.specs.Back.{backOf}
+use Rattle.filters.specs.Figures.{storeBy}
+use Rattle.synthesis.specs.Back.{backOf}
 use Rattle.reader_steps.specs.Asked.{named}
 use Rattle.reader_steps.specs.Places.{hasCells}
 

@@ -6,7 +6,7 @@ mod walk;
 
 use areas::copies;
 use areas::height_rows;
-use filters::back;
+use synthesis::back;
 use walk::Next;
 use walk::Spot;
 use wavelet::shape::Shape;
@@ -17,11 +17,11 @@ ghost use lib.ListN.{length};
 ghost use Rattle.numbers.specs.Signal.{at};
 ghost use Rattle.wavelet.specs.Limits.{maxWidth, maxHeight, maxLevels, maxOrigin};
 ghost use Rattle.wavelet.specs.Shape as shape;
-ghost use Rattle.nine_seven.specs.Filters.{filterOf};
+ghost use Rattle.filters.specs.Filters.{filterOf};
 ghost use Rattle.areas.specs.Areas.{heightsAt};
 ghost use Rattle.lifting.specs.Halves.{fronted};
 ghost use Rattle.reader_steps.specs.Places.{spot, placeOf};
-ghost use Rattle.figures.specs.Figures.{storeBy};
+ghost use Rattle.filters.specs.Figures.{storeBy};
 ghost use Rattle.reader.specs.Store.{zeroed};
 ghost use Rattle.reader.specs.Inside.{Counts, Small, Due};
 ghost use Rattle.reader.specs.State.{columns, rows, wants, movedTo, drawnReader, endedReader};
@@ -149,7 +149,7 @@ impl Reader {
         if q != 0 {
             return SetUp::Refused(q);
         }
-        let n = figures::store_length(filter, map.width, x, map.levels);
+        let n = filters::store_length(filter, map.width, x, map.levels);
         copies::clear(store, n);
         let p = walk::dive_from(filter, map.levels, 0, x, map.width, y, map.height, 0, 0);
         let s = Reader {

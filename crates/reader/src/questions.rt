@@ -9,7 +9,7 @@ ghost use Prim.Native.Nat.{_≤_};
 ghost use lib.ListN.{length};
 ghost use Rattle.numbers.specs.Signal.{at};
 ghost use Rattle.lifting.specs.Grid.{side};
-ghost use Rattle.nine_seven.specs.Filters.{filterOf};
+ghost use Rattle.filters.specs.Filters.{filterOf};
 ghost use Rattle.reader.specs.State.{columns, drawDue};
 ghost use Rattle.reader.specs.Questions.{countsFit, storeFits, runFits, setUpQuestion};
 ghost use Rattle.reader.specs.Inside.{Counts, Due, storeQuestion, rowQuestion};
@@ -24,7 +24,7 @@ pub fn counts_fit(s: Reader) -> bool
     if !limits::is_within(s.height, Reader::MAX_HEIGHT) {
         return false;
     }
-    if !figures::is_filter(s.filter) {
+    if !filters::is_filter(s.filter) {
         return false;
     }
     if !limits::is_within(s.levels, Reader::most_levels(s.filter)) {
@@ -45,7 +45,7 @@ pub fn counts_fit(s: Reader) -> bool
     if 4 < s.band {
         return false;
     }
-    s.back <= 2 * figures::look_ahead(s.filter) - 1
+    s.back <= 2 * filters::look_ahead(s.filter) - 1
 }
 
 // Questions 2, 3, 18, 4 and 5 of a set-up, whose line store has `length` numbers.
@@ -66,13 +66,13 @@ pub fn set_up_question(
     if !limits::is_within(height, Reader::MAX_HEIGHT) {
         return 3;
     }
-    if !figures::is_filter(filter) {
+    if !filters::is_filter(filter) {
         return 18;
     }
     if !limits::is_within(levels, Reader::most_levels(filter)) {
         return 4;
     }
-    if length < figures::store_length(filter, width, x, levels) {
+    if length < filters::store_length(filter, width, x, levels) {
         return 5;
     }
     0
@@ -83,7 +83,7 @@ fn run_fits(filter: usize, run: &[i32], level: usize) -> bool
     requires { ⌜ level ≤ filterOf filter .levels ⌝ }
     ensures { λ r. ⌜ r ≡ runFits filter level (length (now (run .entry))) (at (now (run .entry))) ⌝ }
 {
-    let most = figures::range_of(filter, level);
+    let most = filters::range_of(filter, level);
     ranges::all_between(run, -most, most)
 }
 
@@ -93,10 +93,10 @@ fn store_fits(s: Reader, length: usize) -> bool
     requires { ⌜ Counts s ⌝ }
     ensures { λ r. ⌜ r ≡ storeFits (s .filter) (columns s) (s .levels) length ⌝ }
 {
-    if figures::holds_any(s.filter, s.width, length) {
+    if filters::holds_any(s.filter, s.width, length) {
         return true;
     }
-    figures::store_length(s.filter, s.width, s.x, s.levels) <= length
+    filters::store_length(s.filter, s.width, s.x, s.levels) <= length
 }
 
 // Questions 1, 5 and 9 of a feed or a draw.

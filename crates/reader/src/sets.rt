@@ -50,7 +50,7 @@ pub fn set_of(filter: usize, y: usize, h: usize, r: usize) -> usize
     if q == 0 {
         return 0;
     }
-    let a = (q - 1) / 2 + figures::look_ahead(filter);
+    let a = (q - 1) / 2 + filters::look_ahead(filter);
     let b = last_set(y, h);
     if a < b { a } else { b }
 }
@@ -86,7 +86,7 @@ pub fn first_row(filter: usize, y: usize, h: usize, n: usize) -> usize
     if (n == 0) | (h == 0) {
         return 0;
     }
-    let r = 2 * less(n, figures::look_ahead(filter)) + 1 - y % 2;
+    let r = 2 * less(n, filters::look_ahead(filter)) + 1 - y % 2;
     if r < h { r } else { h - 1 }
 }
 

@@ -12,7 +12,7 @@ ghost use lib.ListN.{length};
 ghost use Rattle.numbers.specs.Signal.{at};
 ghost use Rattle.level.specs.Tried.{outcome};
 ghost use Rattle.wavelet.specs.Limits.{maxLevels};
-ghost use Rattle.figures.specs.Figures.{storeBy};
+ghost use Rattle.filters.specs.Figures.{storeBy};
 ghost use Rattle.reader_steps.specs.Sets.{needed};
 ghost use Rattle.reader_steps.specs.Places.{spot, placeOf, past, spotFed};
 ghost use Rattle.reader.specs.State.{columns, rows, next, nextRow, nextLength, settles, feeds};

@@ -3,7 +3,7 @@
 // meets what is required, can call it.
 use crate::sets;
 use areas::copies;
-use filters::back;
+use synthesis::back;
 use wavelet::sizes;
 ghost use mathlib.Core.Path.{_≡_};
 ghost use mathlib.Core.Bool.{true, false};
@@ -17,9 +17,9 @@ ghost use Rattle.wavelet.specs.Limits.{maxLevels};
 ghost use Rattle.lifting.specs.Line.{lo};
 ghost use Rattle.wavelet.specs.Order.{firstSet};
 ghost use Rattle.wavelet.specs.Levels.{next, sideAt};
-ghost use Rattle.nine_seven.specs.Filters.{filterOf};
-ghost use Rattle.figures.specs.Figures.{storeBy, streamable};
-ghost use Rattle.filters.specs.Back.{rowPlaceOf};
+ghost use Rattle.filters.specs.Filters.{filterOf};
+ghost use Rattle.filters.specs.Figures.{storeBy, streamable};
+ghost use Rattle.synthesis.specs.Back.{rowPlaceOf};
 ghost use Rattle.level.specs.Tried.{outcome};
 ghost use Rattle.level.specs.Stretch.{rowOfSet, halfPlace};
 ghost use Rattle.level.specs.Rebuilding.{Kept};
@@ -87,7 +87,7 @@ pub fn level_at(
     }
     let h = bottom - top;
     let n = sets::set_of(filter, top, h, row);
-    let rows = figures::rows_kept(filter);
+    let rows = filters::rows_kept(filter);
     Level {
         start: rows * columns,
         x: left,
@@ -411,6 +411,6 @@ pub fn zero(filter: usize, x: usize, width: usize, levels: usize, store: &mut [i
     requires { ⌜ (streamable filter (side x width) levels ≡ true) × (storeBy filter (side x width) levels ≤ length (now store)) ⌝ }
     ensures { λ _. ⌜ at (now (store .exit)) ≡ zeroed filter (side x width) levels (at (now (store .entry))) ⌝ }
 {
-    let n = figures::store_length(filter, width, x, levels);
+    let n = filters::store_length(filter, width, x, levels);
     copies::clear(store, n);
 }

@@ -13,7 +13,7 @@ use Rattle.wavelet.specs.Levels.{next, sideAt}
 use Rattle.wavelet.specs.Order.{firstSet, lastSet}
 use Rattle.wavelet.specs.Steps.{setTo, setOf, setsBefore}
 use Rattle.wavelet.proofs.StepLaws.{to-first, to-later, set-of, set-there, set-rises, set-last, before-zero, before-suc, before-rises}
-use Rattle.nine_seven.proofs.Filters.{filter-laws}
+use Rattle.filters.proofs.Filters.{filter-laws}
 use Rattle.level.specs.Sets.{opens}
 use Rattle.reader_steps.specs.Sets.{ahead, hasRow, rowOf, taking, needed, rowTo, firstRow, makes, waiting, waitsAt}
 

@@ -9,7 +9,7 @@ use Rattle.lifting.specs.Grid.{Side}
 use Rattle.wavelet.specs.Levels.{sideAt}
 use Rattle.wavelet.specs.Order.{firstSet}
 use Rattle.wavelet.specs.Steps.{setOf}
-use Rattle.nine_seven.specs.Filters.{filterOf}
+use Rattle.filters.specs.Filters.{filterOf}
 
 -- how far the filter looks ahead
 abbrev pub ahead : ℕ → ℕ

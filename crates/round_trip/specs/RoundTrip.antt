@@ -16,8 +16,8 @@ use Rattle.lifting.specs.Grid.{Side, side}
 use Rattle.wavelet.specs.View.{bandStart, bandColumns}
 use Rattle.wavelet.specs.Maps.{HasPlane}
 use Rattle.wavelet.specs.Steps.{steps}
-use Rattle.nine_seven.specs.Filters.{filterOf}
-use Rattle.figures.specs.Figures.{storeBy}
+use Rattle.filters.specs.Filters.{filterOf}
+use Rattle.filters.specs.Figures.{storeBy}
 use Rattle.calls.specs.Lists.{gives, Area, All}
 use Rattle.writer.specs.declared.BandRow.{BandRow}
 use Rattle.writer.specs.History as writer

@@ -18,7 +18,8 @@ use Rattle.descriptors.specs.declared.input.Filled.{Filled}
 use Rattle.descriptors.specs.declared.output.Sent.{Sent}
 use Rattle.descriptors.proofs.LeftLaws.{fills-within, used-within, used-left, length-left}
 use Rattle.rounds.specs.Machine.{Machine}
-use Rattle.rounds.specs.Rounds.{waitsAt, overAt, waiting, over, failed, ended, ends, whole, going, started, outcomeOf, Round, Rounds, begun, then, Ran, Run}
+use Rattle.rounds.specs.Rounds.{waitsAt, overAt, waiting, over, failed, ended, ends, whole}
+use Rattle.rounds.specs.Rounds.{going, started, outcomeOf, Round, Rounds, begun, then, Ran, Run}
 use Rattle.rounds.specs.Rounds.{mostRounds, before, after, Completed}
 use Rattle.rounds.specs.declared.round.Outcome.{Outcome}
 

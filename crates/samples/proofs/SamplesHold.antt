@@ -15,7 +15,7 @@ use Rattle.wavelet.specs.Steps.{feedAll, bandRowsOf, setTo, setOf, setsBefore, 
 use Rattle.wavelet.specs.Levels.{next, sideAt, approximation, levelBand}
 use Rattle.wavelet.specs.View.{bandColumns}
 use Rattle.nine_seven.specs.NineSeven as nine
-use Rattle.nine_seven.specs.Filters.{filterOf, isFilter}
+use Rattle.filters.specs.Filters.{filterOf, isFilter}
 use Rattle.map_questions.specs.Calls.{shapeQuestions, sizeQuestions, planeQuestions, backwardQuestion}
 use Rattle.samples.specs.Samples.{listed, values, bandRow, holds-line, holds-map, holds-answer, holds-order, holds-wants, AllHold, none}
 use Rattle.samples.specs.Samples.{also, table, oddTable, secondTable}

@@ -10,7 +10,7 @@ use Rattle.numbers.specs.Signal.{at}
 use Rattle.numbers.specs.Word.{whole}
 use Rattle.lifting.specs.Line.{Half, lo, hi}
 use Rattle.lifting.specs.Grid.{Side, side, count}
-use Rattle.nine_seven.specs.Filters.{filterOf}
+use Rattle.filters.specs.Filters.{filterOf}
 use Rattle.wavelet.specs.Bands.{Grid, LL, HL, LH, HH}
 use Rattle.wavelet.specs.Plane.{cells, planeOf}
 use Rattle.wavelet.specs.Order.{RowName, rowName, made}

@@ -1,7 +1,7 @@
 // The window in the work area: loaded from the heights, its columns lifted, its rows lifted. Its rows stand in their own order, `stride` apart.
 use crate::direction::Direction;
-use five_three_lines::line;
-use five_three_lines::rows;
+use lifting::line;
+use lifting::rows;
 use wavelet::limits;
 ghost use mathlib.Core.Path.{_≡_};
 ghost use Prim.Native.Nat.{ℕ, _+_, _-_, _*_, _/_, _^_, _≤_, _<_};

@@ -1,10 +1,10 @@
 -- A list of C calls on a turn-giver's array shows what the list of Rattle's calls shows, told in C's numbers: so what is proved of the lists of a turn-giver
 -- holds of them. Assumes nothing.
-use mathlib.Core.Path.{_≡_, refl, ap}
-use mathlib.Core.List.{List}
+use mathlib.Core.Path.{_≡_, refl, ap, ap₂, _∙_}
+use mathlib.Core.List.{List, [], _∷_, zipWith}
 use Prim.Native.Nat.{ℕ}
 use Rattle.calls.specs.Lists.{Reply, gives, refused, seen}
-use Rattle.calls.proofs.ListLaws.{told-events}
+use Rattle.calls.specs.Lists as lists
 use Rattle.turns.specs.declared.Turns.{Turns}
 use Rattle.turns.specs.Answers.{Given, aReader, nothing}
 use Rattle.turns.specs.Calls.{fresh, markReply, clearReply, turnReply}
@@ -56,6 +56,7 @@ module _ (t : Turns) where
   leaves-next rattle.turn = rw (turns-is t) (turn-left t (turnReply t))
 
 pub turns-lists : (ds : List CCall) (t : Turns) → seenAll ds (turnsWords t) ≡ toldAll ds (events (calls ds) t)
-turns-lists =
-    told-events event next (λ d s. seenOf s (d .call) (d .reader)) (λ d s. leaves s (d .call)) (λ d. d .call) turnsWords (λ d t. leaves-next t (d .call))
-    (λ d e. told (d .reader) e) (λ d t. seen-told t (d .call) (d .reader))
+unfolding lists.events zipWith
+turns-lists [] t = refl
+turns-lists (d ∷ ds) t =
+    ap₂ (λ e l. e ∷ l) (seen-told t (d .call) (d .reader)) (ap (seenAll ds) (leaves-next t (d .call)) ∙ turns-lists ds (next (d .call) t))

@@ -9,7 +9,7 @@ use Rattle.lifting.specs.Grid.{Side}
 use Rattle.wavelet.specs.Bands.{Grid}
 use Rattle.wavelet.specs.Plane.{cells}
 use Rattle.wavelet.specs.Maps.{HasPlane}
-use Rattle.nine_seven.specs.Filters.{filterOf}
+use Rattle.filters.specs.Filters.{filterOf}
 use Rattle.calls.specs.Lists.{Area, Mixed, mine}
 use Rattle.writer.specs.History.{taken}
 use Rattle.reader.specs.Demand3.{Call, want, feed, draw, Event, event, events, final, freshWorld, drawnRows}

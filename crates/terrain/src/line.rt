@@ -1,7 +1,7 @@
 // The line calls of both filters. What they say of a line is `lifting`'s and `nine_seven`'s: their definitions give the answer and what stands in `out`
 // afterwards, for every line, every start and every area.
-use five_three_lines::line;
-use nine_seven_lines::line as ccsds;
+use lifting::line;
+use nine_seven::line as ccsds;
 ghost use mathlib.Core.Path.{_≡_};
 ghost use lib.ListN.{length};
 ghost use lib.Dec.{leb};

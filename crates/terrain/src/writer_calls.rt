@@ -9,7 +9,7 @@ ghost use mathlib.Core.Path.{_≡_};
 ghost use lib.ListN.{length};
 ghost use Rattle.numbers.specs.Signal.{at, pick};
 ghost use Rattle.wavelet.specs.Shape.{columns};
-ghost use Rattle.figures.specs.Figures.{storeBy, streamable};
+ghost use Rattle.filters.specs.Figures.{storeBy, streamable};
 ghost use Rattle.writer.specs.Calls.{setUpReply, setUpStore};
 ghost use Rattle.states.specs.WriterAnswers.{number, takenOf, rowOf};
 ghost use Rattle.terrain.specs.WriterCalls.{stateOf, offered, offeredStore, stateTook, drawn, drawnStore, drawnArea, stateHanded};
@@ -20,7 +20,7 @@ ghost use Rattle.terrain.specs.WriterCalls.{waiting, lookOf, finished, f
 pub extern "C" fn terrain_store_length(shape: Shape) -> usize
     ensures { λ r. ⌜ r ≡ pick (streamable (shape .filter) (columns shape) (shape .levels)) (storeBy (shape .filter) (columns shape) (shape .levels)) 0 ⌝ }
 {
-    figures::store_length(
+    filters::store_length(
         shape.filter as usize,
         shape.width,
         shape.x as usize,

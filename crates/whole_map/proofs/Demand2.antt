@@ -16,7 +16,7 @@ use lib.IntN.{ℤ}
 use Rattle.numbers.specs.Word.{wrap32, whole}
 use Rattle.lifting.specs.Halves.{fronted}
 use Rattle.lifting.specs.Grid.{Side}
-use Rattle.nine_seven.specs.Filters.{filterOf}
+use Rattle.filters.specs.Filters.{filterOf}
 use Rattle.areas.proofs.AreaLaws.{front-at}
 use Rattle.wavelet.specs.Questions.{ask}
 use Rattle.wavelet.specs.Bands.{Grid}
@@ -26,7 +26,7 @@ use Rattle.wavelet.proofs.GridLaws.{place-below, flat-at}
 use Rattle.wavelet.proofs.LevelTheory.{Same}
 use Rattle.wavelet.proofs.MapTheorems.{some-map, one-map, back-exactly}
 use Rattle.map_questions.specs.Calls.{forwardQuestion, planeQuestions, backwardQuestion, passed, rebuilt}
-use Rattle.nine_seven.proofs.Filters.{filter-laws}
+use Rattle.filters.proofs.Filters.{filter-laws}
 use Rattle.map_levels.proofs.TestLaws.{false-true}
 use Rattle.map_questions.proofs.QuestionLaws.{Roomy, roomy-is, asked-on, passed-yes, rebuilt-yes}
 

@@ -8,7 +8,7 @@ ghost use Rattle.numbers.specs.Word.{whole, wrap32};
 ghost use Rattle.areas.specs.Areas.{heightsAt};
 ghost use Rattle.wavelet.specs.Plane.{cells, flat, planeOf, mapBack};
 ghost use Rattle.wavelet.specs.Shape.{columns, rows};
-ghost use Rattle.nine_seven.specs.Filters.{filterOf};
+ghost use Rattle.filters.specs.Filters.{filterOf};
 ghost use Rattle.map_questions.specs.Calls.{forwardQuestion, backwardQuestion, zeros, passed, rebuilt};
 
 // The plane of a map of heights, by the filter of its shape. It answers 0, or the number of the question that turned it away.

@@ -14,13 +14,13 @@ use Rattle.wavelet.specs.Levels.{next}
 use Rattle.wavelet.proofs.StoreLaws.{store-below}
 use Rattle.calls.specs.Lists as lists
 use Rattle.calls.proofs.ListLaws.{list-reached}
-use Rattle.nine_seven.specs.Filters.{filterOf}
+use Rattle.filters.specs.Filters.{filterOf}
 use Rattle.level.specs.Level.{Memory, LevelKind, prev, rest, ahead}
 use Rattle.level.proofs.RestLaws.{rest-at}
-use Rattle.figures.specs.Figures.{storeBy, streamable}
-use Rattle.figures.proofs.FigureLaws.{streams}
-use Rattle.filters.specs.Forward.{kindOf, heldOf, endedOf}
-use Rattle.filters.proofs.ForwardLaws.{laws-of}
+use Rattle.filters.specs.Figures.{storeBy, streamable}
+use Rattle.filters.proofs.FigureLaws.{streams}
+use Rattle.analysis.specs.Forward.{kindOf, heldOf, endedOf}
+use Rattle.analysis.proofs.ForwardLaws.{laws-of}
 use Rattle.progress.specs.Counts.{made}
 use Rattle.writer.specs.Taking.{columnsOf}
 use Rattle.writer.specs.Questions.{inRanges, setUpQuestion}

@@ -13,8 +13,8 @@ use Rattle.wavelet.specs.Limits.{maxWidth, maxHeight}
 use Rattle.wavelet.proofs.LimitLaws.{width-small, height-small}
 use Rattle.wavelet.specs.Questions.{ask, within}
 use Rattle.lifting.specs.Grid.{Side}
-use Rattle.nine_seven.specs.Filters.{filterOf}
-use Rattle.figures.specs.Figures.{storeBy, streamable}
+use Rattle.filters.specs.Filters.{filterOf}
+use Rattle.filters.specs.Figures.{storeBy, streamable}
 use Rattle.calls.specs.Lists.{gives, refused, unless, changedUnless}
 use Rattle.calls.proofs.QuestionLaws.{asked-yes, not-yes}
 use Rattle.writer.specs.declared.Writer.{Writer}

@@ -29,11 +29,11 @@ use Rattle.wavelet.specs.Levels.{sideAt, levelBand}
 use Rattle.wavelet.specs.View.{bandColumns}
 use Rattle.calls.specs.Lists.{All, all-none, all-more}
 use Rattle.calls.proofs.AllLaws.{all-append}
-use Rattle.nine_seven.specs.Filters.{filterOf}
+use Rattle.filters.specs.Filters.{filterOf}
 use Rattle.level.proofs.LevelLaws.{LevelLaws}
-use Rattle.figures.specs.Figures.{streamable}
-use Rattle.filters.specs.Forward.{kindOf, heldOf, endedOf}
-use Rattle.filters.proofs.ForwardLaws.{laws-of}
+use Rattle.filters.specs.Figures.{streamable}
+use Rattle.analysis.specs.Forward.{kindOf, heldOf, endedOf}
+use Rattle.analysis.proofs.ForwardLaws.{laws-of}
 use Rattle.progress.specs.Counts.{mostLeft, startOf}
 use Rattle.writer.specs.Machine.{Out, arrive}
 use Rattle.writer.specs.Draws.{Waiting, waiting, pull}

@@ -21,8 +21,8 @@ use Rattle.lifting.specs.Grid.{Side, side}
 use Rattle.wavelet.specs.Levels.{levelBand}
 use Rattle.wavelet.specs.Questions.{within}
 use Rattle.calls.specs.Lists.{Reply, gives, refused, unless, changedUnless}
-use Rattle.nine_seven.specs.Filters.{filterOf}
-use Rattle.filters.specs.Forward.{kindOf}
+use Rattle.filters.specs.Filters.{filterOf}
+use Rattle.analysis.specs.Forward.{kindOf}
 use Rattle.writer.specs.declared.Writer.{Writer}
 use Rattle.writer.specs.declared.BandRow.{BandRow}
 use Rattle.writer.specs.Machine.{Out, arrive}

@@ -12,12 +12,12 @@ use Rattle.wavelet.specs.Bands.{LL}
 use Rattle.wavelet.specs.Levels.{next}
 use Rattle.wavelet.proofs.SideLaws.{next-le}
 use Rattle.wavelet.proofs.StoreLaws.{store-next}
-use Rattle.nine_seven.specs.Filters.{filterOf}
+use Rattle.filters.specs.Filters.{filterOf}
 use Rattle.level.specs.Level.{Memory, LevelKind, completes, rest, joinAt}
-use Rattle.figures.specs.Figures.{storeBy}
-use Rattle.filters.specs.Forward.{kindOf, delivered}
-use Rattle.figures.proofs.FigureLaws.{row-few}
-use Rattle.filters.proofs.ForwardLaws.{passed-on}
+use Rattle.filters.specs.Figures.{storeBy}
+use Rattle.analysis.specs.Forward.{kindOf, delivered}
+use Rattle.filters.proofs.FigureLaws.{row-few}
+use Rattle.analysis.proofs.ForwardLaws.{passed-on}
 use Rattle.level.proofs.RestLaws.{rest-join, join-again}
 use Rattle.progress.specs.declared.waits.Wait.{Wait}
 use Rattle.progress.specs.Counts.{deeper, further, most, skip, startOf}

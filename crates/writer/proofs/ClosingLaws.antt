@@ -10,9 +10,9 @@ use Rattle.lifting.specs.Line.{lo}
 use Rattle.lifting.specs.Grid.{Side, side, count}
 use Rattle.wavelet.specs.Levels.{next}
 use Rattle.wavelet.specs.Order.{lastSet}
-use Rattle.nine_seven.specs.Filters.{filterOf}
+use Rattle.filters.specs.Filters.{filterOf}
 use Rattle.level.specs.Level.{Memory, LevelKind, rest, joinAt}
-use Rattle.filters.specs.Forward.{kindOf}
+use Rattle.analysis.specs.Forward.{kindOf}
 use Rattle.progress.specs.declared.waits.Wait.{Wait}
 use Rattle.writer.specs.declared.closing.Closure.{Closure}
 use Rattle.progress.specs.Counts.{made, most, skip}

@@ -24,12 +24,12 @@ use Rattle.wavelet.proofs.OrderOnce.{made-once}
 use Rattle.wavelet.proofs.Bridge.{map-band}
 use Rattle.calls.specs.Lists.{All}
 use Rattle.calls.proofs.AllLaws.{all-map, all-take, all-at}
-use Rattle.nine_seven.specs.Filters.{filterOf}
-use Rattle.nine_seven.proofs.Filters.{filter-laws}
+use Rattle.filters.specs.Filters.{filterOf}
+use Rattle.filters.proofs.Filters.{filter-laws}
 use Rattle.level.specs.Level.{Memory, rest}
-use Rattle.figures.specs.Figures.{streamable}
-use Rattle.figures.proofs.FigureLaws.{streams}
-use Rattle.filters.proofs.ForwardLaws.{laws-of}
+use Rattle.filters.specs.Figures.{streamable}
+use Rattle.filters.proofs.FigureLaws.{streams}
+use Rattle.analysis.proofs.ForwardLaws.{laws-of}
 use Rattle.writer.specs.Taking.{columnsOf}
 use Rattle.writer.specs.Questions.{inRanges, setUpQuestion}
 use Rattle.writer.specs.History.{Call, row, Event, World, event, events, final, freshWorld, taken, finishes, finishedBy, DrawnRow, drawn}

@@ -9,14 +9,14 @@ use Rattle.wavelet.specs.Levels.{next}
 use Rattle.wavelet.specs.Order.{setRow}
 use Rattle.wavelet.proofs.SideLaws.{next-le}
 use Rattle.wavelet.proofs.StoreLaws.{store-back, store-next}
-use Rattle.nine_seven.specs.Filters.{filterOf}
-use Rattle.figures.specs.Figures.{storeBy}
+use Rattle.filters.specs.Filters.{filterOf}
+use Rattle.filters.specs.Figures.{storeBy}
 use Rattle.level.specs.Level.{Memory, LevelKind, prev, rest, joinAt}
 use Rattle.level.proofs.Places.{prev-is}
 use Rattle.level.proofs.RestLaws.{rest-at, join-below, join-past}
-use Rattle.filters.specs.Forward.{kindOf}
-use Rattle.figures.proofs.FigureLaws.{store-few}
-use Rattle.filters.proofs.ForwardLaws.{place-room}
+use Rattle.analysis.specs.Forward.{kindOf}
+use Rattle.filters.proofs.FigureLaws.{store-few}
+use Rattle.analysis.proofs.ForwardLaws.{place-room}
 use Rattle.writer.specs.declared.Writer.{Writer}
 use Rattle.progress.specs.declared.waits.Wait.{Wait}
 use Rattle.progress.specs.declared.levels.Level.{Level}

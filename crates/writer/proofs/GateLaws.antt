@@ -12,9 +12,9 @@ use Rattle.wavelet.specs.Questions.{ask}
 use Rattle.lifting.specs.Grid.{Side}
 use Rattle.wavelet.proofs.LimitLaws.{levels-small}
 use Rattle.wavelet.specs.Levels.{next}
-use Rattle.nine_seven.specs.Filters.{filterOf, isFilter}
-use Rattle.figures.specs.Figures.{storeBy, streamable}
-use Rattle.figures.proofs.FigureLaws.{streams, levels-most}
+use Rattle.filters.specs.Filters.{filterOf, isFilter}
+use Rattle.filters.specs.Figures.{storeBy, streamable}
+use Rattle.filters.proofs.FigureLaws.{streams, levels-most}
 use Rattle.writer.specs.declared.Writer.{Writer}
 use Rattle.progress.specs.Counts.{mostLeft, startOf}
 use Rattle.writer.specs.Taking.{columnsOf}

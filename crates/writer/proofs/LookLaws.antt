@@ -12,7 +12,7 @@ use Rattle.numbers.specs.Signal.{pick}
 use Rattle.wavelet.specs.Questions.{ask}
 use Rattle.lifting.specs.Grid.{Side}
 use Rattle.wavelet.specs.Limits.{maxOrigin}
-use Rattle.figures.specs.Figures.{storeBy}
+use Rattle.filters.specs.Figures.{storeBy}
 use Rattle.calls.specs.Lists.{gives, refused, unless}
 use Rattle.level.specs.Level.{Memory}
 use Rattle.writer.specs.declared.Writer.{Writer}

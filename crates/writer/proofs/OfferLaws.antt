@@ -17,8 +17,8 @@ use Rattle.wavelet.proofs.LimitLaws.{height-small}
 use Rattle.calls.specs.Lists.{gives, refused}
 use Rattle.level.specs.Level.{Memory}
 use Rattle.level.specs.Heights.{heightAt}
-use Rattle.filters.specs.Forward.{heightsPut}
-use Rattle.filters.proofs.ForwardLaws.{height-more, height-none}
+use Rattle.analysis.specs.Forward.{heightsPut}
+use Rattle.analysis.proofs.ForwardLaws.{height-more, height-none}
 use Rattle.writer.specs.declared.Writer.{Writer}
 use Rattle.progress.specs.declared.waits.Wait.{Wait}
 use Rattle.writer.specs.Machine.{arrive}

@@ -18,9 +18,9 @@ use Rattle.lifting.specs.Grid.{Side}
 use Rattle.wavelet.specs.View.{bandColumns}
 use Rattle.calls.specs.Lists.{Reply, gives, refused, unless, seen, Area, gathered, ever}
 use Rattle.calls.proofs.ListLaws.{either-no, gathered-snoc, ever-snoc, list-reached}
-use Rattle.nine_seven.specs.Filters.{filterOf}
-use Rattle.figures.specs.Figures.{streamable}
-use Rattle.filters.specs.Forward.{kindOf}
+use Rattle.filters.specs.Filters.{filterOf}
+use Rattle.filters.specs.Figures.{streamable}
+use Rattle.analysis.specs.Forward.{kindOf}
 use Rattle.writer.specs.declared.Writer.{Writer}
 use Rattle.writer.specs.Machine.{Out}
 use Rattle.writer.specs.Draws.{Waiting, waiting, pull}

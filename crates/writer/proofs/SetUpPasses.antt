@@ -14,9 +14,9 @@ use Rattle.wavelet.specs.Limits.{maxWidth}
 use Rattle.wavelet.specs.Questions.{within}
 use Rattle.wavelet.specs.Asks.{Width, Known, Levels, needed, WriterSetUpAsks}
 use Rattle.wavelet.proofs.AskLaws.{went, passed, asked, width-exactly}
-use Rattle.nine_seven.specs.Filters.{filterOf, isFilter}
-use Rattle.figures.specs.Figures.{storeBy}
-use Rattle.figures.proofs.PlainFigures.{levels-exactly, store-exactly}
+use Rattle.filters.specs.Filters.{filterOf, isFilter}
+use Rattle.filters.specs.Figures.{storeBy}
+use Rattle.filters.proofs.PlainFigures.{levels-exactly, store-exactly}
 use Rattle.writer.specs.Questions.{known, setUpQuestion}
 
 -- question 18

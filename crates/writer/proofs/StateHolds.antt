@@ -9,11 +9,11 @@ use Rattle.wavelet.specs.Bands.{Grid}
 use Rattle.lifting.specs.Grid.{Side, side}
 use Rattle.wavelet.specs.Order.{madeBy}
 use Rattle.wavelet.proofs.StoreLaws.{store-none}
-use Rattle.nine_seven.specs.Filters.{filterOf}
+use Rattle.filters.specs.Filters.{filterOf}
 use Rattle.level.specs.Level.{Memory, LevelKind, Meaning, Ending}
 use Rattle.level.proofs.LevelLaws.{LevelLaws}
-use Rattle.filters.specs.Forward.{kindOf, heldOf, endedOf}
-use Rattle.filters.proofs.ForwardLaws.{laws-of}
+use Rattle.analysis.specs.Forward.{kindOf, heldOf, endedOf}
+use Rattle.analysis.proofs.ForwardLaws.{laws-of}
 use Rattle.writer.specs.declared.Writer.{Writer}
 use Rattle.progress.specs.Counts.{mostLeft, startOf}
 use Rattle.writer.specs.Machine.{Out, arrive}

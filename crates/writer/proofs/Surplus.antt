@@ -19,13 +19,13 @@ use Rattle.wavelet.specs.Order.{lastSet}
 use Rattle.wavelet.proofs.StoreLaws.{store-below}
 use Rattle.wavelet.specs.Bands.{LL}
 use Rattle.calls.specs.Lists.{changedUnless}
-use Rattle.nine_seven.specs.Filters.{filterOf}
+use Rattle.filters.specs.Filters.{filterOf}
 use Rattle.level.specs.Level.{Memory, LevelKind, completes, prev, rest, joinAt, ahead}
 use Rattle.level.proofs.RestLaws.{rest-at, join-past}
 use Rattle.level.proofs.LevelLaws.{LevelLaws}
-use Rattle.figures.specs.Figures.{storeBy}
-use Rattle.filters.specs.Forward.{kindOf, heldOf, endedOf}
-use Rattle.filters.proofs.ForwardLaws.{laws-of}
+use Rattle.filters.specs.Figures.{storeBy}
+use Rattle.analysis.specs.Forward.{kindOf, heldOf, endedOf}
+use Rattle.analysis.proofs.ForwardLaws.{laws-of}
 use Rattle.writer.specs.declared.Writer.{Writer}
 use Rattle.progress.specs.Counts.{made, lowRows, most, skip}
 use Rattle.writer.specs.Machine.{Out, still, under, passed, settled, arrived, arrive, passOn}

@@ -13,10 +13,10 @@ use Rattle.wavelet.specs.Limits.{maxHeight}
 use Rattle.wavelet.specs.Questions.{ask}
 use Rattle.calls.specs.Lists.{unless, changedUnless, Area}
 use Rattle.calls.specs.Lists as lists
-use Rattle.nine_seven.specs.Filters.{filterOf}
+use Rattle.filters.specs.Filters.{filterOf}
 use Rattle.level.specs.Level.{Memory, LevelKind, rest}
-use Rattle.filters.specs.Forward.{kindOf}
-use Rattle.figures.specs.Figures.{storeBy, streamable}
+use Rattle.analysis.specs.Forward.{kindOf}
+use Rattle.filters.specs.Figures.{storeBy, streamable}
 use Rattle.progress.specs.Counts.{mostLeft}
 use Rattle.writer.specs.Machine.{Out, arrive}
 use Rattle.writer.specs.Draws.{Waiting, waiting, pull}

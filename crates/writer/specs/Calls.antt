@@ -9,7 +9,7 @@ use Rattle.wavelet.specs.Bands.{code}
 use Rattle.lifting.specs.Grid.{Side}
 use Rattle.calls.specs.Lists.{Reply, unless, changedUnless}
 use Rattle.level.specs.Level.{Memory, rest}
-use Rattle.figures.specs.Figures.{storeBy}
+use Rattle.filters.specs.Figures.{storeBy}
 use Rattle.writer.specs.declared.Writer.{Writer}
 use Rattle.writer.specs.declared.BandRow.{BandRow}
 use Rattle.progress.specs.Counts.{startOf}

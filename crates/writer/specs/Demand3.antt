@@ -20,8 +20,8 @@ use Rattle.wavelet.specs.Levels.{levelBand}
 use Rattle.wavelet.specs.View.{bandColumns}
 use Rattle.wavelet.specs.ViewCall.{bandRowExists}
 use Rattle.calls.specs.Lists.{Reply, gives, refused, unless, Area, All}
-use Rattle.nine_seven.specs.Filters.{filterOf}
-use Rattle.figures.specs.Figures.{storeBy}
+use Rattle.filters.specs.Filters.{filterOf}
+use Rattle.filters.specs.Figures.{storeBy}
 use Rattle.writer.specs.declared.BandRow.{BandRow}
 use Rattle.writer.specs.Questions.{either}
 use Rattle.writer.specs.History.{Call, offer, draw, finish, look, Given, row, none, Event, offered, drew, finished, looked}

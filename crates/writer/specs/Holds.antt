@@ -13,8 +13,8 @@ use Rattle.wavelet.specs.Bands.{Grid, Band, LL, code, subband}
 use Rattle.wavelet.specs.Levels.{next, levelBand}
 use Rattle.wavelet.specs.Order.{setHas}
 use Rattle.calls.specs.Lists.{Reply, gives, refused}
-use Rattle.nine_seven.specs.Filters.{filterOf}
-use Rattle.filters.specs.Forward.{heldOf, endedOf}
+use Rattle.filters.specs.Filters.{filterOf}
+use Rattle.analysis.specs.Forward.{heldOf, endedOf}
 use Rattle.writer.specs.declared.Writer.{Writer}
 use Rattle.writer.specs.declared.BandRow.{BandRow}
 use Rattle.progress.specs.Counts.{made, lowRows, mostLeft, bandAt, startOf}

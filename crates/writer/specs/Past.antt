@@ -2,7 +2,7 @@
 -- of its own. So one call may be lent more numbers of a memory than another, and what stands past the needed part is the program's.
 use Rattle.lifting.specs.Halves.{fronted}
 use Rattle.level.specs.Level.{Memory}
-use Rattle.figures.specs.Figures.{storeBy}
+use Rattle.filters.specs.Figures.{storeBy}
 use Rattle.writer.specs.Taking.{columnsOf}
 use Rattle.writer.specs.History.{Call, Event, World, event, next}
 

@@ -4,10 +4,10 @@ use Prim.Native.Nat.{ℕ, _+_, _-_, _*_, _^_, _<_, _≤_}
 use Rattle.lifting.specs.Grid.{Side, side, count}
 use Rattle.wavelet.specs.Bands.{across, code}
 use Rattle.wavelet.specs.Order.{setRow}
-use Rattle.nine_seven.specs.Filters.{filterOf}
+use Rattle.filters.specs.Filters.{filterOf}
 use Rattle.level.specs.Level.{Memory, prev, rest, joinAt}
-use Rattle.figures.specs.Figures.{storeBy}
-use Rattle.filters.specs.Forward.{kindOf}
+use Rattle.filters.specs.Figures.{storeBy}
+use Rattle.analysis.specs.Forward.{kindOf}
 use Rattle.progress.specs.declared.waits.Wait.{Wait}
 use Rattle.progress.specs.declared.levels.Level.{Level}
 use Rattle.progress.specs.Counts.{deeperBy, further, bandAt, skip, startOf}

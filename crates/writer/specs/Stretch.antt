@@ -5,7 +5,7 @@ use Prim.Native.Nat.{ℕ, _+_, _-_, _%_, _<_, min}
 use Rattle.numbers.specs.Signal.{pick}
 use Rattle.level.specs.Level.{Memory}
 use Rattle.level.specs.Heights.{heightAt}
-use Rattle.filters.specs.Forward.{heightsPut}
+use Rattle.analysis.specs.Forward.{heightsPut}
 use Rattle.writer.specs.declared.Writer.{Writer}
 use Rattle.writer.specs.Machine.{arrive}
 use Rattle.writer.specs.Taking.{kind, columnsOf, takes, complete}

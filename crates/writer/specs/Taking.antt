@@ -8,7 +8,7 @@ use Rattle.numbers.specs.Signal.{pick, both, stored}
 use Rattle.lifting.specs.Grid.{Side, side}
 use Rattle.wavelet.specs.Limits.{maxHeight}
 use Rattle.level.specs.Level.{Memory, LevelKind}
-use Rattle.filters.specs.Forward.{kindOf}
+use Rattle.analysis.specs.Forward.{kindOf}
 use Rattle.writer.specs.declared.Writer.{Writer}
 use Rattle.progress.specs.Counts.{startOf}
 use Rattle.writer.specs.Machine.{Out, arrive}

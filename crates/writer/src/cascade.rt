@@ -1,7 +1,7 @@
 // What a row makes, down the levels. Each level works in its own stretch of the store; the rest of the store is lent on to the levels below.
 // A level has w columns, the first at coordinate x; its rows start at coordinate y; `filter` is the number of the filter.
 // The module is private: only this crate, which meets what is required, can call it.
-use filters::forward;
+use analysis::forward;
 use progress::counts;
 use progress::waits;
 use progress::waits::Wait;
@@ -11,7 +11,7 @@ ghost use Prim.Native.Nat.{_+_, _<_};
 ghost use lib.ListN.{length};
 ghost use Rattle.numbers.specs.Signal.{at};
 ghost use Rattle.lifting.specs.Grid.{side};
-ghost use Rattle.filters.specs.Forward.{kindOf};
+ghost use Rattle.analysis.specs.Forward.{kindOf};
 ghost use Rattle.writer.specs.Machine.{arrive, passOn};
 ghost use Rattle.writer.specs.Steps.{Left, Room};
 
@@ -20,7 +20,7 @@ pub fn stretch(filter: usize, w: usize, x: usize) -> usize
     requires { ⌜ w < 4294967296 ⌝ }
     ensures { λ r. ⌜ r ≡ kindOf filter .stretch (side x w) ⌝ }
 {
-    figures::rows_kept(filter) * w
+    filters::rows_kept(filter) * w
 }
 
 // Row m of a level stands in its slot; the level and those below it are l.
@@ -39,7 +39,7 @@ pub fn arrive(
     if !counts::sets_off(filter, l, y, m) {
         return waits::nothing();
     }
-    let n = (y % 2 + m) / 2 - figures::look_ahead(filter);
+    let n = (y % 2 + m) / 2 - filters::look_ahead(filter);
     forward::make(filter, store, w, x, y, n);
     let i = counts::next_band(w, x, m + 1, y, n, counts::most(l - 1));
     if 0 < i {

@@ -2,7 +2,7 @@
 // A level has w columns, the first at coordinate x, and m rows, the first at coordinate y; `filter` is the number of the filter.
 // The module is private: only this crate, which meets what is required, can call it.
 use crate::cascade;
-use filters::forward;
+use analysis::forward;
 use progress::counts;
 use progress::waits;
 use progress::waits::Wait;
@@ -11,8 +11,8 @@ ghost use Prim.Native.Nat.{_≤_, _+_, _-_, _*_};
 ghost use lib.ListN.{length};
 ghost use Rattle.numbers.specs.Signal.{at};
 ghost use Rattle.lifting.specs.Grid.{side};
-ghost use Rattle.nine_seven.specs.Filters.{filterOf};
-ghost use Rattle.filters.specs.Forward.{kindOf};
+ghost use Rattle.filters.specs.Filters.{filterOf};
+ghost use Rattle.analysis.specs.Forward.{kindOf};
 ghost use Rattle.writer.specs.Closing.{closeStep, closeLevel, shut};
 ghost use Rattle.writer.specs.Steps.{Room, Left, LevelClosed, Closed};
 
@@ -68,7 +68,7 @@ fn close_level(
         (closeLevel (kindOf filter) (filterOf filter .ahead - c) l (side x w) y c m (at (now (store .entry)))) r
         (at (now (store .exit))) ⌝ }
 {
-    let a = figures::look_ahead(filter);
+    let a = filters::look_ahead(filter);
     let mut k = c;
     while k < a {
         let o = close_step(filter, store, l, w, x, y, k, m);
@@ -108,7 +108,7 @@ pub fn shut(
         return o;
     }
     let a = cascade::stretch(filter, w, x);
-    let ahead = figures::look_ahead(filter);
+    let ahead = filters::look_ahead(filter);
     let r = shut(
         filter,
         &mut store[a..],

@@ -2,7 +2,7 @@
 use crate::BandRow;
 use crate::Writer;
 use crate::cascade;
-use filters::forward;
+use analysis::forward;
 use progress::counts;
 use progress::levels::Level;
 use progress::waits;

@@ -9,7 +9,7 @@ ghost use Prim.Native.Nat.{_^_, _<_, _≤_};
 ghost use lib.Dec.{leb, eqb};
 ghost use Rattle.numbers.specs.Signal.{both};
 ghost use Rattle.lifting.specs.Grid.{side};
-ghost use Rattle.figures.specs.Figures.{streamable};
+ghost use Rattle.filters.specs.Figures.{streamable};
 ghost use Rattle.progress.specs.Counts.{mostLeft, startOf};
 ghost use Rattle.writer.specs.Taking.{columnsOf};
 ghost use Rattle.writer.specs.Questions.{onGrid, inRanges, known, setUpQuestion, offerQuestion, finishQuestion};
@@ -68,7 +68,7 @@ fn on_grid(x: usize, y: usize) -> bool
 fn is_sized(filter: usize, width: usize, x: usize, levels: usize) -> bool
     ensures { λ r. ⌜ r ≡ streamable filter (side x width) levels ⌝ }
 {
-    if !figures::is_filter(filter) {
+    if !filters::is_filter(filter) {
         return false;
     }
     if !limits::is_within(width, Writer::MAX_WIDTH) {
@@ -93,7 +93,7 @@ pub fn in_ranges(s: Writer) -> bool
     if s.width <= s.column {
         return false;
     }
-    if figures::look_ahead(s.filter) * s.levels < s.closed {
+    if filters::look_ahead(s.filter) * s.levels < s.closed {
         return false;
     }
     if s.levels < s.level {
@@ -110,10 +110,10 @@ pub fn state_question(s: Writer, fits: bool, n: usize) -> u8
     if !fits {
         return 1;
     }
-    if figures::holds_any(s.filter, s.width, n) {
+    if filters::holds_any(s.filter, s.width, n) {
         return 0;
     }
-    if n < figures::store_length(s.filter, s.width, s.x, s.levels) {
+    if n < filters::store_length(s.filter, s.width, s.x, s.levels) {
         return 5;
     }
     0
@@ -136,7 +136,7 @@ fn open_question(s: Writer) -> u8
 fn is_filter(filter: usize) -> bool
     ensures { λ r. ⌜ r ≡ known filter ⌝ }
 {
-    figures::is_filter(filter)
+    filters::is_filter(filter)
 }
 
 // Of columns from x on.
@@ -152,7 +152,7 @@ pub fn set_up_question(filter: usize, width: usize, x: usize, levels: usize, n: 
     if !limits::is_within(levels, Writer::most_levels(filter)) {
         return 4;
     }
-    if n < figures::store_length(filter, width, x, levels) {
+    if n < filters::store_length(filter, width, x, levels) {
         return 5;
     }
     0

@@ -14,7 +14,7 @@ ghost use lib.ListN.{length};
 ghost use Rattle.numbers.specs.Signal.{at};
 ghost use Rattle.wavelet.specs.Limits.{maxWidth, maxHeight, maxLevels, maxOrigin};
 ghost use Rattle.wavelet.specs.Shape.{columns};
-ghost use Rattle.nine_seven.specs.Filters.{filterOf};
+ghost use Rattle.filters.specs.Filters.{filterOf};
 ghost use Rattle.writer.specs.Answers.{ofSetUp, ofOffered, ofDrawn, ofLook, ofFinished};
 ghost use Rattle.writer.specs.Calls.{setUpReply, setUpStore, offerReply, offerStore, drawReply, drawStore, drawArea, waitsReply, finishReply};
 ghost use Rattle.writer.specs.Calls.{finishStore};
@@ -139,7 +139,7 @@ impl Writer {
         if 0 < no {
             return SetUp::Refused(no);
         }
-        let n = figures::store_length(filter, shape.width, x, shape.levels);
+        let n = filters::store_length(filter, shape.width, x, shape.levels);
         copies::clear(store, n);
         SetUp::Ready(Writer {
             width: shape.width,

@@ -1,7 +1,7 @@
 // Heights into level 1, a stretch of a row at a time. The module is private: only this crate, which meets what is required, can call it.
 use crate::Writer;
 use crate::cascade;
-use filters::forward;
+use analysis::forward;
 ghost use mathlib.Core.Path.{_≡_};
 ghost use Prim.Native.Nat.{_+_, _<_, _≤_, _-_, min};
 ghost use lib.ListN.{length};

@@ -5,7 +5,7 @@ use Rattle.lifting.specs.Grid.{count}
 use Rattle.wavelet.specs.Limits.{maxLevels}
 use Rattle.wavelet.specs.Levels.{next, sideAt}
 use Rattle.wavelet.specs.Store.{widths, storeLength}
-use Rattle.nine_seven.specs.Filters.{filterOf}
+use Rattle.filters.specs.Filters.{filterOf}
 use Rattle.pgm.specs.Limits.{maxPictureWidth}
 use Rattle.listing_io.proofs.RunLaws.{listed-is}
 use borrow.Author.Needs.{needs}
@@ -35,7 +35,8 @@ is-whole-requires c κs = tt
 
 returns : tie.Need-returns
 unfolding maxLevels maxPictureWidth filterOf storeLength widths sideAt next count
-returns c = listed-is _ refl refl (omega arith) (c .before .before .before .before .before .before .list-all .ensures) (c .before .is-over .ensures) (c .is-whole .ensures)
+returns c = listed-is _ refl refl (omega arith) (c .before .before .before .before .before .before .list-all .ensures) (c .before .is-over .ensures) (c
+    .is-whole .ensures)
 
 pub list-spec : {M : Type 1} → statement M
 list-spec =

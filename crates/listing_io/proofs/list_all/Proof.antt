@@ -24,22 +24,28 @@ all-rounds-requires-2 c κs = tt
 same-length : tie.Need-same-length
 same-length c =
     let d = c .before .before .before .before .before .before in
-    d .all-rounds2 .kept .1 .1 .1 .0 ∙ d .before .before .before .before .before .before .before .before .before .before .before .before .before .before .before .before .before .before .before .all-rounds .kept .1 .1 .1 .0
+    d .all-rounds2 .kept .1 .1 .1 .0 ∙ d .before .before .before .before .before .before .before .before .before .before .before .before .before .before
+    .before .before .before .before .before .all-rounds .kept .1 .1 .1 .0
 
 same-length-2 : tie.Need-same-length-2
 same-length-2 c =
     let d = c .before .before .before .before .before .before in
-    d .all-rounds2 .kept .1 .1 .1 .1 .0 ∙ d .before .before .before .before .before .before .before .end .kept .1 .0 ∙ d .before .before .before .before .before .before .before .before .before .before .before .before .before .before .before .before .before .before .before .all-rounds .kept .1 .1 .1 .1 .0
+    d .all-rounds2 .kept .1 .1 .1 .1 .0 ∙ d .before .before .before .before .before .before .before .end .kept .1 .0
+    ∙ d .before .before .before .before .before .before .before .before .before .before .before .before .before .before .before .before .before .before
+    .before .all-rounds .kept .1 .1 .1 .1 .0
 
 same-length-3 : tie.Need-same-length-3
 same-length-3 c =
     let d = c .before .before .before .before .before .before in
-    d .all-rounds2 .kept .1 .1 .1 .1 .1 .0 ∙ d .before .before .before .before .before .before .before .end .kept .1 .1 .0 ∙ d .before .before .before .before .before .before .before .before .before .before .before .before .before .before .before .before .before .before .before .all-rounds .kept .1 .1 .1 .1 .1 .0
+    d .all-rounds2 .kept .1 .1 .1 .1 .1 .0 ∙ d .before .before .before .before .before .before .before .end .kept .1 .1 .0
+    ∙ d .before .before .before .before .before .before .before .before .before .before .before .before .before .before .before .before .before .before
+    .before .all-rounds .kept .1 .1 .1 .1 .1 .0
 
 same-length-4 : tie.Need-same-length-4
 same-length-4 c =
     let d = c .before .before .before .before .before .before in
-    d .all-rounds2 .kept .1 .1 .1 .1 .1 .1 .0 ∙ d .before .before .before .before .before .before .before .before .before .before .before .before .before .before .before .before .before .before .before .all-rounds .kept .1 .1 .1 .1 .1 .1 .0
+    d .all-rounds2 .kept .1 .1 .1 .1 .1 .1 .0 ∙ d .before .before .before .before .before .before .before .before .before .before .before .before .before
+    .before .before .before .before .before .before .all-rounds .kept .1 .1 .1 .1 .1 .1 .0
 
 returns : tie.Need-returns
 returns c =
@@ -48,7 +54,8 @@ returns c =
     let t = e .before .before .before .before in
     let f = t .before .before .before .before .before .before .before .before in
     let k = f .all-rounds .kept .1 .1 .1 .1 in
-    run-after (same-areas (f .before .before .before .before .before .start .ensures)) (ap₂ listingMachine (e .end .kept .1 .0 ∙ k .0) (e .end .kept .1 .1 .0 ∙ k .1 .0)) (k .1 .1 .0)
+    run-after (same-areas (f .before .before .before .before .before .start .ensures)) (ap₂ listingMachine (e .end .kept .1 .0 ∙ k .0) (e .end .kept .1 .1 .0
+    ∙ k .1 .0)) (k .1 .1 .0)
     (f .all-rounds .ensures) (sym (t .before .ends .ensures) ∙ t .if1 .taken) (ended-is _ (k .0) (k .1 .0) (e .end .ensures)) (d .all-rounds2 .ensures)
 
 same-length-5 : tie.Need-same-length-5

@@ -22,7 +22,8 @@ after-requires : tie.Need-after-requires
 after-requires c κs = tt
 
 same-length : tie.Need-same-length
-same-length c = c .before .before .before .before .before .before .before .before .before .before .before .before .before .before .before .fill .kept .1 .1 .1 .1 .0
+same-length c = c .before .before .before .before .before .before .before .before .before .before .before .before .before .before .before .fill .kept .1 .1
+    .1 .1 .0
 
 same-length-2 : tie.Need-same-length-2
 same-length-2 c = c .before .before .before .before .before .before .before .before .turn .kept .1 .1 .1 .0
@@ -40,7 +41,8 @@ returns c =
     let f = t .before .before .before .before .before .before .before in
     let w = f .before .before in
     let e = t .turn .ensures in
-    round-is _ _ _ _ _ _ (w .before .before .before .before .before .before .pre) (w .waits .ensures) (f .fill .ensures) (e .0) (e .1) (sent-is _ (e .0 .wrote) (s .send .ensures))
+    round-is _ _ _ _ _ _ (w .before .before .before .before .before .before .pre) (w .waits .ensures) (f .fill .ensures) (e .0) (e .1) (sent-is _ (e .0
+    .wrote) (s .send .ensures))
     (c .after .ensures)
 
 pub one-round-spec : {M : Type 1} → statement M

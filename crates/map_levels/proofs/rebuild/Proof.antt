@@ -2,8 +2,8 @@
 use mathlib.Core.Path.{_∙_}
 use native.Mathlib.Omega.{arith}
 use borrow.Author.Tests.{not-true, not-false}
-use Rattle.nine_seven.proofs.Filters.{filter-laws}
-use Rattle.nine_seven.specs.Filters.{filterOf}
+use Rattle.filters.proofs.Filters.{filter-laws}
+use Rattle.filters.specs.Filters.{filterOf}
 use Rattle.map_levels.proofs.GridSweep.{rows-kept}
 use Rattle.map_levels.proofs.CallLaws.{map-rows, map-doubling, map-no, map-yes}
 use Rattle.map_levels.proofs.rebuild.Statement.{statement}

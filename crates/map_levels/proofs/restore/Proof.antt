@@ -6,8 +6,8 @@ use lib.Dec.{leb}
 use native.Mathlib.Omega.{arith}
 use borrow.Author.Tests.{not-true, not-false, le-leb}
 use Rattle.areas.proofs.AreaLaws.{did}
-use Rattle.nine_seven.proofs.Filters.{filter-laws}
-use Rattle.nine_seven.specs.Filters.{filterOf}
+use Rattle.filters.proofs.Filters.{filter-laws}
+use Rattle.filters.specs.Filters.{filterOf}
 use Rattle.map_levels.proofs.CallLaws.{cleared, out-of-range, not-rebuilt, all-rebuilt}
 use Rattle.map_questions.proofs.QuestionLaws.{rebuilt-no, rebuilt-yes, rebuilt-zero}
 use Rattle.map_levels.proofs.restore.Statement.{statement}

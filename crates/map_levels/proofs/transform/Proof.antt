@@ -5,8 +5,8 @@ use native.Mathlib.Omega.{arith}
 use lib.ListN.{length, getD}
 use borrow.Author.Tests.{le-leb}
 use Rattle.areas.proofs.AreaLaws.{did}
-use Rattle.nine_seven.specs.Filters.{filterOf}
-use Rattle.nine_seven.proofs.Filters.{filter-laws}
+use Rattle.filters.specs.Filters.{filterOf}
+use Rattle.filters.proofs.Filters.{filter-laws}
 use Rattle.map_levels.proofs.CallLaws.{map-rows, plane-made, cleared}
 use Rattle.map_levels.proofs.transform.Statement.{statement}
 use Rattle.map_levels.proofs.transform.Tie as tie

@@ -37,7 +37,8 @@ returns c =
     let f = t .before .before .before .before .before .before in
     let w = f .before .before in
     let e = t .turn .ensures in
-    round-is _ _ _ _ _ _ (w .before .before .before .before .before .before .before .pre) (w .waits .ensures) (f .fill .ensures) (e .0) (e .1) (sent-is _ (e .0 .wrote) (s .send .ensures))
+    round-is _ _ _ _ _ _ (w .before .before .before .before .before .before .before .pre) (w .waits .ensures) (f .fill .ensures) (e .0) (e .1) (sent-is _ (e
+    .0 .wrote) (s .send .ensures))
     (c .after .ensures)
 
 pub one-round-spec : {M : Type 1} → statement M

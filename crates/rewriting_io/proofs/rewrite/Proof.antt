@@ -27,7 +27,8 @@ is-whole-requires c κs = tt
 
 returns : tie.Need-returns
 unfolding maxPictureWidth
-returns c = rewritten-is _ refl (omega arith) (c .before .before .before .before .before .rewrite-all .ensures) (c .before .is-over .ensures) (c .is-whole .ensures)
+returns c = rewritten-is _ refl (omega arith) (c .before .before .before .before .before .rewrite-all .ensures) (c .before .is-over .ensures) (c .is-whole
+    .ensures)
 
 pub rewrite-spec : {M : Type 1} → statement M
 rewrite-spec =

@@ -23,17 +23,20 @@ all-rounds-requires-2 c κs = tt
 same-length : tie.Need-same-length
 same-length c =
     let d = c .before .before .before .before .before .before in
-    d .all-rounds2 .kept .1 .1 .1 .0 ∙ d .before .before .before .before .before .before .before .before .before .before .before .before .before .before .all-rounds .kept .1 .1 .1 .0
+    d .all-rounds2 .kept .1 .1 .1 .0 ∙ d .before .before .before .before .before .before .before .before .before .before .before .before .before .before
+    .all-rounds .kept .1 .1 .1 .0
 
 same-length-2 : tie.Need-same-length-2
 same-length-2 c =
     let d = c .before .before .before .before .before .before in
-    d .all-rounds2 .kept .1 .1 .1 .1 .0 ∙ d .before .before .before .before .before .before .before .before .before .before .before .before .before .before .all-rounds .kept .1 .1 .1 .1 .0
+    d .all-rounds2 .kept .1 .1 .1 .1 .0 ∙ d .before .before .before .before .before .before .before .before .before .before .before .before .before .before
+    .all-rounds .kept .1 .1 .1 .1 .0
 
 same-length-3 : tie.Need-same-length-3
 same-length-3 c =
     let d = c .before .before .before .before .before .before in
-    d .all-rounds2 .kept .1 .1 .1 .1 .1 .0 ∙ d .before .before .before .before .before .before .before .before .before .before .before .before .before .before .all-rounds .kept .1 .1 .1 .1 .1 .0
+    d .all-rounds2 .kept .1 .1 .1 .1 .1 .0 ∙ d .before .before .before .before .before .before .before .before .before .before .before .before .before
+    .before .all-rounds .kept .1 .1 .1 .1 .1 .0
 
 returns : tie.Need-returns
 returns c =

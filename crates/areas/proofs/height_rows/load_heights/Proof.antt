@@ -6,7 +6,7 @@ use lib.ListN.{length}
 use borrow.Author.Tests.{le-leb, lt-leb}
 use Rattle.numbers.specs.Signal.{at}
 use Rattle.lifting.specs.Grid.{side}
-use Rattle.half_places.proofs.HalfLaws.{evens-within, odds-within}
+use Rattle.areas.proofs.HalfLaws.{evens-within, odds-within}
 use Rattle.areas.specs.Areas.{heightsAt}
 use Rattle.areas.proofs.AreaLaws.{went, turned}
 use Rattle.areas.proofs.PartLaws.{evens-then-odds, odds-then-evens}

@@ -6,7 +6,7 @@ use borrow.Author.Tests.{le-leb, lt-leb}
 use Rattle.numbers.specs.Signal.{at}
 use Rattle.lifting.specs.Grid.{side}
 use Rattle.areas.proofs.AreaLaws.{went, turned}
-use Rattle.half_places.proofs.HalfLaws.{evens-fit, odds-fit}
+use Rattle.areas.proofs.HalfLaws.{evens-fit, odds-fit}
 use Rattle.areas.proofs.PartLaws.{evens-then-odds}
 use Rattle.areas.proofs.lines.part_line.Statement.{statement}
 use Rattle.areas.proofs.lines.part_line.Tie as tie

@@ -4,9 +4,9 @@ use native.Mathlib.Omega.{arith}
 use lib.ListN.{length}
 use Rattle.numbers.specs.Signal.{at}
 use Rattle.lifting.specs.Grid.{side}
-use Rattle.half_places.proofs.ApartLaws.{apart-on, apart-off}
+use Rattle.areas.proofs.ApartLaws.{apart-on, apart-off}
 use Rattle.areas.proofs.AreaLaws.{went, turned, apart-in}
-use Rattle.half_places.proofs.HalfLaws.{evens-fit, odds-fit}
+use Rattle.areas.proofs.HalfLaws.{evens-fit, odds-fit}
 use Rattle.areas.proofs.PartLaws.{halves-at}
 use Rattle.areas.proofs.WeaveLaws.{woven-line}
 use Rattle.areas.proofs.lines.weave_down.Statement.{statement}

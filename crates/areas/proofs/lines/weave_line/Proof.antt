@@ -6,7 +6,7 @@ use borrow.Author.Tests.{le-leb, lt-leb}
 use Rattle.numbers.specs.Signal.{at}
 use Rattle.lifting.specs.Grid.{side}
 use Rattle.areas.proofs.AreaLaws.{went, turned}
-use Rattle.half_places.proofs.HalfLaws.{evens-within, odds-within}
+use Rattle.areas.proofs.HalfLaws.{evens-within, odds-within}
 use Rattle.areas.proofs.PartLaws.{halves-front}
 use Rattle.areas.proofs.WeaveLaws.{parts-fit, parts-woven}
 use Rattle.areas.proofs.lines.weave_line.Statement.{statement}

@@ -38,7 +38,12 @@ returns-2 : tie.Need-returns-2
 returns-2 c =
     let n = c .before .before in
     let s = n .before .before .before .before .before in
-    omega (arith, put-to (toZ w64 (ofZ w64 (n .before .write .result))) (s .args .from) (s .args .bytes .now) (n .count .result) (s .pre) (n .count .ensures .1), c .before .if1 .left)
+    omega (
+      arith,
+      put-to (toZ w64 (ofZ w64 (n .before .write .result))) (s .args .from) (s .args .bytes .now) (n .count .result) (s .pre) (n .count .ensures
+          .1),
+      c .before .if1 .left,
+    )
 
 pub try-write-spec : {M : Type 1} → statement M
 try-write-spec =

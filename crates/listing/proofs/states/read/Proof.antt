@@ -42,7 +42,11 @@ unfolding maxLevels
 returns c =
     let h = c .before .before in
     let y = h .before .before in
-    read-as _ _ _ _ _ _ (sym (ap ofStep (h .next .given .1)) ∙ y .read .ensures) (record { listing = ap (listed _ _) (c .none .ensures); store = refl; row = refl })
+    read-as _ _ _ _ _ _ (sym (ap ofStep (h .next .given .1)) ∙ y .read .ensures) (record {
+      listing = ap (listed _ _) (c .none .ensures);
+      store = refl;
+      row = refl;
+    })
 
 same-length : tie.Need-same-length
 same-length c = search needs

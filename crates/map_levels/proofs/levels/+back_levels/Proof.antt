@@ -14,9 +14,9 @@ use Rattle.lifting.specs.Grid.{Side, side, count}
 use Rattle.lifting.proofs.GridLaws.{counts}
 use Rattle.wavelet.specs.Levels.{next}
 use Rattle.wavelet.proofs.LimitLaws.{levels-small}
-use Rattle.nine_seven.proofs.Filters.{filter-laws}
-use Rattle.figures.proofs.FigureLaws.{levels-most}
-use Rattle.nine_seven.specs.Filters.{filterOf}
+use Rattle.filters.proofs.Filters.{filter-laws}
+use Rattle.filters.proofs.FigureLaws.{levels-most}
+use Rattle.filters.specs.Filters.{filterOf}
 use Rattle.map_levels.proofs.GridSweep.{rows-kept}
 use Rattle.map_levels.proofs.LevelCalls.{put-area, put-same, put-again}
 use Rattle.map_levels.proofs.TestLaws.{goes-as, goes-yes}

@@ -4,8 +4,8 @@ use native.Mathlib.Omega.{arith}
 use borrow.Author.Needs.{needs}
 use borrow.Author.Tests.{not-true, not-false}
 use Rattle.lifting.specs.Grid.{side}
-use Rattle.nine_seven.specs.Filters.{filterOf}
-use Rattle.nine_seven.proofs.Filters.{filter-laws}
+use Rattle.filters.specs.Filters.{filterOf}
+use Rattle.filters.proofs.Filters.{filter-laws}
 use Rattle.map_levels.proofs.LevelSteps.{next-side, rows-corner}
 use Rattle.map_levels.proofs.ForwardSteps.{goes-on, own-rows, forward-end, forward-step}
 use Prim.Native.Nat.{ℕ, _<_}

@@ -5,9 +5,9 @@ use borrow.Author.Tests.{not-true, not-false}
 use Rattle.lifting.specs.Grid.{side}
 use Rattle.lifting.proofs.GridLaws.{counts}
 use Rattle.wavelet.proofs.LimitLaws.{levels-small}
-use Rattle.nine_seven.proofs.Filters.{filter-laws}
-use Rattle.figures.proofs.FigureLaws.{levels-most}
-use Rattle.nine_seven.specs.Filters.{filterOf}
+use Rattle.filters.proofs.Filters.{filter-laws}
+use Rattle.filters.proofs.FigureLaws.{levels-most}
+use Rattle.filters.specs.Filters.{filterOf}
 use Rattle.map_levels.proofs.CellLaws.{fewer-rows}
 use Rattle.map_levels.proofs.TestLaws.{goes-as, goes-yes}
 use Rattle.map_levels.proofs.LevelSteps.{next-side, rows-corner, range-end, range-first, range-second, range-third}

@@ -10,7 +10,7 @@ use Rattle.map_levels.proofs.levels.level_back.Statement.{statement}
 use Rattle.map_levels.proofs.levels.level_back.Tie as tie
 
 rows-even-requires : tie.Need-rows-even-requires
-rows-even-requires c κs = c .pre .plane
+rows-even-requires c κs = tt
 
 returns : tie.Need-returns
 returns c =

@@ -8,8 +8,8 @@ use mir.ValLaws.{toZ-ofZ}
 use Rattle.numbers.proofs.Words.{read-back}
 use Rattle.wavelet.specs.Limits.{range}
 use Rattle.wavelet.proofs.Bridge.{range-small}
-use Rattle.nine_seven.specs.Filters.{filterOf}
-use Rattle.nine_seven.proofs.Filters.{filter-laws}
+use Rattle.filters.specs.Filters.{filterOf}
+use Rattle.filters.proofs.Filters.{filter-laws}
 use Rattle.map_levels.proofs.ByFilterLaws.{range-at}
 use Rattle.map_levels.proofs.LevelSteps.{neg-fits, neg-is}
 use Rattle.map_levels.proofs.levels.lowest.Statement.{statement}

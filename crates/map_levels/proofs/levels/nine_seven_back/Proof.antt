@@ -10,7 +10,7 @@ use Rattle.map_levels.proofs.levels.nine_seven_back.Statement.{statemen
 use Rattle.map_levels.proofs.levels.nine_seven_back.Tie as tie
 
 rows-even-requires : tie.Need-rows-even-requires
-rows-even-requires c κs = c .pre .plane
+rows-even-requires c κs = tt
 
 returns : tie.Need-returns
 returns c =

@@ -3,8 +3,8 @@ use mathlib.Core.Path.{sym, _∙_}
 use native.Mathlib.Omega.{arith}
 use borrow.Author.Needs.{needs}
 use Rattle.lifting.specs.Grid.{side}
-use Rattle.nine_seven.proofs.Filters.{filter-laws}
-use Rattle.nine_seven.specs.Filters.{filterOf}
+use Rattle.filters.proofs.Filters.{filter-laws}
+use Rattle.filters.specs.Filters.{filterOf}
 use Rattle.map_levels.proofs.TestLaws.{region-least}
 use Rattle.map_levels.proofs.CallLaws.{map-rows, one-row}
 use Rattle.map_levels.proofs.levels.plane_in_range.Statement.{statement}

@@ -1,36 +1,35 @@
 -- `levels::rows_even` meets its contract: only a lone column at an odd coordinate is asked. Assumes nothing.
-use mathlib.Core.Path.{_∙_}
+use mathlib.Core.Path.{_≡_, sym, ap, _∙_}
+use Prim.Native.Nat.{ℕ, _+_, _*_}
 use native.Mathlib.Omega.{arith}
-use borrow.Author.Tests.{eq-eqb}
-use Rattle.lifting.proofs.FiveThreeFilter.{five-three-laws}
-use Rattle.lifting.specs.FiveThree.{fiveThreeFilter}
-use Rattle.lifting.specs.Grid.{side}
-use Rattle.lifting.proofs.LoneLaws.{lone-odd, lone-even}
+use borrow.Author.Tests.{not-true, not-false}
+use Rattle.numbers.specs.Signal.{at}
+use Rattle.numbers.proofs.TestLaws.{every-same}
+use Rattle.lifting.specs.Grid.{isEven}
+use Rattle.wavelet.specs.Plane.{cells}
 use Rattle.map_levels.specs.LevelPasses.{rowsEven}
-use Rattle.map_levels.proofs.CellLaws.{fewer-columns}
-use Rattle.map_levels.proofs.TestLaws.{lone-wide}
 use Rattle.map_levels.proofs.levels.rows_even.Statement.{statement}
 use Rattle.map_levels.proofs.levels.rows_even.Tie as tie
 
+is-lone-requires : tie.Need-is-lone-requires
+is-lone-requires c κs = tt
+
 returns : tie.Need-returns
 unfolding rowsEven
-returns c = let a = c .before .args in simp (lone-wide fiveThreeFilter five-three-laws (side (a .x) (a .width)) (c .if1 .taken))
-
-returns-2 : tie.Need-returns-2
-unfolding rowsEven
-returns-2 c = let a = c .before .before .args in simp (lone-even (side (a .x) (a .width)) (c .if2 .taken))
+returns c = simp (sym (c .before .is-lone .ensures) ∙ not-true _ (c .if1 .taken))
 
 column-even-requires : tie.Need-column-even-requires
-column-even-requires c κs = fewer-columns _ _ _ _ 1 (c .before .before .pre) (omega arith)
+column-even-requires c κs = tt
 
-returns-3 : tie.Need-returns-3
-unfolding rowsEven
-returns-3 c =
-    let odd = c .before in
-    let one = odd .before in
-    let a = one .before .args in
-    let e = one .if1 .left in
-    simp (lone-odd (side (a .x) (a .width)) (omega (arith, odd .if2 .left)) ∙ eq-eqb (a .width) 1 e) (c .column-even .ensures)
+returns-2 : tie.Need-returns-2
+unfolding rowsEven cells
+returns-2 c =
+    let left = c .before in
+    let lone = left .before in
+    let a = lone .before .args in
+    simp (sym (lone .is-lone .ensures) ∙ not-false _ (left .if1 .left))
+    (c .column-even .ensures
+    ∙ every-same (a .height) _ _ (λ i _. let e : i * a .across ≡ i * a .across + 0 = omega arith in ap (λ (p : ℕ). isEven (at (a .plane .now) p)) e))
 
 pub rows-even-spec : {M : Type 1} → statement M
-rows-even-spec = tie.close (tie.spec returns returns-2 column-even-requires returns-3)
+rows-even-spec = tie.close (tie.spec is-lone-requires returns column-even-requires returns-2)

@@ -16,17 +16,17 @@ use Rattle.map_levels.proofs.levels.unlift_lone.Tie as tie
 returns : tie.Need-returns
 returns c = simp (lone-even (side (c .before .args .y) 1) (c .if1 .taken)) (refl, refl)
 
-sub-halve-row : tie.Need-sub-halve-row
-sub-halve-row c = search needs
+sub-halve-all : tie.Need-sub-halve-all
+sub-halve-all c = search needs
 
-part-halve-row-start : tie.Need-part-halve-row-start
-part-halve-row-start c = search needs
+part-halve-all-start : tie.Need-part-halve-all-start
+part-halve-all-start c = search needs
 
-part-halve-row-end : tie.Need-part-halve-row-end
-part-halve-row-end c = search needs
+part-halve-all-end : tie.Need-part-halve-all-end
+part-halve-all-end c = search needs
 
-halve-row-requires : tie.Need-halve-row-requires
-halve-row-requires c κs = tt
+halve-all-requires : tie.Need-halve-all-requires
+halve-all-requires c κs = tt
 
 same-length : tie.Need-same-length
 same-length c = search needs
@@ -34,7 +34,7 @@ same-length c = search needs
 returns-2 : tie.Need-returns-2
 unfolding halvedInPlace
 returns-2 c =
-    let called = c .before .halve-row in
+    let called = c .before .halve-all in
     let left = c .before .before .before in
     let start = left .before in
     let a = start .args in
@@ -49,9 +49,9 @@ unlift-lone-spec =
     tie.close
     (tie.spec
     returns
-    sub-halve-row
-    part-halve-row-start
-    part-halve-row-end
-    halve-row-requires
+    sub-halve-all
+    part-halve-all-start
+    part-halve-all-end
+    halve-all-requires
     same-length
     returns-2)

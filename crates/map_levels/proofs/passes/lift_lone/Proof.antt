@@ -13,17 +13,17 @@ use Rattle.map_levels.proofs.ForwardCalls.{mapped-part}
 use Rattle.map_levels.proofs.passes.lift_lone.Statement.{statement}
 use Rattle.map_levels.proofs.passes.lift_lone.Tie as tie
 
-sub-double-row : tie.Need-sub-double-row
-sub-double-row c = search needs
+sub-double-all : tie.Need-sub-double-all
+sub-double-all c = search needs
 
-part-double-row-start : tie.Need-part-double-row-start
-part-double-row-start c = search needs
+part-double-all-start : tie.Need-part-double-all-start
+part-double-all-start c = search needs
 
-part-double-row-end : tie.Need-part-double-row-end
-part-double-row-end c = search needs
+part-double-all-end : tie.Need-part-double-all-end
+part-double-all-end c = search needs
 
-double-row-requires : tie.Need-double-row-requires
-double-row-requires c κs = tt
+double-all-requires : tie.Need-double-all-requires
+double-all-requires c κs = tt
 
 same-length : tie.Need-same-length
 same-length c = search needs
@@ -31,7 +31,7 @@ same-length c = search needs
 returns : tie.Need-returns
 unfolding doubledInPlace
 returns c =
-    let called = c .before .double-row in
+    let called = c .before .double-all in
     let taken = c .before .before .before in
     let start = taken .before in
     let args = start .args in
@@ -47,10 +47,10 @@ pub lift-lone-spec : {M : Type 1} → statement M
 lift-lone-spec =
     tie.close
     (tie.spec
-    sub-double-row
-    part-double-row-start
-    part-double-row-end
-    double-row-requires
+    sub-double-all
+    part-double-all-start
+    part-double-all-end
+    double-all-requires
     same-length
     returns
     returns-2)

@@ -1,6 +1,6 @@
 -- `near::around_high` meets its contract. Assumes nothing.
 use native.Mathlib.Omega.{arith}
-use Rattle.nine_seven_lines.proofs.NearLaws.{around-few}
+use Rattle.nine_seven.proofs.NearLaws.{around-few}
 use Rattle.nine_seven_making.proofs.NearRows.{around-slots}
 use Rattle.nine_seven_making.proofs.near.around_high.Statement.{statement}
 use Rattle.nine_seven_making.proofs.near.around_high.Tie as tie

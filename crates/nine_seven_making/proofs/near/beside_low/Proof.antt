@@ -1,6 +1,6 @@
 -- `near::beside_low` meets its contract. Assumes nothing.
 use native.Mathlib.Omega.{arith}
-use Rattle.nine_seven_lines.proofs.NearLaws.{beside-few}
+use Rattle.nine_seven.proofs.NearLaws.{beside-few}
 use Rattle.nine_seven_making.proofs.NearRows.{beside-slots}
 use Rattle.nine_seven_making.proofs.near.beside_low.Statement.{statement}
 use Rattle.nine_seven_making.proofs.near.beside_low.Tie as tie

@@ -2,8 +2,8 @@
 use Prim.Native.Nat.{_-_, _%_}
 use native.Mathlib.Omega.{arith}
 use Rattle.lifting.specs.Grid.{side}
-use Rattle.nine_seven_lines.proofs.NearLaws.{around-few}
-use Rattle.nine_seven_lines.specs.Near.{Around}
+use Rattle.nine_seven.proofs.NearLaws.{around-few}
+use Rattle.nine_seven.specs.Near.{Around}
 use Rattle.nine_seven_sweep.proofs.CallLaws.{lows-within, high-room, few-other, HighPlaces, high-places, high-in-order}
 use Rattle.nine_seven_sweep.proofs.back.unpredict.Statement.{statement}
 use Rattle.nine_seven_sweep.proofs.back.unpredict.Tie as tie

@@ -2,7 +2,7 @@
 use Prim.Native.Nat.{_%_}
 use native.Mathlib.Omega.{arith}
 use Rattle.lifting.specs.Grid.{side}
-use Rattle.nine_seven_lines.proofs.NearLaws.{beside-few}
+use Rattle.nine_seven.proofs.NearLaws.{beside-few}
 use Rattle.nine_seven_sweep.proofs.CallLaws.{lows-within, few, LowPlaces, low-places, low-in-order}
 use Rattle.nine_seven_sweep.proofs.back.unupdate.Statement.{statement}
 use Rattle.nine_seven_sweep.proofs.back.unupdate.Tie as tie

@@ -55,7 +55,7 @@ returns-3 c =
     let start = lone .before .before in
     let a = start .args in
     mapped-part (a .width) (a .width - 0) (a .area .now) (omega arith) (omega (arith, start .pre .room)) (λ v. shrZ v 2) (called .last .0) (called .kept .0)
-    (called .ensures)
+    (called .ensures .1)
     ∙ lone-back (a .stride) (a .width) (side (a .y) (a .height)) _ (start .pre .some) (start .pre .wide)
     (sym (lone .is-lone .ensures) ∙ not-false _ (left .if2 .left))
 

@@ -1,7 +1,7 @@
 -- `forth::predict` meets its contract: the call by the rows that it goes by. Assumes nothing.
 use native.Mathlib.Omega.{arith}
 use Rattle.lifting.specs.Grid.{side}
-use Rattle.nine_seven_lines.proofs.NearLaws.{around-few}
+use Rattle.nine_seven.proofs.NearLaws.{around-few}
 use Rattle.nine_seven_sweep.proofs.CallLaws.{lows-within, high-room, few-other, sum-there, high-in-halves}
 use Rattle.nine_seven_sweep.proofs.forth.predict.Statement.{statement}
 use Rattle.nine_seven_sweep.proofs.forth.predict.Tie as tie

@@ -1,6 +1,6 @@
 -- `forth::update` meets its contract: the call by the rows that it goes by. Assumes nothing.
 use Rattle.lifting.specs.Grid.{side}
-use Rattle.nine_seven_lines.proofs.NearLaws.{beside-few}
+use Rattle.nine_seven.proofs.NearLaws.{beside-few}
 use Rattle.nine_seven_sweep.proofs.CallLaws.{lows-within, few, low-sums, low-in-halves}
 use Rattle.nine_seven_sweep.proofs.forth.update.Statement.{statement}
 use Rattle.nine_seven_sweep.proofs.forth.update.Tie as tie

@@ -2,7 +2,7 @@
 use mathlib.Core.Path.{refl}
 use Prim.Native.Nat.{_+_}
 use native.Mathlib.Omega.{arith}
-use Rattle.nine_seven.specs.Filters.{filterOf}
+use Rattle.filters.specs.Filters.{filterOf}
 use Rattle.progress.proofs.CountLaws.{ahead-some, made-all, made-few, made-some}
 use Rattle.progress.proofs.counts.made.Statement.{statement}
 use Rattle.progress.proofs.counts.made.Tie as tie

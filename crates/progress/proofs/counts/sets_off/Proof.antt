@@ -1,7 +1,7 @@
 -- `counts::sets_off` meets its contract. Assumes nothing.
 use native.Mathlib.Omega.{arith}
-use Rattle.nine_seven.specs.Filters.{filterOf}
-use Rattle.figures.proofs.FigureLaws.{ahead-few}
+use Rattle.filters.specs.Filters.{filterOf}
+use Rattle.filters.proofs.FigureLaws.{ahead-few}
 use Rattle.progress.proofs.CountLaws.{ahead-some, off-none, off-early, off-late}
 use Rattle.progress.proofs.counts.sets_off.Statement.{statement}
 use Rattle.progress.proofs.counts.sets_off.Tie as tie

@@ -3,7 +3,7 @@ use mathlib.Core.Path.{_≡_, refl, ap, _∙_}
 use Prim.Native.Nat.{_-_}
 use native.Mathlib.Omega.{arith}
 use Rattle.lifting.specs.Grid.{side}
-use Rattle.nine_seven.specs.Filters.{filterOf}
+use Rattle.filters.specs.Filters.{filterOf}
 use Rattle.progress.specs.Counts.{lowRows}
 use Rattle.progress.specs.Levels.{levelAt}
 use Rattle.progress.proofs.CountLaws.{next-is, start-is}

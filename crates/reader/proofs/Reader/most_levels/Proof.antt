@@ -1,7 +1,7 @@
 -- `Reader::most_levels` meets its contract: the filter's number. Assumes nothing.
 use Rattle.wavelet.specs.Limits.{maxLevels}
-use Rattle.figures.specs.Range as nine
-use Rattle.figures.proofs.FigureLaws.{first-figures, second-figures}
+use Rattle.filters.specs.Range as nine
+use Rattle.filters.proofs.FigureLaws.{first-figures, second-figures}
 use Rattle.reader.proofs.Reader.most_levels.Statement.{statement}
 use Rattle.reader.proofs.Reader.most_levels.Tie as tie
 

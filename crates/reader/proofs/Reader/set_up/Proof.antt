@@ -12,8 +12,8 @@ use Rattle.lifting.specs.Grid.{side}
 use Rattle.wavelet.specs.Limits.{maxWidth, maxHeight}
 use Rattle.wavelet.proofs.LimitLaws.{width-small, height-small}
 use Rattle.wavelet.proofs.QuestionLaws.{within-true}
-use Rattle.nine_seven.specs.Filters.{filterOf}
-use Rattle.figures.proofs.FigureLaws.{levels-most}
+use Rattle.filters.specs.Filters.{filterOf}
+use Rattle.filters.proofs.FigureLaws.{levels-most}
 use Rattle.areas.proofs.AreaLaws.{did}
 use Rattle.reader.proofs.StoreLaws.{length-is}
 use Rattle.reader.proofs.QuestionLaws.{up-in}

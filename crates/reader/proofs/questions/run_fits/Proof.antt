@@ -5,7 +5,7 @@ use mir.Syntax.{w32}
 use mir.ValLaws.{toZ-ofZ}
 use borrow.Author.Needs.{sfits-of}
 use Rattle.numbers.proofs.Words.{read-back}
-use Rattle.nine_seven.specs.Filters.{filterOf}
+use Rattle.filters.specs.Filters.{filterOf}
 use Rattle.level.proofs.AdmitLaws.{neg-fits, same-range}
 use Rattle.reader.proofs.RangeLaws.{run-is}
 use Rattle.reader.proofs.questions.run_fits.Statement.{statement}

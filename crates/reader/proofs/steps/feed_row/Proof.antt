@@ -4,7 +4,7 @@ use native.Mathlib.Omega.{arith}
 use borrow.Author.Tests.{not-true, not-false}
 use Prim.Native.Nat.{_+_, _-_}
 use Rattle.numbers.specs.Signal.{at}
-use Rattle.nine_seven.specs.Filters.{filterOf}
+use Rattle.filters.specs.Filters.{filterOf}
 use Rattle.reader.specs.Machine.{finished}
 use Rattle.reader.specs.State.{columns, rows}
 use Rattle.level.proofs.WorkLaws.{told-no, told-yes}

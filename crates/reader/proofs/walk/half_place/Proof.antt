@@ -6,8 +6,8 @@ use Rattle.areas.proofs.AreaLaws.{did}
 use Rattle.lifting.specs.Grid.{side}
 use Rattle.lifting.proofs.GridLaws.{counts}
 use Rattle.level.specs.Rebuilding.{widest}
-use Rattle.filters.specs.Back.{rowPlaceOf}
-use Rattle.figures.proofs.FigureLaws.{row-few}
+use Rattle.synthesis.specs.Back.{rowPlaceOf}
+use Rattle.filters.proofs.FigureLaws.{row-few}
 use Rattle.reader.proofs.SetLaws.{set-row, half-even, half-odd}
 use Rattle.reader.proofs.walk.half_place.Statement.{statement}
 use Rattle.reader.proofs.walk.half_place.Tie as tie

@@ -7,9 +7,9 @@ use lib.ListN.{length}
 use borrow.Author.Tests.{not-true, not-false}
 use Rattle.numbers.specs.Signal.{at}
 use Rattle.lifting.specs.Grid.{side}
-use Rattle.nine_seven.specs.Filters.{filterOf}
-use Rattle.figures.specs.Figures.{storeBy}
-use Rattle.figures.proofs.FigureLaws.{levels-most}
+use Rattle.filters.specs.Filters.{filterOf}
+use Rattle.filters.specs.Figures.{storeBy}
+use Rattle.filters.proofs.FigureLaws.{levels-most}
 use Rattle.level.specs.Rebuilding.{Kept}
 use Rattle.level.proofs.WorkLaws.{told-no, told-yes}
 use Rattle.level.proofs.KeptLaws.{kept-none, kept-both}

@@ -4,7 +4,7 @@ use mathlib.Core.Bool.{Bool}
 use lib.ListN.{length}
 use Rattle.numbers.specs.Signal.{pick}
 use Rattle.lifting.specs.Grid.{side}
-use Rattle.figures.specs.Figures.{storeBy}
+use Rattle.filters.specs.Figures.{storeBy}
 use Rattle.reader.proofs.CallLaws.{zero-front}
 use Rattle.reader.proofs.walk.zero.Statement.{statement}
 use Rattle.reader.proofs.walk.zero.Tie as tie

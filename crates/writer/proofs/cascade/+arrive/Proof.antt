@@ -12,10 +12,10 @@ use Rattle.lifting.specs.Grid.{side}
 use Rattle.wavelet.specs.Levels.{next}
 use Rattle.wavelet.proofs.SideLaws.{next-length}
 use Rattle.wavelet.proofs.StoreLaws.{store-back}
-use Rattle.nine_seven.specs.Filters.{filterOf}
+use Rattle.filters.specs.Filters.{filterOf}
 use Rattle.level.proofs.RestLaws.{at-rest, at-join}
-use Rattle.figures.proofs.FigureLaws.{row-few}
-use Rattle.filters.proofs.ForwardLaws.{level-done, next-done}
+use Rattle.filters.proofs.FigureLaws.{row-few}
+use Rattle.analysis.proofs.ForwardLaws.{level-done, next-done}
 use Rattle.progress.specs.Counts.{skip}
 use Rattle.progress.proofs.CountLaws.{completes-set, next-is, start-is}
 use Rattle.writer.proofs.CascadeLaws.{room-below, left-still, goes, arrive-still, sets-off, came-waits, came-last, came-goes}
@@ -24,9 +24,9 @@ use Rattle.writer.proofs.cascade.arrive.Kinds as arrive-kinds
 use Rattle.writer.proofs.cascade.+arrive.Lts-arrive as arrive-lts
 use Rattle.wavelet.proofs.sizes.low_count.Reads as low-count-reads
 use Rattle.wavelet.proofs.sizes.next_start.Reads as next-start-reads
-use Rattle.figures.proofs.look_ahead.Reads as look-ahead-reads
-use Rattle.filters.proofs.forward.deliver.Reads as deliver-reads
-use Rattle.filters.proofs.forward.make.Reads as make-reads
+use Rattle.filters.proofs.look_ahead.Reads as look-ahead-reads
+use Rattle.analysis.proofs.forward.deliver.Reads as deliver-reads
+use Rattle.analysis.proofs.forward.make.Reads as make-reads
 use Rattle.progress.proofs.counts.goes_on.Reads as goes-on-reads
 use Rattle.progress.proofs.counts.most.Reads as most-reads
 use Rattle.progress.proofs.counts.next_band.Reads as next-band-reads

@@ -9,9 +9,9 @@ use Rattle.lifting.specs.Grid.{side}
 use Rattle.wavelet.specs.Levels.{next}
 use Rattle.wavelet.proofs.SideLaws.{next-length}
 use Rattle.wavelet.proofs.StoreLaws.{store-next, store-back}
-use Rattle.nine_seven.specs.Filters.{filterOf}
-use Rattle.figures.proofs.FigureLaws.{row-few}
-use Rattle.filters.proofs.ForwardLaws.{next-done}
+use Rattle.filters.specs.Filters.{filterOf}
+use Rattle.filters.proofs.FigureLaws.{row-few}
+use Rattle.analysis.proofs.ForwardLaws.{next-done}
 use Rattle.level.proofs.RestLaws.{at-rest, at-join}
 use Rattle.progress.proofs.CountLaws.{next-is, start-is}
 use Rattle.progress.proofs.WaitLaws.{seen-fits}

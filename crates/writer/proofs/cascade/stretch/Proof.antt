@@ -2,7 +2,7 @@
 use mathlib.Core.Path.{ap}
 use Prim.Native.Nat.{_*_, _≤_}
 use native.Mathlib.Omega.{arith}
-use Rattle.figures.proofs.FigureLaws.{row-few}
+use Rattle.filters.proofs.FigureLaws.{row-few}
 use Rattle.writer.proofs.cascade.stretch.Statement.{statement}
 use Rattle.writer.proofs.cascade.stretch.Tie as tie
 

@@ -10,9 +10,9 @@ use Rattle.numbers.specs.Signal.{at}
 use Rattle.lifting.specs.Grid.{side}
 use Rattle.wavelet.proofs.SideLaws.{count-lo}
 use Rattle.wavelet.proofs.StoreLaws.{store-back}
-use Rattle.nine_seven.specs.Filters.{filterOf}
-use Rattle.figures.specs.Figures.{storeBy}
-use Rattle.figures.proofs.FigureLaws.{steps-few, row-few}
+use Rattle.filters.specs.Filters.{filterOf}
+use Rattle.filters.specs.Figures.{storeBy}
+use Rattle.filters.proofs.FigureLaws.{steps-few, row-few}
 use Rattle.level.proofs.RestLaws.{at-rest, at-join}
 use Rattle.progress.proofs.CountLaws.{steps-more, next-is, start-is}
 use Rattle.writer.proofs.CascadeLaws.{room-below}
@@ -20,7 +20,7 @@ use Rattle.writer.proofs.ClosingLaws.{shut-none, shut-waits, shut-goes}
 use Rattle.writer.proofs.closing.shut.Reads as shut
 use Rattle.writer.proofs.closing.shut.Kinds as shut-kinds
 use Rattle.writer.proofs.closing.+shut.Lts-shut as shut-lts
-use Rattle.figures.proofs.look_ahead.Reads as look-ahead-reads
+use Rattle.filters.proofs.look_ahead.Reads as look-ahead-reads
 use Rattle.progress.proofs.counts.minus.Reads as minus-reads
 use Rattle.progress.proofs.waits.nothing.Reads as nothing-reads
 use Rattle.progress.proofs.waits.seen_from.Reads as seen-from-reads

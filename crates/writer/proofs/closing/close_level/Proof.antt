@@ -5,7 +5,7 @@ use native.Mathlib.Omega.{arith}
 use lib.ListN.{length}
 use Rattle.numbers.specs.Signal.{at}
 use Rattle.lifting.specs.Grid.{side}
-use Rattle.nine_seven.specs.Filters.{filterOf}
+use Rattle.filters.specs.Filters.{filterOf}
 use Rattle.writer.proofs.ClosingLaws.{from, level-done, level-waits, level-on}
 use Rattle.writer.proofs.closing.close_level.Statement.{statement}
 use Rattle.writer.proofs.closing.close_level.Tie as tie

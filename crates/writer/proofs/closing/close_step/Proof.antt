@@ -5,8 +5,8 @@ use native.Mathlib.Omega.{arith}
 use lib.ListN.{length}
 use Rattle.lifting.specs.Grid.{side}
 use Rattle.wavelet.proofs.StoreLaws.{store-next}
-use Rattle.nine_seven.specs.Filters.{filterOf}
-use Rattle.filters.proofs.ForwardLaws.{level-done}
+use Rattle.filters.specs.Filters.{filterOf}
+use Rattle.analysis.proofs.ForwardLaws.{level-done}
 use Rattle.progress.proofs.CountLaws.{made-most}
 use Rattle.writer.proofs.CascadeLaws.{left-still}
 use Rattle.writer.proofs.ClosingLaws.{step-none, step-waits, step-goes}

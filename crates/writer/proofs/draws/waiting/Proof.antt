@@ -3,9 +3,9 @@ use mathlib.Core.Path.{sym, _∙_}
 use Prim.Native.Nat.{_-_}
 use native.Mathlib.Omega.{arith}
 use Rattle.wavelet.proofs.StoreLaws.{store-next}
-use Rattle.nine_seven.specs.Filters.{filterOf}
-use Rattle.figures.proofs.FigureLaws.{store-few}
-use Rattle.filters.proofs.ForwardLaws.{place-room, place-code}
+use Rattle.filters.specs.Filters.{filterOf}
+use Rattle.filters.proofs.FigureLaws.{store-few}
+use Rattle.analysis.proofs.ForwardLaws.{place-room, place-code}
 use Rattle.progress.specs.Counts.{bandAt}
 use Rattle.level.proofs.Places.{prev-is}
 use Rattle.writer.specs.Taking.{columnsOf}

@@ -5,7 +5,7 @@ use borrow.Author.Tests.{not-true, not-false, le-leb, lt-leb, lt-ltb, le-ltb}
 use Rattle.wavelet.specs.Limits.{maxHeight}
 use Rattle.wavelet.proofs.LimitLaws.{width-small}
 use Rattle.lifting.specs.Grid.{side}
-use Rattle.figures.proofs.FigureLaws.{streams, steps-few}
+use Rattle.filters.proofs.FigureLaws.{streams, steps-few}
 use Rattle.writer.specs.Questions.{inRanges}
 use Rattle.writer.proofs.GateLaws.{ranges-last, few-levels}
 use Rattle.writer.proofs.gate.in_ranges.Statement.{statement}

@@ -3,7 +3,7 @@ use mathlib.Core.Path.{sym, ap, _∙_}
 use borrow.Author.Tests.{not-true, not-false}
 use Rattle.wavelet.specs.Limits.{maxWidth}
 use Rattle.wavelet.specs.Questions.{within}
-use Rattle.figures.specs.Figures.{streamable}
+use Rattle.filters.specs.Figures.{streamable}
 use Rattle.writer.proofs.gate.is_sized.Statement.{statement}
 use Rattle.writer.proofs.gate.is_sized.Tie as tie
 

@@ -8,8 +8,8 @@ use Rattle.numbers.specs.Signal.{pick}
 use Rattle.lifting.specs.Grid.{Side}
 use Rattle.wavelet.specs.Limits.{maxWidth}
 use Rattle.wavelet.specs.Questions.{within}
-use Rattle.nine_seven.specs.Filters.{filterOf}
-use Rattle.figures.specs.Figures.{storeBy, streamable}
+use Rattle.filters.specs.Filters.{filterOf}
+use Rattle.filters.specs.Figures.{storeBy, streamable}
 use Rattle.writer.specs.Questions.{known, setUpQuestion}
 use Rattle.writer.proofs.GateLaws.{known-filter}
 use Rattle.writer.proofs.gate.set_up_question.Statement.{statement}

@@ -9,9 +9,9 @@ use Rattle.numbers.specs.Signal.{pick, both}
 use Rattle.numbers.proofs.Sweep as sweep
 use Rattle.wavelet.specs.Limits.{maxWidth}
 use Rattle.wavelet.proofs.StoreLaws.{store-most}
-use Rattle.nine_seven.specs.Filters.{filterOf}
-use Rattle.figures.specs.Figures.{storeBy, anyBy, streamable}
-use Rattle.figures.proofs.FigureLaws.{streams, levels-most}
+use Rattle.filters.specs.Filters.{filterOf}
+use Rattle.filters.specs.Figures.{storeBy, anyBy, streamable}
+use Rattle.filters.proofs.FigureLaws.{streams, levels-most}
 use Rattle.writer.specs.declared.Writer.{Writer}
 use Rattle.writer.specs.Taking.{columnsOf}
 use Rattle.writer.specs.Questions.{onGrid, inRanges, longEnough}

@@ -8,10 +8,10 @@ use lib.ListN.{length}
 use Rattle.numbers.specs.Signal.{pick}
 use Rattle.wavelet.proofs.LimitLaws.{height-small}
 use Rattle.wavelet.proofs.StoreLaws.{store-back}
-use Rattle.nine_seven.specs.Filters.{filterOf}
+use Rattle.filters.specs.Filters.{filterOf}
 use Rattle.level.specs.Heights.{heightAt}
-use Rattle.filters.specs.Forward.{heightsPut, heightsFit}
-use Rattle.filters.proofs.ForwardLaws.{heights-done}
+use Rattle.analysis.specs.Forward.{heightsPut, heightsFit}
+use Rattle.analysis.proofs.ForwardLaws.{heights-done}
 use Rattle.writer.specs.declared.Writer.{Writer}
 use Rattle.writer.specs.Taking.{columnsOf}
 use Rattle.writer.specs.Stretch.{Taker}

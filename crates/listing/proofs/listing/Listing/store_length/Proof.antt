@@ -4,7 +4,7 @@ use Rattle.lifting.specs.Grid.{count}
 use Rattle.wavelet.specs.Limits.{maxLevels}
 use Rattle.wavelet.specs.Levels.{next, sideAt}
 use Rattle.wavelet.specs.Store.{widths, storeLength}
-use Rattle.nine_seven.specs.Filters.{filterOf}
+use Rattle.filters.specs.Filters.{filterOf}
 use Rattle.pgm.specs.Limits.{maxPictureWidth}
 use Rattle.listing.proofs.listing.Listing.store_length.Statement.{statement}
 use Rattle.listing.proofs.listing.Listing.store_length.Tie as tie

@@ -45,21 +45,24 @@ returns-2 c =
     let p = c .before in
     let h = p .before .before in
     let e = h .before .before in
-    c .moved .ensures ∙ ap (rewriting _ _ _ _) (p .part-of .ensures) ∙ ends-as _ _ (e .before .if1 .left) (sym (ap ofEnded (h .next .given .1)) ∙ e .end .ensures)
+    c .moved .ensures ∙ ap (rewriting _ _ _ _) (p .part-of .ensures) ∙ ends-as _ _ (e .before .if1 .left) (sym (ap ofEnded (h .next .given .1))
+    ∙ e .end .ensures)
 
 returns-3 : tie.Need-returns-3
 returns-3 c =
     let p = c .before in
     let h = p .before .before in
     let e = h .before .before in
-    c .moved2 .ensures ∙ ap (rewriting _ _ _ _) (p .part-of2 .ensures) ∙ ends-as _ _ (e .before .if1 .left) (sym (ap ofEnded (h .next2 .given .1)) ∙ e .end .ensures)
+    c .moved2 .ensures ∙ ap (rewriting _ _ _ _) (p .part-of2 .ensures) ∙ ends-as _ _ (e .before .if1 .left) (sym (ap ofEnded (h .next2 .given .1))
+    ∙ e .end .ensures)
 
 returns-4 : tie.Need-returns-4
 returns-4 c =
     let p = c .before in
     let h = p .before in
     let e = h .before .before in
-    c .moved3 .ensures ∙ ap (rewriting _ _ _ _) (p .part-of3 .ensures) ∙ ends-as _ _ (e .before .if1 .left) (sym (ap ofEnded (h .enum-told .given .1)) ∙ e .end .ensures)
+    c .moved3 .ensures ∙ ap (rewriting _ _ _ _) (p .part-of3 .ensures) ∙ ends-as _ _ (e .before .if1 .left) (sym (ap ofEnded (h .enum-told .given .1))
+    ∙ e .end .ensures)
 
 pub end-spec : {M : Type 1} → statement M
 end-spec =

@@ -1,3 +1,0 @@
-pub mod FigureLaws
-pub mod RangeLaws
-pub mod PlainFigures

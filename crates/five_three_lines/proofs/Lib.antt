@@ -1,4 +1,0 @@
-pub mod PlaceLaws
-pub mod AreaLaws
-pub mod LiftLaws
-pub mod BackLaws

@@ -1,2 +1,0 @@
-pub mod HalfLaws
-pub mod ApartLaws

@@ -1,2 +1,0 @@
-pub mod LoneTests
-pub mod EachLaws

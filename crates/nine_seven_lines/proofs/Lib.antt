@@ -1,2 +1,0 @@
-pub mod NearLaws
-pub mod PutLaws

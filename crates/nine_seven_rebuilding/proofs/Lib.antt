@@ -1,9 +1,0 @@
-pub mod NeighbourLaws
-pub mod EightRows
-pub mod RangeLaws
-pub mod KeptLaws
-pub mod WorkLaws
-pub mod RowSets
-pub mod SetMade
-pub mod WorkedPast
-pub mod NineSevenBackLaws

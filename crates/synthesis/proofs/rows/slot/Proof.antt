@@ -1,0 +1,13 @@
+-- `synthesis::rows::slot` meets its contract, by the filter's number. Assumes nothing.
+use Rattle.synthesis.proofs.CallLaws.{slot-first, slot-second}
+use Rattle.synthesis.proofs.rows.slot.Statement.{statement}
+use Rattle.synthesis.proofs.rows.slot.Tie as tie
+
+returns : tie.Need-returns
+returns c = slot-first _ _ (c .if1 .taken)
+
+returns-2 : tie.Need-returns-2
+returns-2 c = slot-second _ _ (c .if1 .left)
+
+pub slot-spec : {M : Type 1} → statement M
+slot-spec = tie.close (tie.spec returns returns-2)

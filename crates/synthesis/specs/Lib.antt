@@ -1,0 +1,4 @@
+pub mod Columns
+pub mod Work
+pub mod Stands
+pub mod Back
