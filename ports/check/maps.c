@@ -11,6 +11,7 @@ static void views(terrain_shape s, size_t room)
         add((uint64_t)length);
     }
     add((uint64_t)terrain_store_length(s));
+    add((uint64_t)terrain_reader_store_length(s));
 }
 
 static void back(terrain_shape s, uint32_t shown, size_t room)

@@ -58,6 +58,12 @@ static terrain_shape shape_of(const Map *m)
 
 /* ---- state and store */
 
+/* The most heights that a writer counts: of the row begun, or, while rows wait, of the spare row. */
+static uint64_t most_column(const uint64_t *s)
+{
+    return !s[7] ? s[1] - 1 : s[5] || s[3] >= MOST_HEIGHT ? 0 : s[1];
+}
+
 /* The map that a state's counts speak of; a writer has no height. */
 static Map map_of(const uint64_t *s, int kind)
 {
@@ -74,7 +80,7 @@ static int counts_fit(const uint64_t *s, int kind)
     if (!rest || s[0] != (uint64_t)kind || streamable(&m) || m.across.start > MOST_ORIGIN || m.down.start > MOST_ORIGIN) return 0;
     size_t ahead = filters[m.filter].ahead;
     if (kind == WRITER)
-        return s[3] <= MOST_HEIGHT && s[4] < s[1] && s[5] <= 1 && s[6] <= ahead * s[2] && s[7] <= s[2] &&
+        return s[3] <= MOST_HEIGHT && s[4] <= most_column(s) && s[5] <= 1 && s[6] <= ahead * s[2] && s[7] <= s[2] &&
                s[8] <= (!s[7] ? 0u : s[7] < s[2] ? 3u : 4u) && s[9] == (s[7] ? stretches(&m, s[7] - 1) : 0);
     return s[2] - 1 < MOST_HEIGHT && s[4] <= s[2] && s[5] <= s[3] && s[6] <= 4 && s[7] <= 1 && s[10] <= 2 * ahead - 1;
 }
@@ -100,7 +106,7 @@ static void back(Slot *s, int kind, uint32_t answer, uint32_t may)
 {
     int fit = counts_fit(s->state, kind);
     Map m = map_of(s->state, kind);
-    size_t needed = fit ? model_store(&m) : 0;
+    size_t needed = !fit ? 0 : kind == WRITER ? model_writer_store(&m) : model_store(&m);
     area_back(&state_area);
     area_back(&store_area);
     HOLDS(answer < 16 && ((may | MAY(0) | MAY(1) | MAY(5)) >> answer & 1));
@@ -153,7 +159,7 @@ static void set_up(Slot *s, int kind)
 {
     check_rows(s);
     Map m = any_map();
-    size_t h = m.down.length, needed = kind == READER && h > MOST_HEIGHT ? 0 : model_store(&m);
+    size_t h = m.down.length, needed = kind == WRITER ? model_writer_store(&m) : h > MOST_HEIGHT ? 0 : model_store(&m);
     unsigned more = byte();
     int32_t *old = s->store;
     size_t old_len = s->store_len;
@@ -201,7 +207,7 @@ static void offer(Slot *s)
     area_back(&small_area);
     HOLDS(area_is(&run_area, heights));
     HOLDS(answer ? area_unset(&small_area, 0) : *said <= n);
-    back(s, WRITER, answer, MAY(8) | MAY(9) | MAY(10));
+    back(s, WRITER, answer, MAY(9) | MAY(10));
     if (s->kind != WRITER || answer == 5) return;
     HOLDS(answer == order_offer(&s->order, n, &taken));
     HOLDS(answer || *said == taken);
@@ -249,7 +255,7 @@ static void draw_row(Slot *s)
     HOLDS(answer == (r.length > room ? 12u : 0u));
     if (answer) return;
     HOLDS(row[0] == r.level && row[1] == r.band && row[2] == r.row && row[3] == r.length);
-    s->order.first++;
+    order_drawn(&s->order);
     s->rows[s->row_count++] = r;
     memcpy(s->values + s->value_count, out, r.length * sizeof *out);
     s->value_count += r.length;
@@ -387,7 +393,7 @@ static void foreign(Slot *s)
     memset(s->state, 0, sizeof s->state);
     if (below(2)) {
         uint64_t level = below(6), start = level ? stretches(&m, level - 1) : 0;
-        uint64_t counts[] = { 1, m.across.length, m.levels, wide(2), byte() % m.across.length, below(2), below(10), level, below(level ? 5 : 1),
+        uint64_t counts[] = { 1, m.across.length, m.levels, wide(2), byte() % (m.across.length + 1), below(2), below(10), level, below(level ? 5 : 1),
                               below(8) ? start : wide(2), m.across.start, m.down.start, below(16) ? filter : below(4) };
         memcpy(s->state, counts, sizeof counts);
     } else {
@@ -395,7 +401,7 @@ static void foreign(Slot *s)
                               m.across.start, m.down.start, below(2) ? 0 : below(5), below(16) ? filter : below(4) };
         memcpy(s->state, counts, sizeof counts);
     }
-    new_store(s, model_store(&m) + below(4));
+    new_store(s, model_writer_store(&m) + below(4));
 }
 
 static void scribble(Slot *s)
@@ -582,7 +588,7 @@ static void turn(void)
     else answer = terrain_turns_give(lent, served);
     area_back(&state_area);
     area_back(&small_area);
-    if (!first && which > 1 && which < 5 && reader > 15) first = 21;
+    if (!first && which != 1 && which < 5 && reader > 15) first = 21;
     HOLDS(answer == first);
     if (answer || which < 5) HOLDS(area_unset(&small_area, 0));
     if (!answer && which == 1) memcpy(giver, (uint64_t[]){ 3, 0, 15, 0 }, sizeof giver);
@@ -602,8 +608,8 @@ static void write_on(Slot *s)
 {
     if (s->kind != WRITER) set_up(s, WRITER);
     for (int i = 0; i < 80 && s->kind == WRITER; i++) {
-        if (order_waits(&s->order)) draw_row(s);
-        else if (s->order.finished) break;
+        if (order_waits(&s->order) && below(4)) draw_row(s);
+        else if (s->order.finished && !order_waits(&s->order)) break;
         else if (below(16) == 15) finish(s);
         else offer(s);
     }
@@ -619,6 +625,14 @@ static void read_on(Slot *s)
         else if (wanted[0] == DRAW) draw_heights(s);
         else break;
     }
+}
+
+static void store_lengths(void)
+{
+    Map m = any_map();
+    m.across.length = number();
+    HOLDS(terrain_store_length(shape_of(&m)) == model_writer_store(&m));
+    HOLDS(terrain_reader_store_length(shape_of(&m)) == model_store(&m));
 }
 
 static void call(void)
@@ -640,7 +654,7 @@ static void call(void)
     case 26: line(); break;
     case 27: map(); break;
     case 28: if (below(2)) band_row(); else turn(); break;
-    case 29: { Map m = any_map(); m.across.length = number(); HOLDS(terrain_store_length(shape_of(&m)) == model_store(&m)); break; }
+    case 29: store_lengths(); break;
     case 30: write_on(s); break;
     default: read_on(s); break;
     }

@@ -39,6 +39,8 @@ fn the_filters() {
     let names = names();
     assert_eq!([names["FIVE_THREE"], names["NINE_SEVEN"]], [terrain::FIVE_THREE as usize, terrain::NINE_SEVEN as usize]);
     let lengths = [terrain::FIVE_THREE, terrain::NINE_SEVEN, 2].map(|filter| raw::store_length(Shape::new(3, 1, 2).by(filter)));
+    assert_eq!(lengths, [4 * (3 + 2) + 3, 8 * (3 + 2) + 3, 0]);
+    let lengths = [terrain::FIVE_THREE, terrain::NINE_SEVEN, 2].map(|filter| raw::reader_store_length(Shape::new(3, 1, 2).by(filter)));
     assert_eq!(lengths, [4 * (3 + 2), 8 * (3 + 2), 0]);
     let most = |filter| (1..10).filter(|l| raw::store_length(Shape::new(1, 1, *l).by(filter)) > 0).count();
     assert_eq!([most(terrain::FIVE_THREE), most(terrain::NINE_SEVEN)], [names["MAX_LEVELS"], names["MAX_LEVELS"] - 1]);

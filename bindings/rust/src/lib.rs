@@ -116,7 +116,12 @@ pub fn version() -> u32 {
     raw::version()
 }
 
-/// How many numbers the line store of a writer or reader needs, whatever the height; 0 where no set-up passes.
+/// How many numbers the line store of a writer needs, whatever the height; 0 where no set-up passes. It is enough for a reader too.
 pub fn store_length(shape: Shape) -> usize {
     raw::store_length(shape)
+}
+
+/// How many numbers the line store of a reader needs: a writer's less one row of the map's columns.
+pub fn reader_store_length(shape: Shape) -> usize {
+    raw::reader_store_length(shape)
 }

@@ -56,9 +56,8 @@ impl Question {
             (4, _) => "the number of levels is not 1 to 5, by the 9/7 1 to 4",
             (5, Call::Line) => "the output is shorter than the line",
             (5, Call::Profile) => "the output is shorter than the row",
-            (5, Call::WriterSetUp | Call::ReaderSetUp) => {
-                "the line store is too short: lend it store_length(shape) numbers"
-            }
+            (5, Call::WriterSetUp) => "the line store is too short: lend it store_length(shape) numbers",
+            (5, Call::ReaderSetUp) => "the line store is too short: lend it reader_store_length(shape) numbers",
             (5, Call::MapForward | Call::MapBackward | Call::MapMend) => {
                 "heights, plane or work area is shorter than width times height"
             }

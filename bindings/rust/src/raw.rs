@@ -108,6 +108,7 @@ mod c {
             change: *mut [u64; 3],
         ) -> u32;
         pub fn terrain_store_length(shape: Shape) -> usize;
+        pub fn terrain_reader_store_length(shape: Shape) -> usize;
         pub fn terrain_writer_set_up(state: *mut [u64; 16], shape: Shape, store: *mut i32, store_len: usize) -> u32;
         pub fn terrain_writer_offer(
             state: *mut [u64; 16],
@@ -230,6 +231,10 @@ pub fn nearest_change(heights: &[u16], width: usize, height: usize, row: usize, 
 
 pub fn store_length(shape: Shape) -> usize {
     unsafe { c::terrain_store_length(shape) }
+}
+
+pub fn reader_store_length(shape: Shape) -> usize {
+    unsafe { c::terrain_reader_store_length(shape) }
 }
 
 pub fn writer_set_up(state: &mut State, shape: Shape, store: &mut [i32]) -> u32 {

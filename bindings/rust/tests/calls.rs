@@ -176,11 +176,11 @@ fn the_questions() {
     assert_eq!(Writer::new(Shape::new(1, 1, 6).by(2), &mut store).unwrap_err().number, 18);
     assert_eq!(Writer::new(Shape::new(1, 1, 6), &mut store).unwrap_err().number, 4);
     assert_eq!(Writer::new(Shape::new(1, 1, 5).by(NINE_SEVEN), &mut store).unwrap_err().number, 4);
-    assert_eq!(Writer::new(Shape::new(3, 1, 2), &mut store[..19]).unwrap_err().number, 5);
-    assert_eq!(
-        (store_length(Shape::new(3, 1, 2)), store_length(Shape::new(2_050, 1, 1)), store_length(Shape::new(3, 1, 0))),
-        (20, 0, 0)
-    );
+    assert_eq!(Writer::new(Shape::new(3, 1, 2), &mut store[..22]).unwrap_err().number, 5);
+    assert_eq!(Reader::new(Shape::new(3, 1, 2), &mut store[..19]).unwrap_err().number, 5);
+    for (s, writer, reader) in [(Shape::new(3, 1, 2), 23, 20), (Shape::new(2_050, 1, 1), 0, 0), (Shape::new(3, 1, 0), 0, 0)] {
+        assert_eq!((store_length(s), reader_store_length(s)), (writer, reader));
+    }
 
     let (mut line, mut heights) = ([0; 3], [0; 3]);
     let mut writer = Writer::new(Shape::new(3, 1, 1), &mut store).unwrap();
@@ -196,7 +196,9 @@ fn the_questions() {
     assert_eq!(writer.draw(&mut line), Ok(Some((row, &[1, 3][..]))));
     let mut writer = Writer::new(Shape::new(1, 1, 1), &mut store).unwrap();
     assert_eq!(writer.offer(&[1, 2, 3, 4]), Ok(3));
-    assert_eq!(writer.offer(&[4]).map_err(number), Err(8));
+    // a row waits: one row more is taken, and the finish must wait
+    assert_eq!((writer.offer(&[4, 5]), writer.offer(&[5])), (Ok(1), Ok(0)));
+    assert_eq!(writer.finish().map_err(number), Err(8));
 
     let mut reader = Reader::new(Shape::new(1, 1, 1), &mut store).unwrap();
     assert_eq!(reader.draw(&mut heights), Ok(None));

@@ -111,7 +111,8 @@ data Effect (t : List Step) (e : Event) : Type 0 where
   drawn-ends : (r : ℕ) (u : List Step) → t ≡ step.draw r ∷ u → ends e ≡ true → Effect t e
 
 -- a draw; p says whether the store that it is lent is long enough
-drawn-effect : (W : Side) (t : List Step) (p : Bool) (a b : Area) (v : Reply Given) → OneOf v (pick p (drawGives W false t (a .size)) (refused 5)) (refused 14) →
+drawn-effect : (W : Side) (t : List Step) (p : Bool) (a b : Area) (v : Reply Given) → OneOf v (pick p (drawGives W false t (a .size)) (refused 5))
+    (refused 14) →
     (v ≡ refused 14 → pick p (drawGives W false t (a .size)) (refused 5) ≡ gives (heights (W .length))) → Effect t (drew a v b)
 unfolding drawGives goesOn ends takesRun
 drawn-effect W t false a b v (this e) possible = rw e (same refl refl refl)
