@@ -15,7 +15,6 @@ static void views(terrain_shape s, size_t room)
     add((uint64_t)columns);
     add((uint64_t)rows);
     add((uint64_t)terrain_store_length(s));
-    add((uint64_t)terrain_reader_store_length(s));
 }
 
 static void back(terrain_shape s, uint32_t shown, size_t room)

@@ -76,18 +76,6 @@ static void out_of_turn(stream *s)
     add((uint64_t)taken);
 }
 
-/* the next heights, some of them while rows wait; what was answered */
-static uint32_t offer(stream *s, uint32_t *at)
-{
-    size_t taken = 12345;
-    uint32_t run = below(3) ? below(2 * (uint32_t)s->shape.width + 2) : s->total - *at;
-    if (run > s->total - *at) run = s->total - *at;
-    uint32_t said = terrain_writer_offer(s->state, store, s->room, heights + *at, run, &taken);
-    add((uint64_t)taken);
-    if (!said) *at += (uint32_t)taken;
-    return said;
-}
-
 /* whether all of the map was offered and the finish passed */
 static int write_map(stream *s)
 {
@@ -96,14 +84,18 @@ static int write_map(stream *s)
     while (may_go_on(s)) {
         if (finished && !below(3)) out_of_turn(s);
         if (draw(s)) {
-            /* a row may still wait: what is offered now goes into the spare row */
-            if (at < s->total && !below(3)) say(offer(s, &at));
+            /* a row may still wait: an offer now would be out of turn */
             continue;
         }
         if (finished) return 1;
         uint32_t said;
         if (at < s->total) {
-            said = offer(s, &at);
+            size_t taken = 12345;
+            uint32_t run = below(3) ? below(2 * (uint32_t)s->shape.width + 2) : s->total - at;
+            if (run > s->total - at) run = s->total - at;
+            said = terrain_writer_offer(s->state, store, s->room, heights + at, run, &taken);
+            add((uint64_t)taken);
+            if (!said) at += (uint32_t)taken;
             if (!said && below(4) == 0) say(terrain_writer_finish(s->state, store, s->room)), add64(s->state, 16);
         } else {
             said = terrain_writer_finish(s->state, store, s->room);

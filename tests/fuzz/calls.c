@@ -59,12 +59,6 @@ static terrain_shape shape_of(const Map *m)
 
 /* ---- state and store */
 
-/* The most heights that a writer counts: of the row begun, or, while rows wait, of the spare row. */
-static uint64_t most_column(const uint64_t *s)
-{
-    return !s[7] ? s[1] - 1 : s[5] || s[3] >= MOST_HEIGHT ? 0 : s[1];
-}
-
 /* The map that a state's counts speak of; a writer has no height. */
 static Map map_of(const uint64_t *s, int kind)
 {
@@ -95,7 +89,7 @@ static int counts_fit(const uint64_t *s, int kind)
     if (!rest || s[0] != (uint64_t)kind || streamable(&m) || m.across.start > MOST_ORIGIN || m.down.start > MOST_ORIGIN) return 0;
     size_t ahead = filters[m.filter].ahead;
     if (kind == WRITER)
-        return s[3] <= MOST_HEIGHT && s[4] <= most_column(s) && s[5] <= 1 && s[6] <= ahead * s[2] && s[7] <= s[2] &&
+        return s[3] <= MOST_HEIGHT && s[4] < s[1] && s[5] <= 1 && s[6] <= ahead * s[2] && s[7] <= s[2] &&
                s[8] <= (!s[7] ? 0u : s[7] < s[2] ? 3u : 4u) && s[9] == (s[7] ? stretches(&m, s[7] - 1) : 0);
     return s[2] - 1 < MOST_HEIGHT && s[4] <= s[2] && s[5] <= s[3] && s[6] <= 4 && s[7] <= 1 && s[10] <= 2 * ahead - 1 && stop_fits(s);
 }
@@ -121,7 +115,7 @@ static void back(Slot *s, int kind, uint32_t answer, uint32_t may)
 {
     int fit = counts_fit(s->state, kind);
     Map m = map_of(s->state, kind);
-    size_t needed = !fit ? 0 : kind == WRITER ? model_writer_store(&m) : model_store(&m);
+    size_t needed = fit ? model_store(&m) : 0;
     area_back(&state_area);
     if (fit && kind == READER) needed += s->state[13]; /* the levels that a stop leaves out */
     area_back(&store_area);
@@ -189,7 +183,7 @@ static void set_up(Slot *s, int kind)
     size_t stop = !stops ? 0 : below(8) ? 1 + below(5) : number();
     check_rows(s);
     Map m = any_map();
-    size_t h = m.down.length, needed = kind == WRITER ? model_writer_store(&m) : h > MOST_HEIGHT ? 0 : model_store(&m);
+    size_t h = m.down.length, needed = kind == READER && h > MOST_HEIGHT ? 0 : model_store(&m);
     unsigned more = byte();
     int32_t *old = s->store;
     size_t old_len = s->store_len;
@@ -241,7 +235,7 @@ static void offer(Slot *s)
     area_back(&small_area);
     HOLDS(area_is(&run_area, heights));
     HOLDS(answer ? area_unset(&small_area, 0) : *said <= n);
-    back(s, WRITER, answer, MAY(9) | MAY(10));
+    back(s, WRITER, answer, MAY(8) | MAY(9) | MAY(10));
     if (s->kind != WRITER || answer == 5) return;
     HOLDS(answer == order_offer(&s->order, n, &taken));
     HOLDS(answer || *said == taken);
@@ -289,7 +283,7 @@ static void draw_row(Slot *s)
     HOLDS(answer == (r.length > room ? 12u : 0u));
     if (answer) return;
     HOLDS(row[0] == r.level && row[1] == r.band && row[2] == r.row && row[3] == r.length);
-    order_drawn(&s->order);
+    s->order.first++;
     s->rows[s->row_count++] = r;
     memcpy(s->values + s->value_count, out, r.length * sizeof *out);
     s->value_count += r.length;
@@ -437,7 +431,7 @@ static void foreign(Slot *s)
     memset(s->state, 0, sizeof s->state);
     if (below(2)) {
         uint64_t level = below(6), start = level ? stretches(&m, level - 1) : 0;
-        uint64_t counts[] = { 1, m.across.length, m.levels, wide(2), byte() % (m.across.length + 1), below(2), below(10), level, below(level ? 5 : 1),
+        uint64_t counts[] = { 1, m.across.length, m.levels, wide(2), byte() % m.across.length, below(2), below(10), level, below(level ? 5 : 1),
                               below(8) ? start : wide(2), m.across.start, m.down.start, below(16) ? filter : below(4) };
         memcpy(s->state, counts, sizeof counts);
     } else {
@@ -450,7 +444,7 @@ static void foreign(Slot *s)
         new_store(s, model_store(&m) + s->state[13] + below(4));
         return;
     }
-    new_store(s, model_writer_store(&m) + below(4));
+    new_store(s, model_store(&m) + below(4));
 }
 
 static void scribble(Slot *s)
@@ -628,33 +622,6 @@ static void band_row(void)
     else HOLDS(*start == place(&m, level, band, row) && *length == across(&m, level, band));
 }
 
-/* ---- rounding and its figure */
-
-static void rounding(void)
-{
-    static int32_t plane[CAP + 8], expected[CAP + 8];
-    Map m = any_map();
-    m.across.start = m.down.start = m.filter = 0;
-    size_t w = m.across.length, h = m.down.length, n = w <= MOST_WIDTH && h <= MOST_HEIGHT && w * h <= CAP ? w * h : 64;
-    size_t len = below(16) ? n + below(3) : n ? n - 1 : 0, step = below(8) ? 1 + below(64) : number();
-    uint32_t seed = byte(), first = asked(&m, 0, SIZE_MAX);
-    for (size_t i = 0; i < len; i++) plane[i] = below(8) ? (int32_t)(seed = seed * 1664525u + 1013904223u) >> (i & 16) : word();
-    memcpy(expected, plane, sizeof expected);
-    if (!first && (step < 1 || step > 64)) first = 20;
-    if (!first && len < w * h) first = 5;
-    if (!first) model_round(expected, &m, (int64_t)step);
-    int32_t *lent = area_lend(&out_area, plane, len * sizeof *plane, at_end());
-    uint32_t answer = terrain_round(lent, len, w, h, m.levels, step);
-    area_back(&out_area);
-    HOLDS(answer == first && area_is(&out_area, expected));
-    size_t *bound = area_lend(&small_area, NULL, sizeof *bound, at_end());
-    answer = terrain_error_bound(m.levels, step, bound);
-    area_back(&small_area);
-    HOLDS(answer == (m.levels < 1 || m.levels > MOST_LEVELS ? 4u : step < 1 || step > 64 ? 20u : 0u));
-    if (answer) HOLDS(area_unset(&small_area, 0));
-    else HOLDS(*bound == model_bound(m.levels, step));
-}
-
 /* ---- turns: a turn-giver that is set up, marked, cleared and scribbled in; the model looks at the readers one by one */
 
 static uint64_t giver[TERRAIN_TURNS_LENGTH];
@@ -698,8 +665,8 @@ static void write_on(Slot *s)
 {
     if (s->kind != WRITER) set_up(s, WRITER);
     for (int i = 0; i < 80 && s->kind == WRITER; i++) {
-        if (order_waits(&s->order) && below(4)) draw_row(s);
-        else if (s->order.finished && !order_waits(&s->order)) break;
+        if (order_waits(&s->order)) draw_row(s);
+        else if (s->order.finished) break;
         else if (below(16) == 15) finish(s);
         else offer(s);
     }
@@ -715,14 +682,6 @@ static void read_on(Slot *s)
         else if (wanted[0] == DRAW) draw_heights(s);
         else break;
     }
-}
-
-static void store_lengths(void)
-{
-    Map m = any_map();
-    m.across.length = number();
-    HOLDS(terrain_store_length(shape_of(&m)) == model_writer_store(&m));
-    HOLDS(terrain_reader_store_length(shape_of(&m)) == model_store(&m));
 }
 
 static void call(void)
@@ -741,10 +700,10 @@ static void call(void)
     case 23: { uint64_t wanted[5]; want(s, wanted); break; }
     case 24: foreign(s); break;
     case 25: scribble(s); break;
-    case 26: if (below(2)) line(); else rounding(); break;
+    case 26: line(); break;
     case 27: map(); break;
     case 28: if (below(2)) band_row(); else turn(); break;
-    case 29: store_lengths(); break;
+    case 29: { Map m = any_map(); m.across.length = number(); HOLDS(terrain_store_length(shape_of(&m)) == model_store(&m)); break; }
     case 30: write_on(s); break;
     default: read_on(s); break;
     }

@@ -195,33 +195,6 @@ static inline size_t model_store(const Map *m)
     return streamable(m) ? 0 : stretches(m, m->levels);
 }
 
-/* A writer has one more row of the map's columns, for heights that are offered while rows wait. */
-static inline size_t model_writer_store(const Map *m)
-{
-    return streamable(m) ? 0 : stretches(m, m->levels) + m->across.length;
-}
-
-/* ---- rounding, and its figure: the 5/3, origin 0 */
-
-static inline int in_last_ll(const Map *m, size_t i)
-{
-    size_t w = m->across.length;
-    return i / w < side(m->down, m->levels).length && i % w < side(m->across, m->levels).length;
-}
-
-static inline void model_round(int32_t *plane, const Map *m, int64_t step)
-{
-    for (size_t i = 0; i < m->across.length * m->down.length; i++)
-        if (!in_last_ll(m, i)) plane[i] = (int32_t)(plane[i] / step * step); /* C's division goes toward zero */
-}
-
-static inline size_t model_bound(size_t levels, size_t step)
-{
-    size_t e = step - 1, f = 0, b = 2 * e + (e + 1) / 2;
-    while (levels--) f = f + e + (e + 1) / 2 + b + (b + 1) / 2;
-    return f;
-}
-
 /* The numbers in a row of a band, and the rows of a band. */
 static inline size_t in_band(Side s, size_t level, size_t high)
 {
@@ -251,7 +224,7 @@ typedef struct {
 
 typedef struct {
     Map map; /* its height is not looked at */
-    size_t begun, held, complete[MOST_LEVELS + 2], sets[MOST_LEVELS + 2], first, last; /* rows that wait: first to last - 1 */
+    size_t begun, complete[MOST_LEVELS + 2], sets[MOST_LEVELS + 2], first, last; /* rows that wait: first to last - 1 */
     int finished;
     Row waiting[256];
 } Order;
@@ -288,33 +261,17 @@ static inline int order_waits(Order *o)
     return o->first < o->last;
 }
 
-/* one height goes on to level 1 */
-static inline void order_take(Order *o)
-{
-    if (++o->begun == o->map.across.length) o->begun = 0, order_arrive(o, 1);
-}
-
 static inline uint32_t order_offer(Order *o, size_t run, size_t *taken)
 {
-    size_t width = o->map.across.length;
     *taken = 0;
     if (o->finished) return 9;
-    if (run && o->complete[1] + (o->held == width) >= MOST_HEIGHT) return 10;
-    if (order_waits(o)) {
-        *taken = run < width - o->held ? run : width - o->held;
-        o->held += *taken;
-        return 0;
+    if (order_waits(o)) return 8;
+    if (run && o->complete[1] >= MOST_HEIGHT) return 10;
+    while (*taken < run && !order_waits(o) && o->complete[1] < MOST_HEIGHT) {
+        ++*taken;
+        if (++o->begun == o->map.across.length) o->begun = 0, order_arrive(o, 1);
     }
-    for (; *taken < run && !order_waits(o) && o->complete[1] < MOST_HEIGHT; ++*taken) order_take(o);
     return 0;
-}
-
-/* the row that waits is drawn; the draw after which none waits moves on what was offered meanwhile */
-static inline void order_drawn(Order *o)
-{
-    o->first++;
-    if (order_waits(o)) return;
-    for (; o->held; o->held--) order_take(o);
 }
 
 static inline uint32_t order_finish(Order *o)

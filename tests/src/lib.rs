@@ -16,7 +16,6 @@ pub mod programs;
 pub mod random;
 pub mod reader;
 pub mod reference;
-pub mod tolerant;
 pub mod writer;
 
 use terrain::{Call, Question};

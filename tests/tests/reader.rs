@@ -226,7 +226,7 @@ fn an_odd_lone_value_gives_14_in_the_feed_of_its_set() {
 
 /// Through a writer and a reader, with nothing between them but the rows: the heights again.
 fn round_trip(heights: &[u16], s: Shape) {
-    let mut store = Guarded::unset(order::writer_store_length(s));
+    let mut store = Guarded::unset(order::store_length(s));
     let mut writer = Writer::new(s, store.lent()).unwrap();
     let mut rows: HashMap<terrain::BandRow, Vec<i32>> = HashMap::new();
     let mut out = vec![0; s.width];
@@ -564,7 +564,7 @@ fn states_with_a_wrong_filter_give_1() {
 
 #[test]
 fn a_writer_s_state_is_no_reader_s() {
-    let mut store = vec![0; order::writer_store_length(Shape::new(3, 1, 2))];
+    let mut store = vec![0; order::store_length(Shape::new(3, 1, 2))];
     let (mut of_writer, mut of_reader) = ([0; 16], [0; 16]);
     assert_eq!(writer::set_up(&mut of_writer, Shape::new(3, 3, 2), &mut store), Ok(()));
     assert_eq!(reader::set_up(&mut of_reader, Shape::new(3, 3, 2), &mut store), Ok(()));

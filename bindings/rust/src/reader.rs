@@ -23,7 +23,7 @@ pub struct Reader<'s> {
 }
 
 impl<'s> Reader<'s> {
-    /// A reader of a map of that shape. The store has at least [`crate::reader_store_length`] numbers; what stood in them is lost.
+    /// A reader of a map of that shape. The store has at least [`crate::store_length`] numbers; what stood in them is lost.
     pub fn new(shape: Shape, store: &'s mut [i32]) -> Result<Self, Question> {
         let mut state = [0; 16];
         Question::of(Call::ReaderSetUp, raw::reader_set_up(&mut state, shape, store))?;
