@@ -270,6 +270,18 @@ uint32_t terrain_writer_finish(uint64_t state[16], int32_t *store, size_t store_
 TERRAIN_CHECKED
 uint32_t terrain_reader_set_up(uint64_t state[16], terrain_shape shape, int32_t *store, size_t store_len);
 
+/* The columns and rows of the low-low part (LL) of a level, 1 to `levels`: of a map that starts at 0 half of those before, rounded up. Of a map
+ * that starts elsewhere a level may be empty: a 0. 2, 3, 18, 4, 17 (the level is not 1 to `levels`); refused, it sets nothing. */
+TERRAIN_CHECKED
+uint32_t terrain_level_size(terrain_shape shape, size_t level, size_t *columns, size_t *rows);
+
+/* A fresh reader of distant ground: it stops at level `stop`, 1 to `levels`, and draws the rows of that level's LL (terrain_level_size says how
+ * many, and how long), each value limited to 0 to 65,535. It never wants a row of that level or of a finer one, but LL where `stop` is
+ * `levels`. Store and calls are those of a reader of the whole map; 14 comes only of what it rebuilds, and never where `stop` is `levels`.
+ * 2, 3, 18, 4, 17 (the stop is not 1 to `levels`), 5. */
+TERRAIN_CHECKED
+uint32_t terrain_reader_set_up_at(uint64_t state[16], terrain_shape shape, size_t stop, int32_t *store, size_t store_len);
+
 /* What the reader wants: want[0] is 0 for a band row, whose level, band, number and length follow, 1 for a draw, 2 when all height rows
  * are drawn (Done), 3 after a 14 (Ended). Where no band row is wanted the last four numbers are 0. 1. */
 TERRAIN_CHECKED
@@ -281,7 +293,7 @@ uint32_t terrain_reader_want(const uint64_t state[16], uint64_t want[5]);
 TERRAIN_CHECKED
 uint32_t terrain_reader_feed(uint64_t state[16], int32_t *store, size_t store_len, const int32_t *run, size_t run_len);
 
-/* The next height row, at the front of `out`, and the width in *drawn; where none can be drawn, 0, and `out` is untouched.
+/* The next height row, at the front of `out`, and its length (the width, or the columns of the level of a stop) in *drawn; where none can be drawn, 0, and `out` is untouched.
  * 1; 5; 9 (ended by 14); 12 (`out` is shorter than the row); 14 as in a feed, with `out` and *drawn untouched. */
 TERRAIN_CHECKED
 uint32_t terrain_reader_draw(uint64_t state[16], int32_t *store, size_t store_len, uint16_t *out, size_t out_len, size_t *drawn);
@@ -331,6 +343,7 @@ uint32_t terrain_turns_give(uint64_t turns[4], size_t *reader);
 #define TERRAIN_NO_MAP 14
 #define TERRAIN_BAD_INPUT 15
 #define TERRAIN_BAD_SAMPLE 16
+#define TERRAIN_BAD_LEVEL 17
 #define TERRAIN_BAD_FILTER 18
 #define TERRAIN_BAD_RECTANGLE 19
 #define TERRAIN_BAD_READER 21
@@ -356,7 +369,7 @@ TERRAIN_INLINE const char *terrain_sentence(uint32_t number)
         "no map has these coefficients",                                               /* 14 */
         "the input is not in the form that the listing reads",                         /* 15 */
         "a sample exceeds the largest value that the picture's header names",          /* 16 */
-        NULL,
+        "the level or the stop is not one of the map's levels",                        /* 17 */
         "there is no such filter",                                                     /* 18 */
         "the rectangle is empty or leaves the map",                                    /* 19 */
         NULL,

@@ -71,9 +71,8 @@ void written(terrain::Shape s, const std::vector<std::uint16_t> &heights)
     drawn(writer);
 }
 
-void read_back(terrain::Shape s, const std::vector<std::int32_t> &plane)
+void read_on(terrain::Reader reader, terrain::Shape s, const std::vector<std::int32_t> &plane)
 {
-    terrain::Reader reader(s);
     std::vector<std::uint16_t> out(64);
     for (;;) {
         terrain::BandRow row;
@@ -90,6 +89,12 @@ void read_back(terrain::Shape s, const std::vector<std::int32_t> &plane)
         }
     }
 }
+void read_far(terrain::Shape s, const std::vector<std::int32_t> &plane, std::size_t stop)
+{
+    terrain::LevelSize size = terrain::level_size(s, stop);
+    add(size.columns), add(size.rows);
+    read_on(terrain::Reader(s, stop), s, plane);
+}
 } // namespace
 
 int main()
@@ -102,7 +107,8 @@ int main()
         plane.assign(s.width * s.height, 0);
         whole_map(s, heights, plane);
         written(s, heights);
-        read_back(s, plane);
+        read_on(terrain::Reader(s), s, plane);
+        read_far(s, plane, 1 + below(static_cast<std::uint32_t>(s.levels)));
     }
     try {
         std::vector<std::int32_t> work(plane.size());

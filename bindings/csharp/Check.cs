@@ -16,9 +16,12 @@ static class Check
 
     static void Add(ulong value) { hash = (hash ^ value) * 0x100000001b3; }
 
+    static uint levels;
+
     static Shape SomeShape()
     {
-        uint width = 1 + Below(40), height = 1 + Below(30), filter = Below(2), levels = 1 + Below(5 - filter);
+        uint width = 1 + Below(40), height = 1 + Below(30), filter = Below(2);
+        levels = 1 + Below(5 - filter);
         Shape shape = new Shape(width, height, levels);
         shape.Filter = filter;
         shape.X = (ushort)Below(65536);
@@ -60,9 +63,8 @@ static class Check
         Drawn(writer);
     }
 
-    static void ReadBack(Shape shape, int[] plane)
+    static void ReadBack(Reader reader, Shape shape, int[] plane)
     {
-        Reader reader = new Reader(shape);
         ushort[] heights = new ushort[64];
         for (;;)
         {
@@ -84,7 +86,11 @@ static class Check
             heights = new ushort[shape.Width * shape.Height];
             int[] plane = WholeMap(shape, heights);
             Written(shape, heights);
-            ReadBack(shape, plane);
+            ReadBack(new Reader(shape), shape, plane);
+            long stop = 1 + Below(levels), columns, rows;
+            Map.LevelSize(shape, stop, out columns, out rows);
+            Add((ulong)columns); Add((ulong)rows);
+            ReadBack(new Reader(shape, stop), shape, plane);
         }
         try { Map.Forward(heights, new Shape(2050, 1, 1)); } catch (Refused refused) { Add(refused.Question); }
         Console.WriteLine("{0:x16}", hash);

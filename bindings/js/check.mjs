@@ -50,8 +50,7 @@ class Check {
     writer.close();
   }
 
-  readBack(shape, plane) {
-    const reader = this.terrain.reader(shape);
+  readBack(reader, shape, plane) {
     for (;;) {
       const want = reader.want();
       this.add(want.kind);
@@ -69,7 +68,10 @@ export async function check(bytes) {
   for (let i = 0; i < 60; i++) {
     const shape = run.someShape(), { heights, plane } = run.wholeMap(shape);
     run.written(shape, heights);
-    run.readBack(shape, plane);
+    run.readBack(run.terrain.reader(shape), shape, plane);
+    const stop = 1 + run.below(shape.levels), { columns, rows } = run.terrain.levelSize(shape, stop);
+    run.add(columns, rows);
+    run.readBack(run.terrain.reader(shape, stop), shape, plane);
   }
   try {
     run.terrain.mapForward(new Uint16Array(1), { width: 2050, height: 1, levels: 1 });

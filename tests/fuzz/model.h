@@ -138,6 +138,42 @@ static inline uint32_t model_backward(const int32_t *plane, const Map *m, uint16
     return answer;
 }
 
+/* LL of level `stop`, compact, that the levels after it rebuild: 0, 7 (a number of them is out of range), 14 (no LL in its range has them). */
+static inline uint32_t model_approximation(const int32_t *plane, const Map *m, size_t stop, int32_t *grid)
+{
+    Map rest = *m;
+    size_t w = m->across.length, n = w * m->down.length, columns = side(m->across, stop).length, rows = side(m->down, stop).length;
+    uint32_t answer = 0;
+    int32_t *x = malloc(2 * n * sizeof *x), *again = x + n;
+    if (!x) abort();
+    memcpy(x, plane, n * sizeof *x);
+    for (size_t i = 0; i < n; i++) {
+        size_t level = stop + 1;
+        if (i / w >= rows || i % w >= columns) continue;
+        while (level < m->levels && i / w < side(m->down, level).length && i % w < side(m->across, level).length) level++;
+        if (level > m->levels) level = m->levels;
+        if (plane[i] > range(m, level) || plane[i] < -range(m, level)) answer = 7;
+    }
+    for (size_t k = m->levels; k-- > stop;) {
+        Side a = side(m->across, k), d = side(m->down, k);
+        for (size_t r = 0; r < d.length; r++) model_line(x + r * w, a.length, 1, a.start, m->filter, 0);
+        for (size_t c = 0; c < a.length; c++) model_line(x + c, d.length, w, d.start, m->filter, 0);
+    }
+    memcpy(again, x, n * sizeof *x);
+    for (size_t i = 0; i < rows * columns; i++) {
+        grid[i] = x[i / columns * w + i % columns];
+        if (!answer && stop < m->levels && (grid[i] > range(m, stop) || grid[i] < -range(m, stop))) answer = 14;
+    }
+    for (size_t k = stop; k < rest.levels; k++) {
+        Side a = side(m->across, k), d = side(m->down, k);
+        for (size_t c = 0; c < a.length; c++) model_line(again + c, d.length, w, d.start, m->filter, 1);
+        for (size_t r = 0; r < d.length; r++) model_line(again + r * w, a.length, 1, a.start, m->filter, 1);
+    }
+    if (!answer && memcmp(again, plane, n * sizeof *again)) answer = 14;
+    free(x);
+    return answer;
+}
+
 /* Questions 2, 18 and 4. */
 static inline uint32_t streamable(const Map *m)
 {

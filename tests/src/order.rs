@@ -331,11 +331,22 @@ impl Steps {
 
 /// All steps of a reader of that shape.
 pub fn steps(shape: Shape) -> Vec<Turn> {
+    steps_to(shape, 0)
+}
+
+/// Those of a reader that stops at level `stop` (Q-6); 0: it has no stop. "It hands out the rows of LL at level j ... and never wants a row of level j
+/// or finer, except LL when j = L"; "at j = L each fed row is the next to draw".
+pub fn steps_to(shape: Shape, stop: usize) -> Vec<Turn> {
     let none = vec![0; shape.levels + 1];
     let making = (0..=shape.levels).map(|level| making_sets(filter::of(shape).near, down(shape).at(level.max(1) - 1))).collect();
     let mut s = Steps { shape, sets: first_sets(shape), making, made: none.clone(), unused: none, turns: Vec::new(), lazy: Vec::new() };
-    for row in 0..shape.height {
-        s.use_row(1);
+    let length = across(shape).at(stop).length;
+    for row in 0..if length > 0 { down(shape).at(stop).length } else { 0 } {
+        if stop == shape.levels {
+            s.push(Step::Feed(BandRow { level: stop, band: LL, row, length }));
+        } else {
+            s.use_row(stop + 1);
+        }
         s.push(Step::Draw(row));
     }
     s.turns
@@ -440,6 +451,38 @@ mod tests {
                     assert_eq!(drawn, wanted);
                     drawn.dedup();
                     assert_eq!(drawn.len(), wanted.len(), "each once");
+                }
+            }
+        }
+    }
+
+    /// A reader that stops at level j is that of the level-j approximation: sides of level j, L - j levels.
+    #[test]
+    fn a_stop_is_the_reader_of_the_approximation() {
+        for width in 1..=5 {
+            for height in 1..=17 {
+                for s in shapes(width, height) {
+                    for stop in 1..s.levels {
+                        let (w, h) = (across(s).at(stop), down(s).at(stop));
+                        let turns = steps_to(s, stop);
+                        if w.length == 0 || h.length == 0 {
+                            assert!(turns.is_empty(), "{s:?}: Done at once");
+                            continue;
+                        }
+                        let coarse = Shape::new(w.length, h.length, s.levels - stop).at(w.start as u16, h.start as u16).by(s.filter);
+                        let further = |m: &Made| (m.level + stop, m.first, m.end, m.own.clone());
+                        let expected = steps(coarse);
+                        assert_eq!(turns.len(), expected.len(), "{s:?} to {stop}");
+                        for (turn, plain) in turns.iter().zip(&expected) {
+                            let step = match plain.step {
+                                Step::Feed(r) => Step::Feed(BandRow { level: r.level + stop, ..r }),
+                                draw => draw,
+                            };
+                            assert_eq!(turn.step, step, "{s:?} to {stop}");
+                            let made: Vec<_> = turn.made.iter().map(|m| (m.level, m.first, m.end, m.own.clone())).collect();
+                            assert_eq!(made, plain.made.iter().map(further).collect::<Vec<_>>(), "{s:?} to {stop}");
+                        }
+                    }
                 }
             }
         }

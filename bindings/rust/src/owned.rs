@@ -96,6 +96,13 @@ impl OwnedReader {
         Ok(OwnedReader { state, store, row: vec![0; shape.width] })
     }
 
+    /// As [`Reader::stopping_at`].
+    pub fn stopping_at(shape: Shape, stop: usize) -> Result<Self, Question> {
+        let mut store = vec![0; store_length(shape)];
+        let state = Reader::stopping_at(shape, stop, &mut store)?.state();
+        Ok(OwnedReader { state, store, row: vec![0; shape.width] })
+    }
+
     /// As [`Reader::resume`].
     pub fn resume(state: State, store: Vec<i32>) -> Self {
         OwnedReader { state, store, row: vec![0; MAX_WIDTH] }

@@ -18,6 +18,7 @@ pub enum Call {
     WriterDraw,
     WriterWaits,
     Finish,
+    LevelSize,
     ReaderSetUp,
     Want,
     Feed,
@@ -32,7 +33,7 @@ pub enum Call {
 pub struct Question {
     /// The call that was turned away.
     pub call: Call,
-    /// The question's number: 1 to 14, 18, 19 or 21.
+    /// The question's number: 1 to 14, 17 to 19 or 21.
     pub number: u32,
 }
 
@@ -81,6 +82,8 @@ impl Question {
             (14, Call::Line) => "no line has this value: alone at an odd coordinate, it is odd",
             (14, Call::MapBackward) => "no map has this plane",
             (14, _) => "no map has the rows that were fed: the reader has ended",
+            (17, Call::LevelSize) => "the level is not 1 to the map's number of levels",
+            (17, _) => "the stop is not 1 to the map's number of levels",
             (18, _) => "there is no such filter: 0 is the 5/3, 1 the 9/7",
             (19, _) => "the rectangle is empty or leaves the map",
             (21, _) => "the reader's number is not 0 to 15",

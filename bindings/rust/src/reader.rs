@@ -30,6 +30,15 @@ impl<'s> Reader<'s> {
         Ok(Reader { state, store })
     }
 
+    /// A reader of distant ground, which stops at a level, 1 to the map's levels: it draws the rows of that level's LL, as long as
+    /// [`crate::level_size`] says, each value limited to 0 to 65,535, and never wants a row of that level or of a finer one, but LL at the last
+    /// level. The store is as long as for the whole map.
+    pub fn stopping_at(shape: Shape, stop: usize, store: &'s mut [i32]) -> Result<Self, Question> {
+        let mut state = [0; 16];
+        Question::of(Call::ReaderSetUp, raw::reader_set_up_at(&mut state, shape, stop, store))?;
+        Ok(Reader { state, store })
+    }
+
     /// A reader that goes on from a state and the store that belongs to it, as [`Reader::state`] and [`Reader::store`] gave them. Numbers
     /// that are no reader's state are answered by question 1 in every call.
     pub fn resume(state: State, store: &'s mut [i32]) -> Self {

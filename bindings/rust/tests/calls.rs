@@ -269,3 +269,38 @@ fn every_question_of_every_call_has_a_sentence() {
         }
     }
 }
+
+/// Fed from a plane as it wants, to Done: the heights drawn, and the finest level that it asked for.
+fn read_all(mut reader: OwnedReader, s: Shape, plane: &[i32]) -> (Vec<u16>, usize) {
+    let (mut heights, mut finest) = (Vec::new(), MAX_LEVELS);
+    loop {
+        match reader.want().unwrap() {
+            Want::Row(r) => {
+                finest = finest.min(r.level);
+                reader.feed(view(plane, s, r.level, r.band, r.row).unwrap()).unwrap();
+            }
+            Want::Draw => heights.extend_from_slice(reader.draw().unwrap().unwrap()),
+            Want::Done => return (heights, finest),
+            Want::Ended => panic!("a map's rows are refused"),
+        }
+    }
+}
+
+#[test]
+fn distant_ground() {
+    for s in shapes(19, 14) {
+        let (heights, n) = (map(19, 14), 19 * 14);
+        let (mut plane, mut own, mut work) = (vec![0; n], vec![0; n], vec![0; n]);
+        map_forward(&heights, s, &mut plane, &mut work).unwrap();
+        for stop in 1..=s.levels {
+            let (columns, rows) = level_size(s, stop).unwrap();
+            map_forward(&heights, Shape { levels: stop, ..s }, &mut own, &mut work).unwrap();
+            let ll = |i: usize| own[i / columns * 19 + i % columns].clamp(0, 65_535) as u16;
+            let (drawn, finest) = read_all(OwnedReader::stopping_at(s, stop).unwrap(), s, &plane);
+            assert_eq!(drawn, (0..columns * rows).map(ll).collect::<Vec<_>>());
+            assert!(finest > stop || stop == s.levels);
+        }
+        assert_eq!(level_size(s, 0).unwrap_err().to_string(), "the level is not 1 to the map's number of levels (question 17)");
+        assert_eq!(OwnedReader::stopping_at(s, s.levels + 1).unwrap_err().number, 17);
+    }
+}

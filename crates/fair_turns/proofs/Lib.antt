@@ -1,3 +1,4 @@
 pub mod Projection
 pub mod Fed
 pub mod Standing
+pub mod Stopping

@@ -1,0 +1,3 @@
+pub mod LastLists
+pub mod LevelsOn
+pub mod Distant

@@ -1,0 +1,2 @@
+pub mod LastLists
+pub mod Distant
