@@ -199,7 +199,7 @@ static void whole_maps(int round)
 /* Every stream gives the plane of the whole-map call, or the map again. */
 static void compare_streams(const Streams *s)
 {
-    void (*const writers[])(void) = { s->plain_write, s->proved_rows, s->proved_runs, s->proved_runs_ahead };
+    void (*const writers[])(void) = { s->plain_write, s->proved_rows, s->proved_runs, s->proved_runs_on_8 };
     void (*const readers[])(void) = { s->plain_read, s->proved_read };
     for (int k = 0; k < WRITERS; k++) {
         memset(at.other, 0, at.n * sizeof *at.other);
@@ -220,7 +220,7 @@ static void streams(const Streams *s, int round)
     at.writer[0].times[round] = timed(s->plain_write);
     at.writer[1].times[round] = timed(s->proved_rows);
     at.writer[2].times[round] = timed(s->proved_runs);
-    at.writer[3].times[round] = timed(s->proved_runs_ahead);
+    at.writer[3].times[round] = timed(s->proved_runs_on_8);
     at.reader[0].times[round] = timed(s->plain_read);
     at.reader[1].times[round] = timed(s->proved_read);
 }
@@ -292,7 +292,7 @@ static double mark(double wanted) { return at.width < 1025 ? 0 : wanted; }
 
 static void print(void)
 {
-    static const char *const writers[] = { "row-wise C", "proved, a row at a time", "proved, runs of 64", "the same, drawn late" };
+    static const char *const writers[] = { "row-wise C", "proved, a row at a time", "proved, runs of 64", "the same, drawn on 8" };
     static const char *const readers[] = { "row-wise C", "proved" };
     printf("\n%zu x %zu heights by the %s at %d levels, ns a height, %d rounds with all in turn: median (best)\n", at.width, at.height, filter_name,
            LEVELS, ROUNDS);
