@@ -2,3 +2,4 @@ pub mod Rowwise
 pub mod Passes
 pub mod ByFilter
 pub mod LevelPasses
+pub mod Sweep
