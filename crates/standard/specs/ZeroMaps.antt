@@ -11,7 +11,7 @@ use Rattle.lifting.specs.FiveThree.{fiveThreeFilter}
 use Rattle.wavelet.specs.Limits.{range}
 use Rattle.wavelet.specs.Bands.{Grid}
 use Rattle.wavelet.specs.Maps.{IsMap, everyCell, valueFits}
-use Rattle.origin_zero.specs.Plane.{planeCell, levelAt, mapBack}
+use Rattle.standard.specs.ZeroPlane.{planeCell, levelAt, mapBack}
 
 -- plane x is that map's, at L levels: T.800's whole numbers, at every place
 pub record HasPlane (L W H : ℕ) (g x : Grid) : Type 0 where

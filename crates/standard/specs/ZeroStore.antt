@@ -1,6 +1,6 @@
 -- The line store of a writer or a reader: "4 × (W(0) + ... + W(L−1)) numbers". Document 01, "The writer".
 use Prim.Native.Nat.{ℕ, zero, suc, _+_, _*_}
-use Rattle.origin_zero.specs.Levels.{size}
+use Rattle.standard.specs.ZeroLevels.{size}
 
 -- W(0) + ... + W(L−1)
 unfoldable pub widths : ℕ → ℕ → ℕ

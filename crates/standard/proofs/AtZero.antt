@@ -26,11 +26,11 @@ use Rattle.wavelet.proofs.GridLaws.{row-below}
 use Rattle.wavelet.proofs.LevelTheory.{Same, SameBands, level-back-reads, level-has, subband-same, placed, bandIn, plane-at, map-back-at}
 use Rattle.wavelet.proofs.LevelTheory.{over-same, same-low, same-bands, plane-reads}
 use Rattle.wavelet.proofs.MapTheorems.{cells-same}
-use Rattle.origin_zero.specs.Bands as bands
-use Rattle.origin_zero.specs.Levels as levels
-use Rattle.origin_zero.specs.Plane as plane
-use Rattle.origin_zero.specs.Maps as maps
-use Rattle.origin_zero.proofs.PlaneAtZero as theory
+use Rattle.standard.specs.ZeroBands as bands
+use Rattle.standard.specs.ZeroLevels as levels
+use Rattle.standard.specs.ZeroPlane as plane
+use Rattle.standard.specs.ZeroMaps as maps
+use Rattle.standard.proofs.PlaneAtZero as theory
 
 -- ---- sides
 pub next-zero : (N : ℕ) → next (side 0 N) ≡ side 0 (line.count lo N)

@@ -10,7 +10,7 @@ use Rattle.wavelet.specs.Limits.{maxWidth, maxHeight, maxLevels}
 use Rattle.wavelet.specs.Bands.{Band}
 use Rattle.wavelet.specs.Questions.{ask, within}
 use Rattle.wavelet.specs.ViewCall.{named, keptAt}
-use Rattle.origin_zero.specs.View.{bandRows, bandColumns, bandStart}
+use Rattle.standard.specs.ZeroView.{bandRows, bandColumns, bandStart}
 
 -- Is r a row of this band of level k? "A band with no row or no column has no band row."
 unfoldable pub bandRowExists : ℕ → ℕ → ℕ → ℕ → Band → ℕ → Bool

@@ -8,7 +8,7 @@ use Rattle.numbers.specs.Signal.{pick, both}
 use Rattle.lifting.specs.Line.{lo, count}
 use Rattle.wavelet.specs.Order.{inTurn}
 use Rattle.wavelet.specs.Steps.{Step, draw, feedAll}
-use Rattle.origin_zero.specs.Order.{setRows}
+use Rattle.standard.specs.ZeroOrder.{setRows}
 
 -- "A complete set makes rows 2n−1 and 2n; set 0 makes row 0 only; the last set of an even height also makes the last row." "Made rows are used before another
 -- set is asked for."

@@ -1,4 +1,5 @@
--- The band rows of a map whose origin is (0, 0) are made in the order of document 01, and its reader has the steps of document 01. Assumes nothing.
+-- The band rows of a map whose origin is (0, 0) are made in the order of document 01, and its reader has the steps of document 01: at the 5/3's own
+-- look-ahead. Assumes nothing.
 use mathlib.Core.Path.{_≡_, refl, sym, ap, ap₂, _∙_, fun-ext}
 use mathlib.Core.Bool.{Bool, true, false}
 use mathlib.Core.List.{List, [], _∷_, _++_}
@@ -11,15 +12,16 @@ use Rattle.numbers.specs.Signal.{pick, both}
 use Rattle.lifting.specs.Line.{Half, lo, hi}
 use Rattle.lifting.specs.Line as line
 use Rattle.lifting.specs.Grid.{Side, side, count}
+use Rattle.lifting.specs.FiveThree.{fiveThreeFilter}
 use Rattle.lifting.proofs.AtZero.{count-zero}
 use Rattle.wavelet.specs.Bands.{Band, across, down}
 use Rattle.wavelet.specs.Order.{handedOut, inTurn, firstSet, lastSet, setRow, setHas, rowsOf, setRows, madeBy, unmade, closing, made}
 use Rattle.wavelet.proofs.StepLaws.{set-one}
 use Rattle.wavelet.specs.Steps.{Step, draw, feedAll, setsBefore, rowSteps, setSteps, steps}
-use Rattle.origin_zero.specs.Order as order
-use Rattle.origin_zero.specs.Steps.{opensSet}
-use Rattle.origin_zero.specs.Steps as step
-use Rattle.origin_zero.proofs.AtZero.{next-zero}
+use Rattle.standard.specs.ZeroOrder as order
+use Rattle.standard.specs.ZeroSteps.{opensSet}
+use Rattle.standard.specs.ZeroSteps as step
+use Rattle.standard.proofs.AtZero.{next-zero}
 
 -- ---- sets
 pub first-set-zero : (N : ℕ) (h : Half) → firstSet (side 0 N) h ≡ 0
@@ -98,7 +100,7 @@ closing-zero (suc l) k w m =
       closing-zero l (suc k) (line.count lo w) (line.count lo m),
     ) refl
 
-pub made-zero : (W L rows : ℕ) (finished : Bool) → made 1 (side 0 W) 0 L rows finished ≡ order.made W L rows finished
+pub made-zero : (W L rows : ℕ) (finished : Bool) → made (fiveThreeFilter .ahead) (side 0 W) 0 L rows finished ≡ order.made W L rows finished
 unfolding made order.made
 made-zero W L rows finished =
     ap₂ (λ f l. inTurn rows f ++ pick finished l []) (fun-ext λ r. made-by-zero L 1 W r) (closing-zero L 1 W rows)
@@ -176,7 +178,7 @@ set-steps-zero (suc l) k w h n =
       set-rows-zero (suc l) k w h n,
     ) refl
 
-pub steps-zero : (W H L : ℕ) → steps 1 (side 0 W) (side 0 H) L ≡ step.steps W H L
+pub steps-zero : (W H L : ℕ) → steps (fiveThreeFilter .ahead) (side 0 W) (side 0 H) L ≡ step.steps W H L
 unfolding steps step.steps
 steps-zero W H L =
     ap (inTurn H)

@@ -12,11 +12,11 @@ use Rattle.wavelet.specs.Levels.{sideAt}
 use Rattle.wavelet.specs.View.{bandRows, bandColumns, bandStart}
 use Rattle.wavelet.specs.ViewCall.{bandRowExists, viewQuestion, viewStart, viewLength, viewRow, viewPlace}
 use Rattle.wavelet.specs.Store.{widths, storeLength}
-use Rattle.origin_zero.specs.Levels.{size}
-use Rattle.origin_zero.specs.View as view
-use Rattle.origin_zero.specs.ViewCall as call
-use Rattle.origin_zero.specs.Store as store
-use Rattle.origin_zero.proofs.AtZero.{side-zero}
+use Rattle.standard.specs.ZeroLevels.{size}
+use Rattle.standard.specs.ZeroView as view
+use Rattle.standard.specs.ZeroViewCall as call
+use Rattle.standard.specs.ZeroStore as store
+use Rattle.standard.proofs.AtZero.{side-zero}
 
 pub length-zero : (k N : ℕ) → sideAt k (side 0 N) .length ≡ size k N
 length-zero k N = ap (λ (S : Side). S .length) (side-zero k N)

@@ -3,7 +3,7 @@ use Prim.Native.Nat.{ℕ, zero, suc}
 use lib.IntN.{ℤ}
 use Rattle.lifting.specs.Line.{lo, count}
 use Rattle.wavelet.specs.Bands.{Grid, Band, LL}
-use Rattle.origin_zero.specs.Bands.{subband}
+use Rattle.standard.specs.ZeroBands.{subband}
 
 -- W(0) = W, W(k) = ⌈W(k−1) / 2⌉, and H(k) likewise
 unfoldable pub size : ℕ → ℕ → ℕ

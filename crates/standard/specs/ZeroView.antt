@@ -2,7 +2,7 @@
 use Prim.Native.Nat.{ℕ, _+_, _-_, _*_}
 use Rattle.lifting.specs.Line.{count}
 use Rattle.wavelet.specs.Bands.{Band, LL, HL, LH, HH, across, down}
-use Rattle.origin_zero.specs.Levels.{size}
+use Rattle.standard.specs.ZeroLevels.{size}
 
 -- rows and columns of a band of level k, from 1: what level k − 1 has, parted. "LL and LH rows have W(k) values, HL and HH rows W(k−1) − W(k)."
 unfoldable pub bandRows : ℕ → ℕ → Band → ℕ

@@ -7,8 +7,8 @@ use borrow.Author.Tests.{lt-ltb, le-ltb}
 use Rattle.lifting.specs.Line.{Half, lo, hi, count}
 use Rattle.wavelet.specs.Bands.{Grid, Band, LL, HL, LH, HH, across, down, bandOf}
 use Rattle.wavelet.proofs.LevelTheory.{over}
-use Rattle.origin_zero.specs.Bands.{subband, levelBack}
-use Rattle.origin_zero.specs.Plane.{halfAt, placeIn, planeCell, mapBack}
+use Rattle.standard.specs.ZeroBands.{subband, levelBack}
+use Rattle.standard.specs.ZeroPlane.{halfAt, placeIn, planeCell, mapBack}
 
 -- where number n of half h of a side of N stands in the plane: the low half at the front, the high half after it
 unfoldable pub placed : Half → ℕ → ℕ → ℕ

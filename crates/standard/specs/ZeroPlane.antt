@@ -6,7 +6,7 @@ use Rattle.numbers.specs.Signal.{pick, both}
 use Rattle.lifting.specs.Line.{Half, lo, hi, count}
 use Rattle.wavelet.specs.Bands.{Grid, LL, HL, LH, HH, bandOf}
 use Rattle.wavelet.specs.Plane.{flat}
-use Rattle.origin_zero.specs.Bands.{subband, levelBack}
+use Rattle.standard.specs.ZeroBands.{subband, levelBack}
 
 -- which half a row or column of the plane belongs to, of a level whose side is N long, and its number in that half
 unfoldable pub halfAt : ℕ → ℕ → Half

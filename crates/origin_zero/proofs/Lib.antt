@@ -1,4 +1,0 @@
-pub mod PlaneAtZero
-pub mod AtZero
-pub mod ViewAtZero
-pub mod OrderAtZero

@@ -1,0 +1,16 @@
+pub mod Line
+pub mod Transform
+pub mod Joins
+pub mod WriterOrder
+pub mod ReaderSteps
+pub mod Schedule
+pub mod Fourteen
+pub mod ZeroBands
+pub mod ZeroLevels
+pub mod ZeroPlane
+pub mod ZeroMaps
+pub mod ZeroView
+pub mod ZeroViewCall
+pub mod ZeroStore
+pub mod ZeroOrder
+pub mod ZeroSteps
