@@ -9,7 +9,6 @@ _terrain()
         'shade:the ground as people see it'
         'bands:a picture of the coefficients'
         'near:how near each cell of the coarse ground is to changing'
-        'far:the distant ground of a map'
         'convert:between PGM, PNG and RAW'
         'tile:a map cut into tiles, and back'
         'list:every band row as a line of numbers'
@@ -30,7 +29,7 @@ _terrain()
     check) options+=(--seed) ;;
     convert) options+=(--from --to --size) ;;
     tile) options+=(--size --join) ;;
-    bands | far | list)
+    bands | list)
         if ((CURRENT == 3)); then compadd -- 1 2 3 4 5 --help && return; fi
         ;;
     help) _describe command commands && return ;;
