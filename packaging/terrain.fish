@@ -1,0 +1,21 @@
+# fish completion of the command terrain: commands, options, files by what a command takes.
+set -l commands check sum compare shade bands near convert tile list rewrite help
+complete -c terrain -n "not __fish_seen_subcommand_from $commands" -f -a check -d "there and back through writer and reader"
+complete -c terrain -n "not __fish_seen_subcommand_from $commands" -f -a sum -d "one line that is equal exactly when two maps are"
+complete -c terrain -n "not __fish_seen_subcommand_from $commands" -f -a compare -d "how many heights differ, where and by how much"
+complete -c terrain -n "not __fish_seen_subcommand_from $commands" -f -a shade -d "the ground as people see it"
+complete -c terrain -n "not __fish_seen_subcommand_from $commands" -f -a bands -d "a picture of the coefficients"
+complete -c terrain -n "not __fish_seen_subcommand_from $commands" -f -a near -d "how near each cell of the coarse ground is to changing"
+complete -c terrain -n "not __fish_seen_subcommand_from $commands" -f -a convert -d "between PGM, PNG and RAW"
+complete -c terrain -n "not __fish_seen_subcommand_from $commands" -f -a tile -d "a map cut into tiles, and back"
+complete -c terrain -n "not __fish_seen_subcommand_from $commands" -f -a list -d "every band row as a line of numbers"
+complete -c terrain -n "not __fish_seen_subcommand_from $commands" -f -a rewrite -d "the map in one fixed form"
+complete -c terrain -n "not __fish_seen_subcommand_from $commands" -f -a help -d "more about a command"
+complete -c terrain -l help -d "what a command does, with examples"
+complete -c terrain -n "not __fish_seen_subcommand_from $commands" -l version -d "the version of the library"
+complete -c terrain -n "__fish_seen_subcommand_from check" -l seed -x
+complete -c terrain -n "__fish_seen_subcommand_from convert tile" -l size -x
+complete -c terrain -n "__fish_seen_subcommand_from convert" -l from -x -a "pgm png png8 raw raw-big"
+complete -c terrain -n "__fish_seen_subcommand_from convert" -l to -x -a "pgm png png8 raw raw-big"
+complete -c terrain -n "__fish_seen_subcommand_from tile" -l join
+complete -c terrain -n "__fish_seen_subcommand_from bands list" -a "1 2 3 4 5"
