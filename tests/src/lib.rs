@@ -11,7 +11,6 @@ pub mod listing;
 pub mod maps;
 pub mod nine_seven;
 pub mod order;
-pub mod play;
 pub mod programs;
 pub mod random;
 pub mod reader;

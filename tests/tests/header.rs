@@ -222,7 +222,7 @@ fn the_rust_wrapper_declares_the_same_calls() {
 }
 
 /// Arguments that have another name in the source than in the header.
-const OTHER_NAMES: [(&str, &str); 4] = [("plane_len", "len"), ("length", "count"), ("columns", "across"), ("rows", "down")];
+const OTHER_NAMES: [(&str, &str); 2] = [("plane_len", "len"), ("length", "count")];
 
 #[test]
 fn the_rattle_source_has_the_same_calls() {

@@ -20,7 +20,6 @@ pub enum Call {
     WriterDraw,
     WriterWaits,
     Finish,
-    LevelSize,
     ReaderSetUp,
     Want,
     Feed,
@@ -35,7 +34,7 @@ pub enum Call {
 pub struct Question {
     /// The call that was turned away.
     pub call: Call,
-    /// The question's number: 1 to 14 or 17 to 21.
+    /// The question's number: 1 to 14 or 18 to 21.
     pub number: u32,
 }
 
@@ -60,8 +59,9 @@ impl Question {
             (4, _) => "the number of levels is not 1 to 5, by the 9/7 1 to 4",
             (5, Call::Line) => "the output is shorter than the line",
             (5, Call::Profile) => "the output is shorter than the row",
-            (5, Call::WriterSetUp) => "the line store is too short: lend it store_length(shape) numbers",
-            (5, Call::ReaderSetUp) => "the line store is too short: lend it reader_store_length(shape) numbers",
+            (5, Call::WriterSetUp | Call::ReaderSetUp) => {
+                "the line store is too short: lend it store_length(shape) numbers"
+            }
             (5, Call::MapForward | Call::MapBackward | Call::MapMend) => {
                 "heights, plane or work area is shorter than width times height"
             }
@@ -85,8 +85,6 @@ impl Question {
             (14, Call::Line) => "no line has this value: alone at an odd coordinate, it is odd",
             (14, Call::MapBackward) => "no map has this plane",
             (14, _) => "no map has the rows that were fed: the reader has ended",
-            (17, Call::LevelSize) => "the level is not 1 to the map's number of levels",
-            (17, _) => "the stop is not 1 to the map's number of levels",
             (18, _) => "there is no such filter: 0 is the 5/3, 1 the 9/7",
             (19, _) => "the rectangle is empty or leaves the map",
             (20, _) => "the step is not 1 to 64",
