@@ -198,6 +198,19 @@ TERRAIN_CHECKED
 uint32_t terrain_map_mend(const uint16_t *heights, size_t heights_len, size_t width, size_t height, size_t levels,
                           terrain_rectangle rectangle, int32_t *plane, size_t plane_len, int32_t *work, size_t work_len);
 
+/* A smaller download: the plane of a map by the 5/3, from the origin, with each HL, LH and HH value rounded toward zero to the nearest
+ * multiple of `step`, 1 to 64; LL and the surplus stay. Any 32-bit number is rounded. Heights that are rebuilt from such a plane, each value
+ * limited to its level's range as it is made, are off by no more than `terrain_error_bound` says. A step of 1 changes nothing.
+ *
+ * It answers 2, 3, 4 (1 to 5 levels) as above, 20 (the step), then 5 (the plane is too short). A call that is turned away changes nothing. */
+TERRAIN_CHECKED
+uint32_t terrain_round(int32_t *plane, size_t plane_len, size_t width, size_t height, size_t levels, size_t step);
+
+/* By how much such a height can be off, from a map's plane of `levels` levels rounded by `step`. It is a promise for every map: most heights
+ * are off by far less. 4 (levels), 20 (step): *bound stays. */
+TERRAIN_CHECKED
+uint32_t terrain_error_bound(size_t levels, size_t step, size_t *bound);
+
 /* Where row `row` of a band (0 LL, 1 HL, 2 LH, 3 HH) of a level (1 the finest) stands in a plane of `plane_len` elements: its first
  * element and how many there are. Rows of a band are counted from 0, wherever the map starts. The place is the same by either filter, so
  * the shape's is not read: 2, 3, 4 (1 to 5 levels), 5 as above; 6: there is no such band row. Where a question says no, *start and *length
@@ -346,6 +359,7 @@ uint32_t terrain_turns_give(uint64_t turns[4], size_t *reader);
 #define TERRAIN_BAD_LEVEL 17
 #define TERRAIN_BAD_FILTER 18
 #define TERRAIN_BAD_RECTANGLE 19
+#define TERRAIN_BAD_STEP 20
 #define TERRAIN_BAD_READER 21
 
 /* What the question of that number says; STUDIOS.md says what to do about each. It is this header's own and not in the archive. */
@@ -372,7 +386,7 @@ TERRAIN_INLINE const char *terrain_sentence(uint32_t number)
         "the level or the stop is not one of the map's levels",                        /* 17 */
         "there is no such filter",                                                     /* 18 */
         "the rectangle is empty or leaves the map",                                    /* 19 */
-        NULL,
+        "the step is not 1 to 64",                                                     /* 20 */
         "the reader's number is not 0 to 15"                                           /* 21 */
     };
     const char *said = number < sizeof sentences / sizeof *sentences ? sentences[number] : NULL;

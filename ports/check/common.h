@@ -40,4 +40,5 @@ void limits(void);
 void turn_givers(void);
 void nearest_changes(void);
 void strokes(void);
+void roundings(void);
 #endif

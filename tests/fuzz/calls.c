@@ -628,6 +628,33 @@ static void band_row(void)
     else HOLDS(*start == place(&m, level, band, row) && *length == across(&m, level, band));
 }
 
+/* ---- rounding and its figure */
+
+static void rounding(void)
+{
+    static int32_t plane[CAP + 8], expected[CAP + 8];
+    Map m = any_map();
+    m.across.start = m.down.start = m.filter = 0;
+    size_t w = m.across.length, h = m.down.length, n = w <= MOST_WIDTH && h <= MOST_HEIGHT && w * h <= CAP ? w * h : 64;
+    size_t len = below(16) ? n + below(3) : n ? n - 1 : 0, step = below(8) ? 1 + below(64) : number();
+    uint32_t seed = byte(), first = asked(&m, 0, SIZE_MAX);
+    for (size_t i = 0; i < len; i++) plane[i] = below(8) ? (int32_t)(seed = seed * 1664525u + 1013904223u) >> (i & 16) : word();
+    memcpy(expected, plane, sizeof expected);
+    if (!first && (step < 1 || step > 64)) first = 20;
+    if (!first && len < w * h) first = 5;
+    if (!first) model_round(expected, &m, (int64_t)step);
+    int32_t *lent = area_lend(&out_area, plane, len * sizeof *plane, at_end());
+    uint32_t answer = terrain_round(lent, len, w, h, m.levels, step);
+    area_back(&out_area);
+    HOLDS(answer == first && area_is(&out_area, expected));
+    size_t *bound = area_lend(&small_area, NULL, sizeof *bound, at_end());
+    answer = terrain_error_bound(m.levels, step, bound);
+    area_back(&small_area);
+    HOLDS(answer == (m.levels < 1 || m.levels > MOST_LEVELS ? 4u : step < 1 || step > 64 ? 20u : 0u));
+    if (answer) HOLDS(area_unset(&small_area, 0));
+    else HOLDS(*bound == model_bound(m.levels, step));
+}
+
 /* ---- turns: a turn-giver that is set up, marked, cleared and scribbled in; the model looks at the readers one by one */
 
 static uint64_t giver[TERRAIN_TURNS_LENGTH];
@@ -714,7 +741,7 @@ static void call(void)
     case 23: { uint64_t wanted[5]; want(s, wanted); break; }
     case 24: foreign(s); break;
     case 25: scribble(s); break;
-    case 26: line(); break;
+    case 26: if (below(2)) line(); else rounding(); break;
     case 27: map(); break;
     case 28: if (below(2)) band_row(); else turn(); break;
     case 29: store_lengths(); break;

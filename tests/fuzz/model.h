@@ -199,6 +199,25 @@ static inline size_t model_store(const Map *m)
 static inline size_t model_writer_store(const Map *m)
 {
     return streamable(m) ? 0 : stretches(m, m->levels) + m->across.length;
+/* ---- rounding, and its figure: the 5/3, origin 0 */
+
+static inline int in_last_ll(const Map *m, size_t i)
+{
+    size_t w = m->across.length;
+    return i / w < side(m->down, m->levels).length && i % w < side(m->across, m->levels).length;
+}
+
+static inline void model_round(int32_t *plane, const Map *m, int64_t step)
+{
+    for (size_t i = 0; i < m->across.length * m->down.length; i++)
+        if (!in_last_ll(m, i)) plane[i] = (int32_t)(plane[i] / step * step); /* C's division goes toward zero */
+}
+
+static inline size_t model_bound(size_t levels, size_t step)
+{
+    size_t e = step - 1, f = 0, b = 2 * e + (e + 1) / 2;
+    while (levels--) f = f + e + (e + 1) / 2 + b + (b + 1) / 2;
+    return f;
 }
 
 /* The numbers in a row of a band, and the rows of a band. */

@@ -16,6 +16,7 @@ pub mod programs;
 pub mod random;
 pub mod reader;
 pub mod reference;
+pub mod tolerant;
 pub mod writer;
 
 use terrain::{Call, Question};

@@ -59,7 +59,7 @@ mod writer;
 mod owned;
 
 pub use line::{ccsds_line_backward, ccsds_line_forward, line_backward, line_forward};
-pub use map::{band_row, map_backward, map_forward, map_mend, view, Rectangle, Shape};
+pub use map::{band_row, error_bound, map_backward, map_forward, map_mend, round, view, Rectangle, Shape};
 pub use nearest_change::{nearest_change, Change};
 pub use picture::{picture_head, picture_row};
 pub use profile::profile;

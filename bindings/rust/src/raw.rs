@@ -80,6 +80,15 @@ mod c {
             work: *mut i32,
             work_len: usize,
         ) -> u32;
+        pub fn terrain_round(
+            plane: *mut i32,
+            plane_len: usize,
+            width: usize,
+            height: usize,
+            levels: usize,
+            step: usize,
+        ) -> u32;
+        pub fn terrain_error_bound(levels: usize, step: usize, bound: *mut usize) -> u32;
         pub fn terrain_map_backward(
             plane: *const i32,
             plane_len: usize,
@@ -214,6 +223,14 @@ pub fn map_mend(
     let (from, to, between) = (heights.as_ptr(), plane.as_mut_ptr(), work.as_mut_ptr());
     let (n, m, k) = (heights.len(), plane.len(), work.len());
     unsafe { c::terrain_map_mend(from, n, width, height, levels, rectangle, to, m, between, k) }
+}
+
+pub fn round(plane: &mut [i32], width: usize, height: usize, levels: usize, step: usize) -> u32 {
+    unsafe { c::terrain_round(plane.as_mut_ptr(), plane.len(), width, height, levels, step) }
+}
+
+pub fn error_bound(levels: usize, step: usize, bound: &mut usize) -> u32 {
+    unsafe { c::terrain_error_bound(levels, step, bound) }
 }
 
 pub fn map_backward(plane: &[i32], shape: Shape, heights: &mut [u16], work: &mut [i32]) -> u32 {

@@ -168,6 +168,24 @@ fn a_nearest_change() {
 }
 
 #[test]
+fn a_rounded_plane() {
+    let (s, heights, n) = (Shape::new(19, 14, 3), map(19, 14), 19 * 14);
+    let (mut exact, mut work) = (vec![0; n], vec![0; n]);
+    map_forward(&heights, s, &mut exact, &mut work).unwrap();
+    for step in [1, 2, 8, 64] {
+        let mut plane = exact.clone();
+        round(&mut plane, s, step).unwrap();
+        for (before, after) in exact.iter().zip(&plane) {
+            assert!((before - after).abs() < step as i32 && before.abs() >= after.abs());
+        }
+        assert_eq!(plane == exact, step == 1);
+    }
+    assert_eq!((error_bound(1, 64), error_bound(5, 1)), (Ok(332), Ok(0)));
+    assert_eq!(round(&mut exact, s, 65).unwrap_err().to_string(), "the step is not 1 to 64 (question 20)");
+    assert_eq!(error_bound(6, 0).unwrap_err().number, 4);
+}
+
+#[test]
 fn the_questions() {
     let number = |e: Question| e.number;
     let mut store = [0; 40];

@@ -15,3 +15,5 @@ pub mod BackLaws
 -- Behind the calls.
 pub mod CallLaws
 pub mod PairMade
+pub mod TolerantColumns
+pub mod TolerantCalls

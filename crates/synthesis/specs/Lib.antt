@@ -2,3 +2,4 @@ pub mod Columns
 pub mod Work
 pub mod Stands
 pub mod Back
+pub mod Tolerant

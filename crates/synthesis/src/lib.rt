@@ -4,4 +4,5 @@ pub mod back;
 mod neighbours;
 mod range;
 mod rows;
+mod tolerant;
 mod work;

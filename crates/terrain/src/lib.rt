@@ -4,6 +4,7 @@ mod line;
 mod map;
 mod near;
 mod reader_calls;
+mod rounding_calls;
 mod smooth;
 mod strokes_calls;
 mod turns_calls;

@@ -1,0 +1,4 @@
+pub mod LevelApart
+pub mod LimitedWords
+pub mod Rounded
+pub mod RoundingError
