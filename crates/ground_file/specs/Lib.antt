@@ -1,0 +1,5 @@
+pub mod Groups
+pub mod File
+pub mod Maps
+pub mod Samples
+pub mod Local

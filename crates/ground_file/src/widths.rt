@@ -1,0 +1,68 @@
+// The widths of a group's parts. The module is private, as `parts` is.
+ghost use mathlib.Core.Path.{_≡_};
+ghost use mathlib.Core.List.{[], _∷_};
+ghost use Prim.Native.Nat.{_+_, _≤_};
+ghost use lib.ListN.{length, take, drop};
+ghost use Rattle.ground_file.specs.Groups.{widthOf, codeOf};
+ghost use Rattle.ground_file.specs.Local.{largestOf, codeFor};
+
+pub fn width_of(code: usize) -> usize
+    ensures { λ r. ⌜ r ≡ widthOf code ⌝ }
+{
+    if code <= 11 {
+        return code;
+    }
+    if code <= 12 {
+        return 13;
+    }
+    if code <= 13 {
+        return 16;
+    }
+    if code <= 14 {
+        return 20;
+    }
+    28
+}
+
+// The code of the smallest width that holds numbers of so many bits.
+fn code_for(bits: usize) -> usize
+    ensures { λ r. ⌜ r ≡ codeFor bits ⌝ }
+{
+    if bits <= 11 {
+        return bits;
+    }
+    if bits <= 13 {
+        return 12;
+    }
+    if bits <= 16 {
+        return 13;
+    }
+    if bits <= 20 {
+        return 14;
+    }
+    15
+}
+
+// The code of the smallest width that holds a number.
+pub fn code_of(largest: u32) -> usize
+    ensures { λ r. ⌜ r ≡ codeOf (largest ∷ []) ⌝ }
+{
+    code_for((32 - u32::leading_zeros(largest)) as usize)
+}
+
+// The largest of n numbers from number `from` on; 0 where there are none. They are looked at from the last on.
+pub fn largest(numbers: &[u32], from: usize, n: usize) -> u32
+    requires { ⌜ from + n ≤ length (now numbers) ⌝ }
+    ensures { λ r. ⌜ r ≡ largestOf (take n (drop from (now (numbers .entry)))) ⌝ }
+{
+    let mut most = 0;
+    let mut i = n;
+    while 0 < i {
+        i -= 1;
+        let x = numbers[from + i];
+        if most < x {
+            most = x;
+        }
+    }
+    most
+}
