@@ -15,8 +15,6 @@ LIBDIR ?= $(PREFIX)/lib
 MANDIR ?= $(PREFIX)/share/man
 DOCDIR ?= $(PREFIX)/share/doc/terrain
 COMPLETIONDIR ?= $(PREFIX)/share/bash-completion/completions
-ZSHDIR ?= $(PREFIX)/share/zsh/site-functions
-FISHDIR ?= $(PREFIX)/share/fish/vendor_completions.d
 # beside BINDIR, where the command looks for its programs
 PROGRAMDIR := $(BINDIR)/../libexec/terrain
 PKGCONFIGDIR := $(LIBDIR)/pkgconfig
@@ -120,17 +118,15 @@ install-library: proved
 	cp -r examples '$(DESTDIR)$(DOCDIR)'
 
 install-command: proved target/install/terrain $(PROGRAMS)/list $(PROGRAMS)/rewrite
-	install -d '$(DESTDIR)$(BINDIR)' '$(DESTDIR)$(PROGRAMDIR)' '$(DESTDIR)$(MANDIR)/man1' '$(DESTDIR)$(COMPLETIONDIR)' '$(DESTDIR)$(ZSHDIR)' '$(DESTDIR)$(FISHDIR)'
+	install -d '$(DESTDIR)$(BINDIR)' '$(DESTDIR)$(PROGRAMDIR)' '$(DESTDIR)$(MANDIR)/man1' '$(DESTDIR)$(COMPLETIONDIR)'
 	install -m 755 target/install/terrain '$(DESTDIR)$(BINDIR)'
 	install -m 755 $(PROGRAMS)/list $(PROGRAMS)/rewrite '$(DESTDIR)$(PROGRAMDIR)'
 	install -m 644 docs/terrain.1 '$(DESTDIR)$(MANDIR)/man1'
 	install -m 644 packaging/terrain.bash '$(DESTDIR)$(COMPLETIONDIR)/terrain'
-	install -m 644 packaging/terrain.zsh '$(DESTDIR)$(ZSHDIR)/_terrain'
-	install -m 644 packaging/terrain.fish '$(DESTDIR)$(FISHDIR)/terrain.fish'
 
 uninstall:
 	rm -f '$(DESTDIR)$(INCLUDEDIR)/terrain.h' '$(DESTDIR)$(PKGCONFIGDIR)/terrain.pc' '$(DESTDIR)$(PKGCONFIGDIR)/terrain-shared.pc'
 	rm -f '$(DESTDIR)$(LIBDIR)/libterrain.a' '$(DESTDIR)$(LIBDIR)/libterrain.so.0' '$(DESTDIR)$(LIBDIR)/libterrain.so'
 	rm -f '$(DESTDIR)$(BINDIR)/terrain' '$(DESTDIR)$(MANDIR)/man1/terrain.1'
 	rm -rf '$(DESTDIR)$(CMAKEDIR)' '$(DESTDIR)$(PROGRAMDIR)' '$(DESTDIR)$(DOCDIR)'
-	rm -f '$(DESTDIR)$(COMPLETIONDIR)/terrain' '$(DESTDIR)$(ZSHDIR)/_terrain' '$(DESTDIR)$(FISHDIR)/terrain.fish'
+	rm -f '$(DESTDIR)$(COMPLETIONDIR)/terrain'

@@ -1,6 +1,6 @@
-/* Times of whole programs that read a map and write its listing, or with 0 levels the map in its fixed form: each program named is run in turn in
-   each round, its input from the file, its output to /dev/null. Their outputs are compared first. The map is a hill with a little noise. Usage:
-   programs SIDE LEVELS LARGEST PROGRAM.., the largest value 65535 (two bytes a height) or 255 (one byte). */
+/* Times of whole programs that read a map and write its listing: each program named is run in turn in each round, its input from the file,
+   its output to /dev/null. Their outputs are compared first. The map is a hill with a little noise. Usage: programs SIDE LEVELS LARGEST PROGRAM..,
+   the largest value 65535 (two bytes a height) or 255 (one byte). */
 #define _POSIX_C_SOURCE 200809L
 #include <fcntl.h>
 #include <stdint.h>
@@ -25,8 +25,7 @@ static long write_map(unsigned side, unsigned levels, unsigned largest)
 {
     FILE *f = fopen(input, "wb");
     if (!f) fail("the map cannot be written");
-    if (levels) fprintf(f, "%u\n", levels);
-    fprintf(f, "P5 %u %u %u\n", side, side, largest);
+    fprintf(f, "%u\nP5 %u %u %u\n", levels, side, side, largest);
     uint32_t seed = 2463534242u;
     for (unsigned r = 0; r < side; r++)
         for (unsigned c = 0; c < side; c++) {
@@ -90,17 +89,16 @@ int main(int argc, char **argv)
     int count = argc - 4;
     if (count < 1 || count > MOST) fail("usage: programs SIDE LEVELS LARGEST PROGRAM..");
     unsigned long side = strtoul(argv[1], 0, 10), levels = strtoul(argv[2], 0, 10), largest = strtoul(argv[3], 0, 10);
-    if (side < 1 || side > 1025 || levels > 5) fail("a program takes 1 to 1,025 columns, and a listing 1 to 5 levels");
+    if (side < 1 || side > 1025 || levels < 1 || levels > 5) fail("a listing takes 1 to 1,025 columns and 1 to 5 levels");
     if (largest != 255 && largest != 65535) fail("the largest value is 255 or 65535");
     long bytes = write_map((unsigned)side, (unsigned)levels, (unsigned)largest);
     for (int p = 0; p < count; p++) {
         run(argv[4 + p], p ? "target/bench/listing.other" : "target/bench/listing.first");
-        if (p && !same("target/bench/listing.first", "target/bench/listing.other")) fail("the outputs differ");
+        if (p && !same("target/bench/listing.first", "target/bench/listing.other")) fail("the listings differ");
     }
     for (int round = 0; round < ROUNDS; round++)
         for (int p = 0; p < count; p++) times[p][round] = run(argv[4 + p], "/dev/null");
-    printf("%s of a %s x %s map at %s levels, largest value %s, %ld bytes, %d rounds\n", levels ? "listing" : "rewriting", argv[1], argv[1], argv[2],
-           argv[3], bytes, ROUNDS);
+    printf("listing of a %s x %s map at %s levels, largest value %s, %ld bytes, %d rounds\n", argv[1], argv[1], argv[2], argv[3], bytes, ROUNDS);
     printf("%-32s %10s %10s %12s %s\n", "program", "median ms", "best ms", "MB/s", "times of the last");
     for (int p = 0; p < count; p++) qsort(times[p], ROUNDS, sizeof(double), by_value);
     for (int p = 0; p < count; p++) {

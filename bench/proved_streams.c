@@ -49,15 +49,18 @@ static void proved_write(size_t run)
 static void proved_rows(void) { proved_write(W); }
 static void proved_runs(void) { proved_write(64); }
 
-/* the same, but drawn only where an offer did not take all of its run: what comes while rows wait goes into the spare row */
-static void proved_runs_ahead(void)
+/* the same, but a draw is tried only where an offer did not take all of its run, or said that a row waits */
+static void proved_runs_on_8(void)
 {
     check(terrain_writer_set_up(state, shape_of(W, H), store, store_len));
     for (size_t at = 0; at < (size_t)W * H;) {
         size_t end = at + 64 < (size_t)W * H ? at + 64 : (size_t)W * H, taken;
-        check(terrain_writer_offer(state, store, store_len, heights + at, end - at, &taken));
-        at += taken;
-        if (at < end) draw_all();
+        uint32_t answer = terrain_writer_offer(state, store, store_len, heights + at, end - at, &taken);
+        if (answer == 0)
+            at += taken;
+        else if (answer != 8)
+            check(answer);
+        if (answer == 8 || at < end) draw_all();
     }
     draw_all();
     check(terrain_writer_finish(state, store, store_len));
@@ -87,5 +90,5 @@ static void ready(void)
 }
 
 const Streams OF_SIDE(streams) = {
-    W, heights, back, plane, &kept, ready, plain_write, plain_read, proved_rows, proved_runs, proved_runs_ahead, proved_read,
+    W, heights, back, plane, &kept, ready, plain_write, plain_read, proved_rows, proved_runs, proved_runs_on_8, proved_read,
 };

@@ -14,7 +14,7 @@ typedef struct {
     int32_t *plane, **kept; /* *kept: a plane for the rows that come out, where results are compared, or NULL */
     void (*ready)(void);    /* once, before the others */
     void (*plain_write)(void), (*plain_read)(void);
-    void (*proved_rows)(void), (*proved_runs)(void), (*proved_runs_ahead)(void), (*proved_read)(void);
+    void (*proved_rows)(void), (*proved_runs)(void), (*proved_runs_on_8)(void), (*proved_read)(void);
 } Streams;
 
 extern const Streams streams_257, streams_1025, streams_2049;

@@ -3,8 +3,8 @@
    with them (plugin.h).
 
    What ran just before a way is worth up to a fifth of its time, by what it leaves in the caches. So each has a fixed one: the row-wise C (by the
-   9/7 the fused C in 64-bit sums), every plug-in and the copy follow the proved calls, the fused C follows the row-wise, also where it zeroes the work
-   area as the proved calls do, the naive C the fused, the proved calls the naive C. And the
+   9/7 the fused C in 64-bit sums), every plug-in and the copy follow the proved calls, the fused C follows the row-wise, the naive C the fused,
+   the proved calls the naive C. And the
    rounds of the streams come after those of the whole maps: between planes the first of the streams, which is the C writer, would be a tenth
    slower, and every ratio to it would look better than it is. A writer's rows go into a plane, as the whole maps' do, and a reader's come from one,
    so that streams too are told as times of the fused C. Last come narrow maps, down to one column.
@@ -23,9 +23,9 @@
 #include <stdlib.h>
 #include <string.h>
 
-enum { OURS = 5, MOST_PLUGINS = 8, MOST = OURS + MOST_PLUGINS, WRITERS = 4, READERS = 2 };
+enum { OURS = 4, MOST_PLUGINS = 8, MOST = OURS + MOST_PLUGINS, WRITERS = 4, READERS = 2 };
 
-/* ---- the ways of a whole map: the proved calls, four in C, the plug-ins */
+/* ---- the ways of a whole map: the proved calls, three in C, the plug-ins */
 
 typedef struct {
     const char *name;
@@ -42,28 +42,14 @@ static const char second[] = "fused C, 64-bit sums", against_second[] = "/ 64-bi
 static const double wanted_of_maps[] = { 1.5, 1.5 }, wanted_of_writers[] = { 0, 1.5, 1.5, 1.5 }, wanted_of_reader = 1.5;
 #endif
 
-/* The fused C, and the work area zeroed after it, which the proved calls promise. */
-static void zeroed_forward(const uint16_t *heights, size_t W, size_t H, int32_t *plane, int32_t *work)
-{
-    fused_forward(heights, W, H, plane, work);
-    memset(work, 0, W * H * sizeof *work);
-}
-
-static void zeroed_backward(const int32_t *plane, size_t W, size_t H, uint16_t *heights, int32_t *work)
-{
-    fused_backward(plane, W, H, heights, work);
-    memset(work, 0, W * H * sizeof *work);
-}
-
 static Way ways[MOST] = {
     { "proved", proved_forward, proved_backward, NULL },
     { second, plain_forward, plain_backward, NULL },
     { "fused C", fused_forward, fused_backward, NULL },
     { "naive C", naive_forward, naive_backward, NULL },
-    { "fused C, work area zeroed", zeroed_forward, zeroed_backward, NULL },
 };
 static int count = OURS;
-enum { PROVED, PLAIN, FUSED, NAIVE, ZEROED };
+enum { PROVED, PLAIN, FUSED, NAIVE };
 
 static void load(const char *path)
 {
@@ -185,9 +171,7 @@ static void copy(void)
 static void whole_maps(int round)
 {
     whole_map(NAIVE, UNTIMED);
-    for (int k = 0; k < ZEROED; k++) whole_map(k, round);
-    whole_map(PLAIN, UNTIMED);
-    whole_map(ZEROED, round);
+    for (int k = 0; k < OURS; k++) whole_map(k, round);
     for (int k = OURS; k < count; k++) {
         whole_map(PROVED, UNTIMED);
         whole_map(k, round);
@@ -199,7 +183,7 @@ static void whole_maps(int round)
 /* Every stream gives the plane of the whole-map call, or the map again. */
 static void compare_streams(const Streams *s)
 {
-    void (*const writers[])(void) = { s->plain_write, s->proved_rows, s->proved_runs, s->proved_runs_ahead };
+    void (*const writers[])(void) = { s->plain_write, s->proved_rows, s->proved_runs, s->proved_runs_on_8 };
     void (*const readers[])(void) = { s->plain_read, s->proved_read };
     for (int k = 0; k < WRITERS; k++) {
         memset(at.other, 0, at.n * sizeof *at.other);
@@ -220,7 +204,7 @@ static void streams(const Streams *s, int round)
     at.writer[0].times[round] = timed(s->plain_write);
     at.writer[1].times[round] = timed(s->proved_rows);
     at.writer[2].times[round] = timed(s->proved_runs);
-    at.writer[3].times[round] = timed(s->proved_runs_ahead);
+    at.writer[3].times[round] = timed(s->proved_runs_on_8);
     at.reader[0].times[round] = timed(s->plain_read);
     at.reader[1].times[round] = timed(s->proved_read);
 }
@@ -265,14 +249,12 @@ static void clear(void)
 
 /* ---- printing */
 
-/* A line: the times, and how many times those of the fused C, of the same with the work area zeroed, of the second C (of a stream: the row-wise C stream),
-   of the naive C and of the copy. */
+/* A line: the times, and how many times those of the fused C, of the second C (of a stream: the row-wise C stream), of the naive C and of the copy. */
 static void line(const char *group, const char *name, const Result *r, const Result *maps, const Result *plain, double wanted)
 {
     const double *t = r->times;
-    printf("%-9s %-28.28s %7.2f (%6.2f) %7.2f (%5.2f) %7.2f (%5.2f) %10.2f %7.2f %8.2f", group, name, median(t), best(t),
-           median(t) / median(maps[FUSED].times), best(t) / best(maps[FUSED].times), median(t) / median(maps[ZEROED].times),
-           best(t) / best(maps[ZEROED].times), median(t) / median(plain->times), median(t) / median(maps[NAIVE].times),
+    printf("%-9s %-28.28s %7.2f (%6.2f) %7.2f (%5.2f) %10.2f %7.2f %8.2f", group, name, median(t), best(t), median(t) / median(maps[FUSED].times),
+           best(t) / best(maps[FUSED].times), median(t) / median(plain->times), median(t) / median(maps[NAIVE].times),
            median(t) / median(at.copy.times));
     if (wanted > 0) printf("   at most %.1f times fused C is wanted", wanted);
     if (r->note && *r->note) printf("   %s", r->note);
@@ -292,11 +274,11 @@ static double mark(double wanted) { return at.width < 1025 ? 0 : wanted; }
 
 static void print(void)
 {
-    static const char *const writers[] = { "row-wise C", "proved, a row at a time", "proved, runs of 64", "the same, drawn late" };
+    static const char *const writers[] = { "row-wise C", "proved, a row at a time", "proved, runs of 64", "the same, drawn on 8" };
     static const char *const readers[] = { "row-wise C", "proved" };
     printf("\n%zu x %zu heights by the %s at %d levels, ns a height, %d rounds with all in turn: median (best)\n", at.width, at.height, filter_name,
            LEVELS, ROUNDS);
-    printf("%-9s %-28s %16s %15s %15s %10s %7s %8s\n", "", "", "", "/ fused C", "/ with zeroing", against_second, "/ naive", "/ memcpy");
+    printf("%-9s %-28s %16s %15s %10s %7s %8s\n", "", "", "", "/ fused C", against_second, "/ naive", "/ memcpy");
     lines_of_maps("forward", at.forward, mark(wanted_of_maps[0]));
     for (int k = 0; k < WRITERS; k++) line("writer", writers[k], &at.writer[k], at.forward, &at.writer[0], mark(wanted_of_writers[k]));
     lines_of_maps("backward", at.backward, mark(wanted_of_maps[1]));

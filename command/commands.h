@@ -12,7 +12,6 @@ int sum(const Words *words);
 int compare(const Words *words);
 int shade(const Words *words);
 int near(const Words *words);
-int far(const Words *words);
 int convert(const Words *words);
 int tile(const Words *words);
 

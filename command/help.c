@@ -13,7 +13,6 @@ static const char overview[] =
     "  shade FILE OUT.png      the ground as people see it, lit from the upper left\n"
     "  bands LEVELS FILE OUT   a picture of the coefficients, band by band\n"
     "  near FILE OUT.png       how near each cell of the coarse ground is to changing\n"
-    "  far LEVEL FILE OUT      the distant ground, without the finer levels\n"
     "  convert FILE OUT        between PGM, PNG and RAW, every height as it is\n"
     "  tile FILE FOLDER        a map of any size cut into tiles, and back (--join)\n"
     "  list LEVELS FILE.pgm    every band row as a line of numbers\n"
@@ -23,10 +22,10 @@ static const char overview[] =
     "  terrain --version       the version of the library\n"
     "\n"
     "FILE is a height map: a binary PGM (P5) or a grey PNG, of 8 or 16 bits. check,\n"
-    "bands, near and far take at most 2,049 columns; list and rewrite, which are\n"
-    "proved programs, a PGM of at most 1,025 columns and 65,535 rows. `-` is\n"
-    "standard input, or standard output. A file is replaced when what takes its\n"
-    "place is whole, and not before: it may be the input itself.\n"
+    "bands and near take at most 2,049 columns; list and rewrite, which are proved\n"
+    "programs, a PGM of at most 1,025 columns and 65,535 rows. `-` is standard\n"
+    "input, or standard output. A file is replaced when what takes its place is\n"
+    "whole, and not before: it may be the input itself.\n"
     "\n";
 
 static const char statuses[] =
@@ -98,17 +97,6 @@ static const struct {
      "told.\n"
      "\n"
      "  terrain near map.pgm near.png\n"},
-    {"far",
-     "usage: terrain far LEVEL FILE OUT.png\n"
-     "       terrain far LEVEL FILE OUT.pgm\n"
-     "\n"
-     "Rebuilds the ground of a level, 1 to 5, by a reader that stops there, from the\n"
-     "map's coefficients at 5 levels: half as wide and high as the map at level 1, a\n"
-     "quarter at level 2, and so on. OUT.png shows it as shade does, OUT.pgm has its\n"
-     "heights. How many band rows and coefficients were read, of how many, is told.\n"
-     "\n"
-     "  terrain far 3 map.pgm far.png\n"
-     "  terrain far 2 map.pgm quarter.pgm\n"},
     {"convert",
      "usage: terrain convert [--from FORM] [--to FORM] [--size WxH] FILE OUT\n"
      "\n"

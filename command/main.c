@@ -17,7 +17,6 @@ static const Command commands[] = {
     {"shade", "FILE OUT.png", 2, 2, NULL, shade},
     {"bands", "LEVELS FILE OUT.png (or OUT.pgm)", 3, 3, NULL, bands},
     {"near", "FILE OUT.png", 2, 2, NULL, near},
-    {"far", "LEVEL FILE OUT.png (or OUT.pgm)", 3, 3, NULL, far},
     {"convert", "[--from FORM] [--to FORM] [--size WxH] FILE OUT", 2, 2, convert_options, convert},
     {"tile", "[--size WxH] FILE FOLDER, or terrain tile --join FOLDER OUT.pgm", 2, 2, tile_options, tile},
     {"list", "LEVELS FILE.pgm", 2, 2, NULL, list},

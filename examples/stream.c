@@ -3,7 +3,7 @@
 #include <stdio.h>
 #include <terrain.h>
 
-enum { W = 1, H = 4, LEVELS = 2, STORE = 4 * (1 + 1) + W };
+enum { W = 1, H = 4, LEVELS = 2, STORE = 4 * (1 + 1) };
 
 static int32_t plane[W * H];
 

@@ -38,7 +38,7 @@
 #define TERRAIN_STATE_LENGTH 16
 #define TERRAIN_ROW_LENGTH 4
 #define TERRAIN_WANT_LENGTH 5
-#define TERRAIN_MAX_STORE_LENGTH 32801
+#define TERRAIN_MAX_STORE_LENGTH 30752
 
 /* The bands: row[1], want[2] and the `band` of `terrain_band_row`. The first letter is horizontal: HL is high along rows. */
 #define TERRAIN_LL 0
@@ -198,19 +198,6 @@ TERRAIN_CHECKED
 uint32_t terrain_map_mend(const uint16_t *heights, size_t heights_len, size_t width, size_t height, size_t levels,
                           terrain_rectangle rectangle, int32_t *plane, size_t plane_len, int32_t *work, size_t work_len);
 
-/* A smaller download: the plane of a map by the 5/3, from the origin, with each HL, LH and HH value rounded toward zero to the nearest
- * multiple of `step`, 1 to 64; LL and the surplus stay. Any 32-bit number is rounded. Heights that are rebuilt from such a plane, each value
- * limited to its level's range as it is made, are off by no more than `terrain_error_bound` says. A step of 1 changes nothing.
- *
- * It answers 2, 3, 4 (1 to 5 levels) as above, 20 (the step), then 5 (the plane is too short). A call that is turned away changes nothing. */
-TERRAIN_CHECKED
-uint32_t terrain_round(int32_t *plane, size_t plane_len, size_t width, size_t height, size_t levels, size_t step);
-
-/* By how much such a height can be off, from a map's plane of `levels` levels rounded by `step`. It is a promise for every map: most heights
- * are off by far less. 4 (levels), 20 (step): *bound stays. */
-TERRAIN_CHECKED
-uint32_t terrain_error_bound(size_t levels, size_t step, size_t *bound);
-
 /* Where row `row` of a band (0 LL, 1 HL, 2 LH, 3 HH) of a level (1 the finest) stands in a plane of `plane_len` elements: its first
  * element and how many there are. Rows of a band are counted from 0, wherever the map starts. The place is the same by either filter, so
  * the shape's is not read: 2, 3, 4 (1 to 5 levels), 5 as above; 6: there is no such band row. Where a question says no, *start and *length
@@ -236,15 +223,11 @@ uint32_t terrain_nearest_change(const uint16_t *heights, size_t heights_len, siz
  * 1: the array is no state: of another kind, or a count is out of its range. No state that a set-up and the calls after it leave is turned
  * away by 1. Scribbling in array or store cannot make a call write outside the areas lent to it, or run on. */
 
-/* The numbers that the line store of a writer needs: r * (W(0) + ... + W(levels - 1)) + W(0), r being 4 by the 5/3 and 8 by the 9/7, W(0)
+/* The numbers that the line store of a writer or reader needs: r * (W(0) + ... + W(levels - 1)), r being 4 by the 5/3 and 8 by the 9/7, W(0)
  * the width and each further one the number of even columns of the one before (of a map that starts at 0: half of it, rounded up). The height
- * does not count. It is enough for a reader too. 0 where a set-up would give 2, 18 or 4. */
+ * does not count. 0 where a set-up would give 2, 18 or 4. */
 TERRAIN_CHECKED
 size_t terrain_store_length(terrain_shape shape);
-
-/* Those that a reader's needs: W(0) fewer, since only a writer has the spare row for heights that are offered while band rows wait. */
-TERRAIN_CHECKED
-size_t terrain_reader_store_length(terrain_shape shape);
 
 /* A fresh writer of maps of that shape, whose height it does not read: the needed part of the store is zeroed. 2 (width), 18 (filter),
  * 4 (levels), 5 (the store is too short). */
@@ -253,16 +236,13 @@ uint32_t terrain_writer_set_up(uint64_t state[16], terrain_shape shape, int32_t 
 
 /* The next heights of the map, row by row; a run may begin and end anywhere. It takes heights until a band row waits, 4,294,967,295
  * rows are complete or the run is used up, and says in *taken how many: offer the others again once every row that waits is drawn.
- * While band rows wait, one row of heights more is taken, in one offer or several, and kept apart: an offer takes what that row has room
- * for, 0 once it is complete. The draw after which nothing waits moves it on, and where it is complete, rows may wait again: what is drawn
- * is what it would be had those heights come after the draws.
- * 1; 5 (the store is too short); 9 (finished already); 10 (4,294,967,295 rows are complete, that one counted; an empty run passes). */
+ * 1; 5 (the store is too short); 9 (finished already); 8 (a row waits: draw first); 10 (4,294,967,295 rows are complete; an empty run
+ * passes). */
 TERRAIN_CHECKED
 uint32_t terrain_writer_offer(uint64_t state[16], int32_t *store, size_t store_len, const uint16_t *run, size_t run_len, size_t *taken);
 
 /* The band row that waits: its level (1 the finest), band (0 LL, 1 HL, 2 LH, 3 HH), number and length in row[0] to row[3], its values at
- * the front of `out`. Nothing waits: four zeros, and `out` is untouched. No row is longer than (width + 1) / 2. The heights that were offered
- * while rows waited are moved on by the draw after which none waits.
+ * the front of `out`. Nothing waits: four zeros, and `out` is untouched. No row is longer than (width + 1) / 2.
  * 1; 5; 12 (`out` is shorter than the row). */
 TERRAIN_CHECKED
 uint32_t terrain_writer_draw(uint64_t state[16], int32_t *store, size_t store_len, int32_t *out, size_t out_len, uint64_t row[4]);
@@ -283,18 +263,6 @@ uint32_t terrain_writer_finish(uint64_t state[16], int32_t *store, size_t store_
 TERRAIN_CHECKED
 uint32_t terrain_reader_set_up(uint64_t state[16], terrain_shape shape, int32_t *store, size_t store_len);
 
-/* The columns and rows of the low-low part (LL) of a level, 1 to `levels`: of a map that starts at 0 half of those before, rounded up. Of a map
- * that starts elsewhere a level may be empty: a 0. 2, 3, 18, 4, 17 (the level is not 1 to `levels`); refused, it sets nothing. */
-TERRAIN_CHECKED
-uint32_t terrain_level_size(terrain_shape shape, size_t level, size_t *columns, size_t *rows);
-
-/* A fresh reader of distant ground: it stops at level `stop`, 1 to `levels`, and draws the rows of that level's LL (terrain_level_size says how
- * many, and how long), each value limited to 0 to 65,535. It never wants a row of that level or of a finer one, but LL where `stop` is
- * `levels`. Store and calls are those of a reader of the whole map; 14 comes only of what it rebuilds, and never where `stop` is `levels`.
- * 2, 3, 18, 4, 17 (the stop is not 1 to `levels`), 5. */
-TERRAIN_CHECKED
-uint32_t terrain_reader_set_up_at(uint64_t state[16], terrain_shape shape, size_t stop, int32_t *store, size_t store_len);
-
 /* What the reader wants: want[0] is 0 for a band row, whose level, band, number and length follow, 1 for a draw, 2 when all height rows
  * are drawn (Done), 3 after a 14 (Ended). Where no band row is wanted the last four numbers are 0. 1. */
 TERRAIN_CHECKED
@@ -306,8 +274,7 @@ uint32_t terrain_reader_want(const uint64_t state[16], uint64_t want[5]);
 TERRAIN_CHECKED
 uint32_t terrain_reader_feed(uint64_t state[16], int32_t *store, size_t store_len, const int32_t *run, size_t run_len);
 
-/* The next height row, at the front of `out`, and its length (the width, or the columns of the level of a stop) in *drawn; where none can be
- * drawn, 0, and `out` is untouched.
+/* The next height row, at the front of `out`, and the width in *drawn; where none can be drawn, 0, and `out` is untouched.
  * 1; 5; 9 (ended by 14); 12 (`out` is shorter than the row); 14 as in a feed, with `out` and *drawn untouched. */
 TERRAIN_CHECKED
 uint32_t terrain_reader_draw(uint64_t state[16], int32_t *store, size_t store_len, uint16_t *out, size_t out_len, size_t *drawn);
@@ -357,10 +324,8 @@ uint32_t terrain_turns_give(uint64_t turns[4], size_t *reader);
 #define TERRAIN_NO_MAP 14
 #define TERRAIN_BAD_INPUT 15
 #define TERRAIN_BAD_SAMPLE 16
-#define TERRAIN_BAD_LEVEL 17
 #define TERRAIN_BAD_FILTER 18
 #define TERRAIN_BAD_RECTANGLE 19
-#define TERRAIN_BAD_STEP 20
 #define TERRAIN_BAD_READER 21
 
 /* What the question of that number says; STUDIOS.md says what to do about each. It is this header's own and not in the archive. */
@@ -375,7 +340,7 @@ TERRAIN_INLINE const char *terrain_sentence(uint32_t number)
         "an area that was lent is too short",                                          /* 5 */
         "there is no such band row, or no such cell",                                  /* 6 */
         "a coefficient is outside its level's range",                                  /* 7 */
-        "it is not this call's turn: draw the rows that wait first, or none is wanted", /* 8 */
+        "it is not this call's turn: a band row waits to be drawn, or none is wanted", /* 8 */
         "it is over: the writer is finished, or the reader ended after 14",            /* 9 */
         "the map already has 4,294,967,295 rows",                                      /* 10 */
         "the map has no row yet, or its last row is not complete",                     /* 11 */
@@ -384,10 +349,10 @@ TERRAIN_INLINE const char *terrain_sentence(uint32_t number)
         "no map has these coefficients",                                               /* 14 */
         "the input is not in the form that the listing reads",                         /* 15 */
         "a sample exceeds the largest value that the picture's header names",          /* 16 */
-        "the level or the stop is not one of the map's levels",                        /* 17 */
+        NULL,
         "there is no such filter",                                                     /* 18 */
         "the rectangle is empty or leaves the map",                                    /* 19 */
-        "the step is not 1 to 64",                                                     /* 20 */
+        NULL,
         "the reader's number is not 0 to 15"                                           /* 21 */
     };
     const char *said = number < sizeof sentences / sizeof *sentences ? sentences[number] : NULL;

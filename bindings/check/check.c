@@ -77,16 +77,11 @@ static void written(terrain_shape s, size_t n)
     drawn(state, room);
 }
 
-/* the whole map where `stop` is 0 */
-static void read_back(terrain_shape s, size_t n, size_t stop)
+static void read_back(terrain_shape s, size_t n)
 {
     uint64_t state[16], want[5] = {0};
     size_t room = terrain_store_length(s), start = 0, length = 0;
-    if (stop) {
-        passed(terrain_level_size(s, stop, &start, &length));
-        add(start), add(length);
-    }
-    passed(stop ? terrain_reader_set_up_at(state, s, stop, store, room) : terrain_reader_set_up(state, s, store, room));
+    passed(terrain_reader_set_up(state, s, store, room));
     for (;;) {
         passed(terrain_reader_want(state, want));
         add(want[0]);
@@ -108,8 +103,7 @@ int main(void)
         size_t n = s.width * s.height;
         whole_map(s, n);
         written(s, n);
-        read_back(s, n, 0);
-        read_back(s, n, 1 + below((uint32_t)s.levels));
+        read_back(s, n);
     }
     add(terrain_map_forward(heights, 1, terrain_shape_of(2050, 1, 1), plane, 1, work, 1));
     printf("%08lx%08lx\n", (unsigned long)(hash >> 32), (unsigned long)(hash & 0xffffffffu));

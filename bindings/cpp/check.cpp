@@ -71,8 +71,9 @@ void written(terrain::Shape s, const std::vector<std::uint16_t> &heights)
     drawn(writer);
 }
 
-void read_on(terrain::Reader reader, terrain::Shape s, const std::vector<std::int32_t> &plane)
+void read_back(terrain::Shape s, const std::vector<std::int32_t> &plane)
 {
+    terrain::Reader reader(s);
     std::vector<std::uint16_t> out(64);
     for (;;) {
         terrain::BandRow row;
@@ -89,12 +90,6 @@ void read_on(terrain::Reader reader, terrain::Shape s, const std::vector<std::in
         }
     }
 }
-void read_far(terrain::Shape s, const std::vector<std::int32_t> &plane, std::size_t stop)
-{
-    terrain::LevelSize size = terrain::level_size(s, stop);
-    add(size.columns), add(size.rows);
-    read_on(terrain::Reader(s, stop), s, plane);
-}
 } // namespace
 
 int main()
@@ -107,8 +102,7 @@ int main()
         plane.assign(s.width * s.height, 0);
         whole_map(s, heights, plane);
         written(s, heights);
-        read_on(terrain::Reader(s), s, plane);
-        read_far(s, plane, 1 + below(static_cast<std::uint32_t>(s.levels)));
+        read_back(s, plane);
     }
     try {
         std::vector<std::int32_t> work(plane.size());

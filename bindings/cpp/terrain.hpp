@@ -93,25 +93,15 @@ inline Place band_row(std::size_t plane_length, Shape shape, std::size_t level, 
     return place;
 }
 
-// The columns and rows of a level's LL.
-struct LevelSize {
-    std::size_t columns, rows;
-};
-
-inline LevelSize level_size(Shape shape, std::size_t level)
-{
-    LevelSize size = {0, 0};
-    detail::passed(terrain_level_size(shape, level, &size.columns, &size.rows));
-    return size;
-}
-
 inline void profile(Area<const std::uint16_t> row, Area<float> out) { detail::passed(terrain_profile(row.data(), row.size(), out.data(), out.size())); }
 
 // What writer and reader share: sixteen numbers and a line store, both their own.
 class Stream {
 protected:
-    // Room for a stream of that shape, which is set up by whoever derives from it.
-    explicit Stream(Shape shape) : store_(terrain_store_length(shape) + 1) {}
+    Stream(Shape shape, std::uint32_t (*set_up)(std::uint64_t *, terrain_shape, std::int32_t *, std::size_t)) : store_(terrain_store_length(shape) + 1)
+    {
+        detail::passed(set_up(state_.data(), shape, store_.data(), store_.size()));
+    }
     std::array<std::uint64_t, TERRAIN_STATE_LENGTH> state_ = {};
     std::vector<std::int32_t> store_;
 };
@@ -119,7 +109,7 @@ protected:
 // Heights in, in runs cut anywhere; band rows out as soon as they are due.
 class Writer : Stream {
 public:
-    explicit Writer(Shape shape) : Stream(shape) { detail::passed(terrain_writer_set_up(state_.data(), shape, store_.data(), store_.size())); }
+    explicit Writer(Shape shape) : Stream(shape, terrain_writer_set_up) {}
 
     // How many heights of the run were taken; draw what waits and offer the others again.
     std::size_t offer(Area<const std::uint16_t> run)
@@ -148,13 +138,7 @@ enum class Want { row = TERRAIN_WANT_ROW, draw = TERRAIN_WANT_DRAW, done = TERRA
 // Band rows in, in the order that it wants them; height rows out.
 class Reader : Stream {
 public:
-    explicit Reader(Shape shape) : Stream(shape) { detail::passed(terrain_reader_set_up(state_.data(), shape, store_.data(), store_.size())); }
-
-    // One that stops at a level and hands out its LL as heights, without the finer rows.
-    Reader(Shape shape, std::size_t stop) : Stream(shape)
-    {
-        detail::passed(terrain_reader_set_up_at(state_.data(), shape, stop, store_.data(), store_.size()));
-    }
+    explicit Reader(Shape shape) : Stream(shape, terrain_reader_set_up) {}
 
     // What it wants; the band row, where that is what it wants.
     Want want(BandRow &row) const

@@ -16,12 +16,9 @@ static class Check
 
     static void Add(ulong value) { hash = (hash ^ value) * 0x100000001b3; }
 
-    static uint levels;
-
     static Shape SomeShape()
     {
-        uint width = 1 + Below(40), height = 1 + Below(30), filter = Below(2);
-        levels = 1 + Below(5 - filter);
+        uint width = 1 + Below(40), height = 1 + Below(30), filter = Below(2), levels = 1 + Below(5 - filter);
         Shape shape = new Shape(width, height, levels);
         shape.Filter = filter;
         shape.X = (ushort)Below(65536);
@@ -63,8 +60,9 @@ static class Check
         Drawn(writer);
     }
 
-    static void ReadBack(Reader reader, Shape shape, int[] plane)
+    static void ReadBack(Shape shape, int[] plane)
     {
+        Reader reader = new Reader(shape);
         ushort[] heights = new ushort[64];
         for (;;)
         {
@@ -86,11 +84,7 @@ static class Check
             heights = new ushort[shape.Width * shape.Height];
             int[] plane = WholeMap(shape, heights);
             Written(shape, heights);
-            ReadBack(new Reader(shape), shape, plane);
-            long stop = 1 + Below(levels), columns, rows;
-            Map.LevelSize(shape, stop, out columns, out rows);
-            Add((ulong)columns); Add((ulong)rows);
-            ReadBack(new Reader(shape, stop), shape, plane);
+            ReadBack(shape, plane);
         }
         try { Map.Forward(heights, new Shape(2050, 1, 1)); } catch (Refused refused) { Add(refused.Question); }
         Console.WriteLine("{0:x16}", hash);

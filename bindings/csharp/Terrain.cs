@@ -69,14 +69,6 @@ namespace Terrain
             return new ArraySegment<int>(plane, (int)start, (int)length);
         }
 
-        // The columns and rows of a level's LL.
-        public static void LevelSize(Shape shape, long level, out long columns, out long rows)
-        {
-            UIntPtr across = UIntPtr.Zero, down = UIntPtr.Zero;
-            Refused.IfNot(Native.terrain_level_size(shape, (UIntPtr)(ulong)level, ref across, ref down));
-            columns = (long)(ulong)across; rows = (long)(ulong)down;
-        }
-
         public static float[] Profile(ushort[] row, int count)
         {
             float[] profile = new float[count];
@@ -134,13 +126,6 @@ namespace Terrain
             Refused.IfNot(Native.terrain_reader_set_up(state, shape, store, Map.Size(store)));
         }
 
-        // One that stops at a level and hands out its LL as heights, without the finer rows.
-        public Reader(Shape shape, long stop)
-        {
-            store = new int[shape.StoreLength + 1];
-            Refused.IfNot(Native.terrain_reader_set_up_at(state, shape, (UIntPtr)(ulong)stop, store, Map.Size(store)));
-        }
-
         public Want Want(out BandRow row)
         {
             Refused.IfNot(Native.terrain_reader_want(state, wanted));
@@ -181,8 +166,6 @@ namespace Terrain
         [DllImport(Library)]
         internal static extern uint terrain_profile(ushort[] row, UIntPtr n, float[] profile, UIntPtr m);
         [DllImport(Library)]
-        internal static extern uint terrain_level_size(Shape shape, UIntPtr level, ref UIntPtr columns, ref UIntPtr rows);
-        [DllImport(Library)]
         internal static extern uint terrain_writer_set_up(ulong[] state, Shape shape, int[] store, UIntPtr n);
         [DllImport(Library)]
         internal static extern uint terrain_writer_offer(ulong[] state, int[] store, UIntPtr n, ushort* run, UIntPtr m, ref UIntPtr taken);
@@ -192,8 +175,6 @@ namespace Terrain
         internal static extern uint terrain_writer_finish(ulong[] state, int[] store, UIntPtr n);
         [DllImport(Library)]
         internal static extern uint terrain_reader_set_up(ulong[] state, Shape shape, int[] store, UIntPtr n);
-        [DllImport(Library)]
-        internal static extern uint terrain_reader_set_up_at(ulong[] state, Shape shape, UIntPtr stop, int[] store, UIntPtr n);
         [DllImport(Library)]
         internal static extern uint terrain_reader_want(ulong[] state, ulong[] want);
         [DllImport(Library)]

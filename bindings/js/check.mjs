@@ -50,7 +50,8 @@ class Check {
     writer.close();
   }
 
-  readBack(reader, shape, plane) {
+  readBack(shape, plane) {
+    const reader = this.terrain.reader(shape);
     for (;;) {
       const want = reader.want();
       this.add(want.kind);
@@ -68,10 +69,7 @@ export async function check(bytes) {
   for (let i = 0; i < 60; i++) {
     const shape = run.someShape(), { heights, plane } = run.wholeMap(shape);
     run.written(shape, heights);
-    run.readBack(run.terrain.reader(shape), shape, plane);
-    const stop = 1 + run.below(shape.levels), { columns, rows } = run.terrain.levelSize(shape, stop);
-    run.add(columns, rows);
-    run.readBack(run.terrain.reader(shape, stop), shape, plane);
+    run.readBack(shape, plane);
   }
   try {
     run.terrain.mapForward(new Uint16Array(1), { width: 2050, height: 1, levels: 1 });

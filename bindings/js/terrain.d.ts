@@ -28,10 +28,9 @@ export interface Terrain {
   mapForward(heights: Uint16Array, shape: Shape): Int32Array;
   mapBackward(plane: Int32Array, shape: Shape): Uint16Array;
   bandRow(planeLength: number, shape: Shape, level: number, band: number, row: number): { start: number; length: number };
-  levelSize(shape: Shape, level: number): { columns: number; rows: number };
   profile(row: Uint16Array): Float32Array;
   writer(shape: Shape): Writer;
-  reader(shape: Shape, stop?: number): Reader;
+  reader(shape: Shape): Reader;
 }
 
 export function load(bytes: BufferSource): Promise<Terrain>;

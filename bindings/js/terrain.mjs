@@ -125,16 +125,6 @@ class Terrain {
     });
   }
 
-  // the columns and rows of a level's LL
-  levelSize(shape, level) {
-    const { memory, exports } = this;
-    return memory.during(() => {
-      const columns = memory.area(4), rows = memory.area(4);
-      passed(exports.terrain_level_size(memory.shape(shape), level, columns, rows));
-      return { columns: memory.view(Uint32Array, columns, 1)[0], rows: memory.view(Uint32Array, rows, 1)[0] };
-    });
-  }
-
   profile(row) {
     const { memory, exports } = this;
     return memory.during(() => {
@@ -148,9 +138,8 @@ class Terrain {
     return new Writer(this, shape);
   }
 
-  // with a stop it hands out that level's LL as heights, without the finer rows
-  reader(shape, stop) {
-    return new Reader(this, shape, stop);
+  reader(shape) {
+    return new Reader(this, shape);
   }
 }
 
@@ -206,10 +195,8 @@ class Writer extends Stream {
 }
 
 class Reader extends Stream {
-  constructor(terrain, shape, stop) {
-    const { terrain_reader_set_up, terrain_reader_set_up_at } = terrain.exports;
-    const atStop = (state, of, store, room) => terrain_reader_set_up_at(state, of, stop, store, room);
-    super(terrain, shape, stop === undefined ? terrain_reader_set_up : atStop);
+  constructor(terrain, shape) {
+    super(terrain, shape, terrain.exports.terrain_reader_set_up);
   }
 
   want() {

@@ -54,7 +54,8 @@ def written(shape, heights):
     drawn(writer)
 
 
-def read_back(reader, shape, plane):
+def read_back(shape, plane):
+    reader = terrain.Reader(shape)
     while True:
         want, row = reader.want()
         add(want)
@@ -71,10 +72,7 @@ def main():
         shape = some_shape()
         heights, plane = whole_map(shape)
         written(shape, heights)
-        read_back(terrain.Reader(shape), shape, plane)
-        stop = 1 + below(shape.levels)
-        add(*terrain.level_size(shape, stop))
-        read_back(terrain.Reader(shape, stop), shape, plane)
+        read_back(shape, plane)
     try:
         terrain.map_forward(array.array("H", [0]), terrain.Shape(2050, 1, 1))
     except terrain.Refused as refused:

@@ -90,13 +90,6 @@ def band_row(plane_length, shape, level, band, row):
     return slice(start.value, start.value + length.value)
 
 
-def level_size(shape, level):
-    """The columns and rows of a level's LL."""
-    columns, rows = _SIZE(), _SIZE()
-    _passed(_call("level_size", shape, level, ctypes.byref(columns), ctypes.byref(rows)))
-    return columns.value, rows.value
-
-
 def profile(row):
     """The smooth profile of a row of heights, as an array of 32-bit floats."""
     count = _lent(row, 2)[1]
@@ -106,11 +99,11 @@ def profile(row):
 
 
 class _Stream:
-    def __init__(self, kind, shape, set_up="set_up", *further):
+    def __init__(self, kind, shape):
         self._kind, self._state = kind, _STATE()
         self._store = _numbers("i", store_length(shape))
         self._line = _numbers("i" if kind == "writer" else "H", max(shape.width, 1))
-        self._call(set_up, shape, *further, *_lent(self._store, 4))
+        self._call("set_up", shape, *_lent(self._store, 4))
 
     def _call(self, name, *arguments):
         _passed(_call(self._kind + "_" + name, self._state, *arguments))
@@ -139,13 +132,10 @@ class Writer(_Stream):
 
 
 class Reader(_Stream):
-    """Band rows in, in the order that it wants them; height rows out. With a stop it hands out that level's LL as heights, without the finer rows."""
+    """Band rows in, in the order that it wants them; height rows out."""
 
-    def __init__(self, shape, stop=None):
-        if stop is None:
-            super().__init__("reader", shape)
-        else:
-            super().__init__("reader", shape, "set_up_at", stop)
+    def __init__(self, shape):
+        super().__init__("reader", shape)
 
     def want(self):
         """ROW, DRAW, DONE or ENDED, and the (level, band, row) where a row is wanted."""

@@ -115,7 +115,6 @@ static const part parts[CHECK_PARTS] = {
     {"turns", turn_givers, 2000},
     {"nearest", nearest_changes, 2000},
     {"strokes", strokes, 2000},
-    {"roundings", roundings, 2000},
     {"wide maps", maps, 1500},
     {"wide pictures", pictures, 3000},
 };

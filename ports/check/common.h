@@ -40,5 +40,4 @@ void limits(void);
 void turn_givers(void);
 void nearest_changes(void);
 void strokes(void);
-void roundings(void);
 #endif

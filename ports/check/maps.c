@@ -10,12 +10,7 @@ static void views(terrain_shape s, size_t room)
         add((uint64_t)at);
         add((uint64_t)length);
     }
-    size_t columns = 7, rows = 8;
-    say(terrain_level_size(s, below(7), &columns, &rows));
-    add((uint64_t)columns);
-    add((uint64_t)rows);
     add((uint64_t)terrain_store_length(s));
-    add((uint64_t)terrain_reader_store_length(s));
 }
 
 static void back(terrain_shape s, uint32_t shown, size_t room)

@@ -76,18 +76,6 @@ static void out_of_turn(stream *s)
     add((uint64_t)taken);
 }
 
-/* the next heights, some of them while rows wait; what was answered */
-static uint32_t offer(stream *s, uint32_t *at)
-{
-    size_t taken = 12345;
-    uint32_t run = below(3) ? below(2 * (uint32_t)s->shape.width + 2) : s->total - *at;
-    if (run > s->total - *at) run = s->total - *at;
-    uint32_t said = terrain_writer_offer(s->state, store, s->room, heights + *at, run, &taken);
-    add((uint64_t)taken);
-    if (!said) *at += (uint32_t)taken;
-    return said;
-}
-
 /* whether all of the map was offered and the finish passed */
 static int write_map(stream *s)
 {
@@ -96,14 +84,18 @@ static int write_map(stream *s)
     while (may_go_on(s)) {
         if (finished && !below(3)) out_of_turn(s);
         if (draw(s)) {
-            /* a row may still wait: what is offered now goes into the spare row */
-            if (at < s->total && !below(3)) say(offer(s, &at));
+            /* a row may still wait: an offer now would be out of turn */
             continue;
         }
         if (finished) return 1;
         uint32_t said;
         if (at < s->total) {
-            said = offer(s, &at);
+            size_t taken = 12345;
+            uint32_t run = below(3) ? below(2 * (uint32_t)s->shape.width + 2) : s->total - at;
+            if (run > s->total - at) run = s->total - at;
+            said = terrain_writer_offer(s->state, store, s->room, heights + at, run, &taken);
+            add((uint64_t)taken);
+            if (!said) at += (uint32_t)taken;
             if (!said && below(4) == 0) say(terrain_writer_finish(s->state, store, s->room)), add64(s->state, 16);
         } else {
             said = terrain_writer_finish(s->state, store, s->room);
@@ -152,10 +144,10 @@ static uint32_t draw_heights(stream *s)
     return said == 12 ? 0 : said;
 }
 
-static void read_map(stream *s, uint32_t stop)
+static void read_map(stream *s)
 {
     uint64_t want[5] = {8, 8, 8, 8, 8};
-    uint32_t said = stop ? terrain_reader_set_up_at(s->state, s->shape, stop, store, s->room) : terrain_reader_set_up(s->state, s->shape, store, s->room);
+    uint32_t said = terrain_reader_set_up(s->state, s->shape, store, s->room);
     say(said);
     s->calls = 0;
     while (!said && may_go_on(s)) {
@@ -185,8 +177,7 @@ static void one_stream(int scribbled)
     uint64_t equal = compare_map(&s);
     if (!scribbled && finished) same += equal, all++;
     if (!below(4)) spoil(s.total);
-    read_map(&s, 0);
-    read_map(&s, 1 + below(5));
+    read_map(&s);
 }
 
 void streams(void) { one_stream(0); }

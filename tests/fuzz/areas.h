@@ -10,7 +10,7 @@
 #include <string.h>
 #include <sys/mman.h>
 
-enum { PAGE = 4096, ROOM = 34 * PAGE, GUARD = 64, MARK = 0xa5 };
+enum { PAGE = 4096, ROOM = 32 * PAGE, GUARD = 64, MARK = 0xa5 };
 
 #define HOLDS(condition)                                                        \
     do {                                                                        \

@@ -20,14 +20,13 @@ typedef struct {
     size_t store_len;
     int kind; /* WRITER, READER: all calls went by the rules. 0: anything may stand in state and store */
     Map on; /* what it was set up for */
-    size_t stop; /* of a reader, and the level at which it stops; 0: none */
     Order order;
     uint16_t heights[CAP]; /* taken or drawn */
     size_t count;
     Row rows[CAP]; /* drawn of a writer, with their values */
     size_t row_count, value_count;
     int32_t values[CAP], plane[CAP]; /* a reader is fed from this plane, which holds what it was fed */
-    uint16_t map[CAP]; /* what is drawn of the map whose plane it was: its heights, or of a stop LL limited to heights */
+    uint16_t map[CAP];
     int pure; /* the plane is the map's */
 } Slot;
 
@@ -59,12 +58,6 @@ static terrain_shape shape_of(const Map *m)
 
 /* ---- state and store */
 
-/* The most heights that a writer counts: of the row begun, or, while rows wait, of the spare row. */
-static uint64_t most_column(const uint64_t *s)
-{
-    return !s[7] ? s[1] - 1 : s[5] || s[3] >= MOST_HEIGHT ? 0 : s[1];
-}
-
 /* The map that a state's counts speak of; a writer has no height. */
 static Map map_of(const uint64_t *s, int kind)
 {
@@ -72,32 +65,18 @@ static Map map_of(const uint64_t *s, int kind)
     return (Map){ { s[8], s[1] }, { s[9], s[2] }, s[3], s[11] };
 }
 
-/* Question 1 of a reader that stops and has no level left to work out; and what it asks of a stop of the others. */
-static int last_fits(const uint64_t *s)
-{
-    return s[11] < FILTERS && s[1] <= MOST_WIDTH && s[2] <= MOST_HEIGHT && s[4] <= s[2] && !s[5] && s[6] <= 4 && s[7] <= 1 &&
-           s[8] <= MOST_ORIGIN && s[9] <= MOST_ORIGIN && !s[10] && s[12] - 1 < filters[s[11]].levels && s[1] <= s[13];
-}
-
-static int stop_fits(const uint64_t *s)
-{
-    size_t most = filters[s[11]].levels, room = filters[s[11]].rows * MOST_WIDTH;
-    return s[12] <= most - s[3] && s[13] <= (s[3] ? s[12] * room : 131136);
-}
-
 /* Question 1, as docs/STATE.md has it. */
 static int counts_fit(const uint64_t *s, int kind)
 {
     Map m = map_of(s, kind);
     int rest = 1;
-    for (int i = kind == WRITER ? 13 : 14; i < 16; i++) rest &= s[i] == 0;
-    if (rest && kind == READER && s[0] == READER && !s[3]) return last_fits(s) && stop_fits(s);
+    for (int i = kind == WRITER ? 13 : 12; i < 16; i++) rest &= s[i] == 0;
     if (!rest || s[0] != (uint64_t)kind || streamable(&m) || m.across.start > MOST_ORIGIN || m.down.start > MOST_ORIGIN) return 0;
     size_t ahead = filters[m.filter].ahead;
     if (kind == WRITER)
-        return s[3] <= MOST_HEIGHT && s[4] <= most_column(s) && s[5] <= 1 && s[6] <= ahead * s[2] && s[7] <= s[2] &&
+        return s[3] <= MOST_HEIGHT && s[4] < s[1] && s[5] <= 1 && s[6] <= ahead * s[2] && s[7] <= s[2] &&
                s[8] <= (!s[7] ? 0u : s[7] < s[2] ? 3u : 4u) && s[9] == (s[7] ? stretches(&m, s[7] - 1) : 0);
-    return s[2] - 1 < MOST_HEIGHT && s[4] <= s[2] && s[5] <= s[3] && s[6] <= 4 && s[7] <= 1 && s[10] <= 2 * ahead - 1 && stop_fits(s);
+    return s[2] - 1 < MOST_HEIGHT && s[4] <= s[2] && s[5] <= s[3] && s[6] <= 4 && s[7] <= 1 && s[10] <= 2 * ahead - 1;
 }
 
 /* Lends state and store, every so often a store cut short. */
@@ -121,9 +100,8 @@ static void back(Slot *s, int kind, uint32_t answer, uint32_t may)
 {
     int fit = counts_fit(s->state, kind);
     Map m = map_of(s->state, kind);
-    size_t needed = !fit ? 0 : kind == WRITER ? model_writer_store(&m) : model_store(&m);
+    size_t needed = fit ? model_store(&m) : 0;
     area_back(&state_area);
-    if (fit && kind == READER) needed += s->state[13]; /* the levels that a stop leaves out */
     area_back(&store_area);
     HOLDS(answer < 16 && ((may | MAY(0) | MAY(1) | MAY(5)) >> answer & 1));
     HOLDS((answer == 1) == !fit);
@@ -171,38 +149,21 @@ static void check_rows(const Slot *s)
     }
 }
 
-/* What a stop hands out of a map. */
-static void far_ground(const Map *m, size_t stop, uint16_t *heights)
-{
-    static int32_t plane[CAP], grid[CAP];
-    Map own = *m;
-    own.levels = stop;
-    model_forward(heights, &own, plane);
-    HOLDS(model_approximation(plane, &own, stop, grid) == 0);
-    for (size_t i = 0; i < side(m->across, stop).length * side(m->down, stop).length; i++)
-        heights[i] = (uint16_t)(grid[i] < 0 ? 0 : grid[i] > 65535 ? 65535 : grid[i]);
-}
-
 static void set_up(Slot *s, int kind)
 {
-    int stops = kind == READER && below(2);
-    size_t stop = !stops ? 0 : below(8) ? 1 + below(5) : number();
     check_rows(s);
     Map m = any_map();
-    size_t h = m.down.length, needed = kind == WRITER ? model_writer_store(&m) : h > MOST_HEIGHT ? 0 : model_store(&m);
+    size_t h = m.down.length, needed = kind == READER && h > MOST_HEIGHT ? 0 : model_store(&m);
     unsigned more = byte();
     int32_t *old = s->store;
     size_t old_len = s->store_len;
     s->store = NULL;
     new_store(s, needed + (more < 200 ? more % 4 : 0) - (needed && more >= 240 ? 1 : 0));
     lend(s);
-    uint32_t answer = stops ? terrain_reader_set_up_at(lent_state, shape_of(&m), stop, lent_store, lent_len)
-                            : (kind == WRITER ? terrain_writer_set_up : terrain_reader_set_up)(lent_state, shape_of(&m), lent_store, lent_len);
+    uint32_t answer = (kind == WRITER ? terrain_writer_set_up : terrain_reader_set_up)(lent_state, shape_of(&m), lent_store, lent_len);
     area_back(&state_area);
     area_back(&store_area);
-    uint32_t no = streamable(&m), first = no == 2 ? 2 : kind == READER && (h < 1 || h > MOST_HEIGHT) ? 3 : no ? no : 0;
-    if (!first && stops && (stop < 1 || stop > m.levels)) first = 17;
-    if (!first && lent_len < needed) first = 5;
+    uint32_t no = streamable(&m), first = no == 2 ? 2 : kind == READER && (h < 1 || h > MOST_HEIGHT) ? 3 : no ? no : lent_len < needed ? 5 : 0;
     HOLDS(answer == first);
     HOLDS(!answer || (area_is(&state_area, s->state) && area_is(&store_area, s->store)));
     if (answer) { /* the stream that is under way goes on */
@@ -215,13 +176,12 @@ static void set_up(Slot *s, int kind)
     for (size_t i = 0; i < needed; i++) HOLDS(lent_store[i] == 0);
     if (lent_len > needed) HOLDS(memcmp(lent_store + needed, s->store + needed, (lent_len - needed) * sizeof *s->store) == 0);
     take_back(s);
-    s->kind = kind, s->on = m, s->stop = stop, s->count = s->row_count = s->value_count = 0;
+    s->kind = kind, s->on = m, s->count = s->row_count = s->value_count = 0;
     order_start(&s->order, &m);
     if (kind == READER && m.across.length * h > CAP) s->kind = 0;
     if (s->kind == READER) {
         fill(s->map, m.across.length * h);
         model_forward(s->map, &m, s->plane);
-        if (stop) far_ground(&m, stop, s->map);
         s->pure = 1;
     }
 }
@@ -241,7 +201,7 @@ static void offer(Slot *s)
     area_back(&small_area);
     HOLDS(area_is(&run_area, heights));
     HOLDS(answer ? area_unset(&small_area, 0) : *said <= n);
-    back(s, WRITER, answer, MAY(9) | MAY(10));
+    back(s, WRITER, answer, MAY(8) | MAY(9) | MAY(10));
     if (s->kind != WRITER || answer == 5) return;
     HOLDS(answer == order_offer(&s->order, n, &taken));
     HOLDS(answer || *said == taken);
@@ -289,7 +249,7 @@ static void draw_row(Slot *s)
     HOLDS(answer == (r.length > room ? 12u : 0u));
     if (answer) return;
     HOLDS(row[0] == r.level && row[1] == r.band && row[2] == r.row && row[3] == r.length);
-    order_drawn(&s->order);
+    s->order.first++;
     s->rows[s->row_count++] = r;
     memcpy(s->values + s->value_count, out, r.length * sizeof *out);
     s->value_count += r.length;
@@ -323,21 +283,12 @@ static uint32_t want(Slot *s, uint64_t wanted[5])
     memcpy(wanted, said, 5 * sizeof *wanted);
     HOLDS(said[0] <= ENDED && (said[0] == ENDED) == (s->state[7] == 1));
     Map m = map_of(s->state, READER);
-    size_t level = said[1] - s->state[12]; /* its levels are counted from the stop */
-    if (said[0] == ROW && !s->state[3])
-        HOLDS(level == 0 && said[2] == LL && said[4] == m.across.length);
-    else if (said[0] == ROW)
-        HOLDS(level - 1 < s->state[3] && said[2] <= HH && said[4] >= 1 && said[4] == across(&m, level, said[2]));
+    if (said[0] == ROW)
+        HOLDS(said[1] - 1 < s->state[3] && said[2] <= HH && said[4] >= 1 && said[4] == across(&m, said[1], said[2]));
     else
         HOLDS(!said[1] && !said[2] && !said[3] && !said[4]);
     if (s->kind == READER && said[0] == ROW) HOLDS(said[3] < down(&s->on, said[1], said[2]) && (said[2] != LL || said[1] == s->on.levels));
-    if (s->kind == READER && said[0] == DONE && s->stop) {
-        /* never Done but for an LL of that level: the one that has these rows, limited */
-        static int32_t grid[CAP];
-        HOLDS(s->count == side(s->on.across, s->stop).length * side(s->on.down, s->stop).length);
-        HOLDS(model_approximation(s->plane, &s->on, s->stop, grid) == 0 || !s->count);
-        for (size_t i = 0; i < s->count; i++) HOLDS(s->heights[i] == (grid[i] < 0 ? 0 : grid[i] > 65535 ? 65535 : grid[i]));
-    } else if (s->kind == READER && said[0] == DONE) {
+    if (s->kind == READER && said[0] == DONE) {
         /* never Done but for a map: the one that has these rows */
         static int32_t plane[CAP];
         HOLDS(s->count == s->on.across.length * s->on.down.length);
@@ -352,10 +303,9 @@ static uint32_t want(Slot *s, uint64_t wanted[5])
 static void ended(Slot *s)
 {
     static uint16_t map[CAP];
-    static int32_t grid[CAP];
     if (s->kind != READER) return;
     HOLDS(!s->pure);
-    HOLDS((s->stop ? model_approximation(s->plane, &s->on, s->stop, grid) : model_backward(s->plane, &s->on, map)) != 0);
+    HOLDS(model_backward(s->plane, &s->on, map) != 0);
     s->kind = 0;
 }
 
@@ -437,20 +387,15 @@ static void foreign(Slot *s)
     memset(s->state, 0, sizeof s->state);
     if (below(2)) {
         uint64_t level = below(6), start = level ? stretches(&m, level - 1) : 0;
-        uint64_t counts[] = { 1, m.across.length, m.levels, wide(2), byte() % (m.across.length + 1), below(2), below(10), level, below(level ? 5 : 1),
+        uint64_t counts[] = { 1, m.across.length, m.levels, wide(2), byte() % m.across.length, below(2), below(10), level, below(level ? 5 : 1),
                               below(8) ? start : wide(2), m.across.start, m.down.start, below(16) ? filter : below(4) };
         memcpy(s->state, counts, sizeof counts);
     } else {
-        uint64_t stop = below(2) ? 0 : below(6), last = stop && !below(4);
-        if (last) m.levels = 0;
-        uint64_t counts[] = { 2, m.across.length, m.down.length, m.levels, below(2) ? below(40) : wide(2), last ? 0 : below(6), below(5), below(8) == 7,
-                              m.across.start, m.down.start, last || below(2) ? 0 : below(5), below(16) ? filter : below(4), stop,
-                              stop ? (last ? m.across.length : 0) + byte() : 0 };
+        uint64_t counts[] = { 2, m.across.length, m.down.length, m.levels, below(2) ? below(40) : wide(2), below(6), below(5), below(8) == 7,
+                              m.across.start, m.down.start, below(2) ? 0 : below(5), below(16) ? filter : below(4) };
         memcpy(s->state, counts, sizeof counts);
-        new_store(s, model_store(&m) + s->state[13] + below(4));
-        return;
     }
-    new_store(s, model_writer_store(&m) + below(4));
+    new_store(s, model_store(&m) + below(4));
 }
 
 static void scribble(Slot *s)
@@ -596,20 +541,6 @@ static void map(void)
     if (answer == 0) HOLDS(memcmp(drawn, again, n * sizeof *drawn) == 0);
 }
 
-static void level_size(void)
-{
-    Map m = any_map();
-    size_t level = below(8) ? below(7) : number();
-    size_t *columns = area_lend(&small_area, NULL, sizeof *columns, at_end()), *rows = area_lend(&more_area, NULL, sizeof *rows, at_end());
-    uint32_t answer = terrain_level_size(shape_of(&m), level, columns, rows), first = asked(&m, 0, SIZE_MAX);
-    area_back(&small_area);
-    area_back(&more_area);
-    if (!first && (level < 1 || level > m.levels)) first = 17;
-    HOLDS(answer == first);
-    if (answer) HOLDS(area_unset(&small_area, 0) && area_unset(&more_area, 0));
-    else HOLDS(*columns == side(m.across, level).length && *rows == side(m.down, level).length);
-}
-
 static void band_row(void)
 {
     Map m = any_map();
@@ -626,33 +557,6 @@ static void band_row(void)
     HOLDS(answer == first);
     if (answer) HOLDS(area_unset(&small_area, 0) && area_unset(&more_area, 0));
     else HOLDS(*start == place(&m, level, band, row) && *length == across(&m, level, band));
-}
-
-/* ---- rounding and its figure */
-
-static void rounding(void)
-{
-    static int32_t plane[CAP + 8], expected[CAP + 8];
-    Map m = any_map();
-    m.across.start = m.down.start = m.filter = 0;
-    size_t w = m.across.length, h = m.down.length, n = w <= MOST_WIDTH && h <= MOST_HEIGHT && w * h <= CAP ? w * h : 64;
-    size_t len = below(16) ? n + below(3) : n ? n - 1 : 0, step = below(8) ? 1 + below(64) : number();
-    uint32_t seed = byte(), first = asked(&m, 0, SIZE_MAX);
-    for (size_t i = 0; i < len; i++) plane[i] = below(8) ? (int32_t)(seed = seed * 1664525u + 1013904223u) >> (i & 16) : word();
-    memcpy(expected, plane, sizeof expected);
-    if (!first && (step < 1 || step > 64)) first = 20;
-    if (!first && len < w * h) first = 5;
-    if (!first) model_round(expected, &m, (int64_t)step);
-    int32_t *lent = area_lend(&out_area, plane, len * sizeof *plane, at_end());
-    uint32_t answer = terrain_round(lent, len, w, h, m.levels, step);
-    area_back(&out_area);
-    HOLDS(answer == first && area_is(&out_area, expected));
-    size_t *bound = area_lend(&small_area, NULL, sizeof *bound, at_end());
-    answer = terrain_error_bound(m.levels, step, bound);
-    area_back(&small_area);
-    HOLDS(answer == (m.levels < 1 || m.levels > MOST_LEVELS ? 4u : step < 1 || step > 64 ? 20u : 0u));
-    if (answer) HOLDS(area_unset(&small_area, 0));
-    else HOLDS(*bound == model_bound(m.levels, step));
 }
 
 /* ---- turns: a turn-giver that is set up, marked, cleared and scribbled in; the model looks at the readers one by one */
@@ -678,7 +582,7 @@ static void turn(void)
     else answer = terrain_turns_give(lent, served);
     area_back(&state_area);
     area_back(&small_area);
-    if (!first && which != 1 && which < 5 && reader > 15) first = 21;
+    if (!first && which > 1 && which < 5 && reader > 15) first = 21;
     HOLDS(answer == first);
     if (answer || which < 5) HOLDS(area_unset(&small_area, 0));
     if (!answer && which == 1) memcpy(giver, (uint64_t[]){ 3, 0, 15, 0 }, sizeof giver);
@@ -698,8 +602,8 @@ static void write_on(Slot *s)
 {
     if (s->kind != WRITER) set_up(s, WRITER);
     for (int i = 0; i < 80 && s->kind == WRITER; i++) {
-        if (order_waits(&s->order) && below(4)) draw_row(s);
-        else if (s->order.finished && !order_waits(&s->order)) break;
+        if (order_waits(&s->order)) draw_row(s);
+        else if (s->order.finished) break;
         else if (below(16) == 15) finish(s);
         else offer(s);
     }
@@ -717,14 +621,6 @@ static void read_on(Slot *s)
     }
 }
 
-static void store_lengths(void)
-{
-    Map m = any_map();
-    m.across.length = number();
-    HOLDS(terrain_store_length(shape_of(&m)) == model_writer_store(&m));
-    HOLDS(terrain_reader_store_length(shape_of(&m)) == model_store(&m));
-}
-
 static void call(void)
 {
     unsigned which = byte();
@@ -734,17 +630,17 @@ static void call(void)
     case 2: case 3: set_up(s, READER); break;
     case 4: case 5: case 6: case 7: offer(s); break;
     case 8: case 9: case 10: case 11: draw_row(s); break;
-    case 12: if (below(2)) profile(); else level_size(); break;
+    case 12: profile(); break;
     case 13: finish(s); break;
     case 14: case 15: case 16: case 17: case 18: case 19: feed(s); break;
     case 20: case 21: case 22: draw_heights(s); break;
     case 23: { uint64_t wanted[5]; want(s, wanted); break; }
     case 24: foreign(s); break;
     case 25: scribble(s); break;
-    case 26: if (below(2)) line(); else rounding(); break;
+    case 26: line(); break;
     case 27: map(); break;
     case 28: if (below(2)) band_row(); else turn(); break;
-    case 29: store_lengths(); break;
+    case 29: { Map m = any_map(); m.across.length = number(); HOLDS(terrain_store_length(shape_of(&m)) == model_store(&m)); break; }
     case 30: write_on(s); break;
     default: read_on(s); break;
     }

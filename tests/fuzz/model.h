@@ -138,42 +138,6 @@ static inline uint32_t model_backward(const int32_t *plane, const Map *m, uint16
     return answer;
 }
 
-/* LL of level `stop`, compact, that the levels after it rebuild: 0, 7 (a number of them is out of range), 14 (no LL in its range has them). */
-static inline uint32_t model_approximation(const int32_t *plane, const Map *m, size_t stop, int32_t *grid)
-{
-    Map rest = *m;
-    size_t w = m->across.length, n = w * m->down.length, columns = side(m->across, stop).length, rows = side(m->down, stop).length;
-    uint32_t answer = 0;
-    int32_t *x = malloc(2 * n * sizeof *x), *again = x + n;
-    if (!x) abort();
-    memcpy(x, plane, n * sizeof *x);
-    for (size_t i = 0; i < n; i++) {
-        size_t level = stop + 1;
-        if (i / w >= rows || i % w >= columns) continue;
-        while (level < m->levels && i / w < side(m->down, level).length && i % w < side(m->across, level).length) level++;
-        if (level > m->levels) level = m->levels;
-        if (plane[i] > range(m, level) || plane[i] < -range(m, level)) answer = 7;
-    }
-    for (size_t k = m->levels; k-- > stop;) {
-        Side a = side(m->across, k), d = side(m->down, k);
-        for (size_t r = 0; r < d.length; r++) model_line(x + r * w, a.length, 1, a.start, m->filter, 0);
-        for (size_t c = 0; c < a.length; c++) model_line(x + c, d.length, w, d.start, m->filter, 0);
-    }
-    memcpy(again, x, n * sizeof *x);
-    for (size_t i = 0; i < rows * columns; i++) {
-        grid[i] = x[i / columns * w + i % columns];
-        if (!answer && stop < m->levels && (grid[i] > range(m, stop) || grid[i] < -range(m, stop))) answer = 14;
-    }
-    for (size_t k = stop; k < rest.levels; k++) {
-        Side a = side(m->across, k), d = side(m->down, k);
-        for (size_t c = 0; c < a.length; c++) model_line(again + c, d.length, w, d.start, m->filter, 1);
-        for (size_t r = 0; r < d.length; r++) model_line(again + r * w, a.length, 1, a.start, m->filter, 1);
-    }
-    if (!answer && memcmp(again, plane, n * sizeof *again)) answer = 14;
-    free(x);
-    return answer;
-}
-
 /* Questions 2, 18 and 4. */
 static inline uint32_t streamable(const Map *m)
 {
@@ -193,33 +157,6 @@ static inline size_t stretches(const Map *m, size_t levels)
 static inline size_t model_store(const Map *m)
 {
     return streamable(m) ? 0 : stretches(m, m->levels);
-}
-
-/* A writer has one more row of the map's columns, for heights that are offered while rows wait. */
-static inline size_t model_writer_store(const Map *m)
-{
-    return streamable(m) ? 0 : stretches(m, m->levels) + m->across.length;
-}
-
-/* ---- rounding, and its figure: the 5/3, origin 0 */
-
-static inline int in_last_ll(const Map *m, size_t i)
-{
-    size_t w = m->across.length;
-    return i / w < side(m->down, m->levels).length && i % w < side(m->across, m->levels).length;
-}
-
-static inline void model_round(int32_t *plane, const Map *m, int64_t step)
-{
-    for (size_t i = 0; i < m->across.length * m->down.length; i++)
-        if (!in_last_ll(m, i)) plane[i] = (int32_t)(plane[i] / step * step); /* C's division goes toward zero */
-}
-
-static inline size_t model_bound(size_t levels, size_t step)
-{
-    size_t e = step - 1, f = 0, b = 2 * e + (e + 1) / 2;
-    while (levels--) f = f + e + (e + 1) / 2 + b + (b + 1) / 2;
-    return f;
 }
 
 /* The numbers in a row of a band, and the rows of a band. */
@@ -251,7 +188,7 @@ typedef struct {
 
 typedef struct {
     Map map; /* its height is not looked at */
-    size_t begun, held, complete[MOST_LEVELS + 2], sets[MOST_LEVELS + 2], first, last; /* rows that wait: first to last - 1 */
+    size_t begun, complete[MOST_LEVELS + 2], sets[MOST_LEVELS + 2], first, last; /* rows that wait: first to last - 1 */
     int finished;
     Row waiting[256];
 } Order;
@@ -288,33 +225,17 @@ static inline int order_waits(Order *o)
     return o->first < o->last;
 }
 
-/* one height goes on to level 1 */
-static inline void order_take(Order *o)
-{
-    if (++o->begun == o->map.across.length) o->begun = 0, order_arrive(o, 1);
-}
-
 static inline uint32_t order_offer(Order *o, size_t run, size_t *taken)
 {
-    size_t width = o->map.across.length;
     *taken = 0;
     if (o->finished) return 9;
-    if (run && o->complete[1] + (o->held == width) >= MOST_HEIGHT) return 10;
-    if (order_waits(o)) {
-        *taken = run < width - o->held ? run : width - o->held;
-        o->held += *taken;
-        return 0;
+    if (order_waits(o)) return 8;
+    if (run && o->complete[1] >= MOST_HEIGHT) return 10;
+    while (*taken < run && !order_waits(o) && o->complete[1] < MOST_HEIGHT) {
+        ++*taken;
+        if (++o->begun == o->map.across.length) o->begun = 0, order_arrive(o, 1);
     }
-    for (; *taken < run && !order_waits(o) && o->complete[1] < MOST_HEIGHT; ++*taken) order_take(o);
     return 0;
-}
-
-/* the row that waits is drawn; the draw after which none waits moves on what was offered meanwhile */
-static inline void order_drawn(Order *o)
-{
-    o->first++;
-    if (order_waits(o)) return;
-    for (; o->held; o->held--) order_take(o);
 }
 
 static inline uint32_t order_finish(Order *o)

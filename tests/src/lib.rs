@@ -11,12 +11,10 @@ pub mod listing;
 pub mod maps;
 pub mod nine_seven;
 pub mod order;
-pub mod play;
 pub mod programs;
 pub mod random;
 pub mod reader;
 pub mod reference;
-pub mod tolerant;
 pub mod writer;
 
 use terrain::{Call, Question};

@@ -48,14 +48,8 @@ pub fn down(s: Shape) -> Side {
 /// The plane of a map: as many coefficients as heights.
 pub fn forward(heights: &[u16], s: Shape) -> Vec<i32> {
     let mut plane: Vec<i32> = heights.iter().map(|&h| i32::from(h)).collect();
-    lift(&mut plane, s, 0);
-    plane
-}
-
-/// The levels after level `from` of a plane in whose corner the grid of that level stands, in place of its bands.
-pub fn lift(plane: &mut [i32], s: Shape, from: usize) {
     let lifted = |line: &[i32], side: Side| grid::in_halves(&(filter::of(s).forward)(line, side.i0()), side.i0());
-    for k in from..s.levels {
+    for k in 0..s.levels {
         let (w, h) = (across(s).at(k), down(s).at(k));
         for c in 0..w.length {
             let column: Vec<i32> = (0..h.length).map(|r| plane[r * s.width + c]).collect();
@@ -68,11 +62,7 @@ pub fn lift(plane: &mut [i32], s: Shape, from: usize) {
             row.copy_from_slice(&lifted(row, w));
         }
     }
-}
-
-/// The rows in the corner of a plane that LL of level k has.
-pub fn corner(plane: &[i32], s: Shape, k: usize) -> Vec<Vec<i32>> {
-    (0..down(s).at(k).length).map(|r| plane[r * s.width..r * s.width + across(s).at(k).length].to_vec()).collect()
+    plane
 }
 
 /// A line back from its values in halves, and whether a value that was halved on the way was even.
@@ -126,17 +116,6 @@ pub fn fits(s: Shape, level: usize, v: i32) -> bool {
 pub fn map_of(plane: &[i32], s: Shape) -> Option<Vec<u16>> {
     let heights: Option<Vec<u16>> = rebuilt(plane, s)[0].rows.iter().flatten().map(|&v| u16::try_from(v).ok()).collect();
     heights.filter(|map| forward(map, s) == plane)
-}
-
-/// Whether an LL of level k in that level's range has the coefficients of the levels after it, by the definition: lifted on, it is they.
-pub fn approximation_of(plane: &[i32], s: Shape, k: usize) -> bool {
-    let rows = if k < s.levels { rebuilt(plane, s).swap_remove(k).rows } else { corner(plane, s, k) };
-    let mut again = plane.to_vec();
-    for (r, row) in rows.iter().enumerate() {
-        again[r * s.width..r * s.width + row.len()].copy_from_slice(row);
-    }
-    lift(&mut again, s, k);
-    rows.iter().flatten().all(|&v| fits(s, k, v)) && again == plane
 }
 
 /// The level whose coefficient stands at place i of the plane.

@@ -69,14 +69,9 @@ pub fn place(s: Shape, r: BandRow) -> std::ops::Range<usize> {
     start..start + r.length
 }
 
-/// The numbers that the levels' stretches have: what a reader's line store needs.
+/// The numbers that a line store needs.
 pub fn store_length(s: Shape) -> usize {
     filter::of(s).rows * (0..s.levels).map(|k| across(s).at(k).length).sum::<usize>()
-}
-
-/// What a writer's needs: "one more row of W numbers right after the levels' stretches" (Q-2).
-pub fn writer_store_length(s: Shape) -> usize {
-    store_length(s) + s.width
 }
 
 /// What a writer must answer.
@@ -89,8 +84,6 @@ pub struct Writer {
     sets: Vec<usize>,
     finished: bool,
     waiting: VecDeque<BandRow>,
-    /// the heights in the spare row, which were offered while rows waited (Q-2)
-    held: usize,
     /// the row limit
     pub limit: usize,
 }
@@ -99,7 +92,7 @@ impl Writer {
     /// Of the shape the height is not looked at.
     pub fn new(shape: Shape) -> Self {
         let complete = vec![0; shape.levels + 1];
-        Writer { shape, begun: 0, complete, sets: first_sets(shape), finished: false, waiting: VecDeque::new(), held: 0, limit: MAX_HEIGHT }
+        Writer { shape, begun: 0, complete, sets: first_sets(shape), finished: false, waiting: VecDeque::new(), limit: MAX_HEIGHT }
     }
 
     /// The rows of a level that are complete.
@@ -117,10 +110,6 @@ impl Writer {
 
     pub fn finished(&self) -> bool {
         self.finished
-    }
-
-    pub fn held(&self) -> usize {
-        self.held
     }
 
     pub fn waits(&self) -> Option<BandRow> {
@@ -147,55 +136,34 @@ impl Writer {
         }
     }
 
-    /// The row limit, "for number 10 they count as moved": a complete spare row is a complete row.
-    fn full(&self) -> bool {
-        self.rows() + self.held / self.shape.width >= self.limit
-    }
-
-    /// One height goes on to level 1.
-    fn take_one(&mut self) {
-        self.begun += 1;
-        if self.begun == self.shape.width {
-            self.begun = 0;
-            self.row_complete(1);
-        }
-    }
-
-    /// "An offer takes heights until a band row waits, the row limit is reached or the run is used up." With rows waiting "heights go to one more
-    /// row of W numbers ..., until that row is complete"; "an offer that starts with none waiting still ends when one waits".
+    /// "An offer takes heights until a band row waits, the row limit is reached or the run is used up."
     pub fn offer(&mut self, run: usize) -> Result<usize, u32> {
         if self.finished {
             return Err(9);
         }
-        if run > 0 && self.full() {
-            return Err(10);
-        }
         if !self.waiting.is_empty() {
-            let taken = run.min(self.shape.width - self.held);
-            self.held += taken;
-            return Ok(taken);
+            return Err(8);
+        }
+        if run > 0 && self.rows() >= self.limit {
+            return Err(10);
         }
         let mut taken = 0;
         while taken < run && self.waiting.is_empty() && self.rows() < self.limit {
             taken += 1;
-            self.take_one();
+            self.begun += 1;
+            if self.begun == self.shape.width {
+                self.begun = 0;
+                self.row_complete(1);
+            }
         }
         Ok(taken)
     }
 
-    /// "The draw that empties the wait moves that row's heights on."
     pub fn draw(&mut self, room: usize) -> Result<Option<BandRow>, u32> {
-        if self.waiting.front().is_some_and(|row| row.length > room) {
-            return Err(12);
+        match self.waiting.front() {
+            Some(row) if row.length > room => Err(12),
+            _ => Ok(self.waiting.pop_front()),
         }
-        let drawn = self.waiting.pop_front();
-        if self.waiting.is_empty() {
-            for _ in 0..std::mem::take(&mut self.held) {
-                assert!(self.waiting.is_empty(), "only the last height of a row makes rows wait");
-                self.take_one();
-            }
-        }
-        Ok(drawn)
     }
 
     /// "At the finish level 1 closes first, then level 2, and so on"; the sets that a level has left are made "in order".
@@ -331,22 +299,11 @@ impl Steps {
 
 /// All steps of a reader of that shape.
 pub fn steps(shape: Shape) -> Vec<Turn> {
-    steps_to(shape, 0)
-}
-
-/// Those of a reader that stops at level `stop` (Q-6); 0: it has no stop. "It hands out the rows of LL at level j ... and never wants a row of level j
-/// or finer, except LL when j = L"; "at j = L each fed row is the next to draw".
-pub fn steps_to(shape: Shape, stop: usize) -> Vec<Turn> {
     let none = vec![0; shape.levels + 1];
     let making = (0..=shape.levels).map(|level| making_sets(filter::of(shape).near, down(shape).at(level.max(1) - 1))).collect();
     let mut s = Steps { shape, sets: first_sets(shape), making, made: none.clone(), unused: none, turns: Vec::new(), lazy: Vec::new() };
-    let length = across(shape).at(stop).length;
-    for row in 0..if length > 0 { down(shape).at(stop).length } else { 0 } {
-        if stop == shape.levels {
-            s.push(Step::Feed(BandRow { level: stop, band: LL, row, length }));
-        } else {
-            s.use_row(stop + 1);
-        }
+    for row in 0..shape.height {
+        s.use_row(1);
         s.push(Step::Draw(row));
     }
     s.turns
@@ -451,38 +408,6 @@ mod tests {
                     assert_eq!(drawn, wanted);
                     drawn.dedup();
                     assert_eq!(drawn.len(), wanted.len(), "each once");
-                }
-            }
-        }
-    }
-
-    /// A reader that stops at level j is that of the level-j approximation: sides of level j, L - j levels.
-    #[test]
-    fn a_stop_is_the_reader_of_the_approximation() {
-        for width in 1..=5 {
-            for height in 1..=17 {
-                for s in shapes(width, height) {
-                    for stop in 1..s.levels {
-                        let (w, h) = (across(s).at(stop), down(s).at(stop));
-                        let turns = steps_to(s, stop);
-                        if w.length == 0 || h.length == 0 {
-                            assert!(turns.is_empty(), "{s:?}: Done at once");
-                            continue;
-                        }
-                        let coarse = Shape::new(w.length, h.length, s.levels - stop).at(w.start as u16, h.start as u16).by(s.filter);
-                        let further = |m: &Made| (m.level + stop, m.first, m.end, m.own.clone());
-                        let expected = steps(coarse);
-                        assert_eq!(turns.len(), expected.len(), "{s:?} to {stop}");
-                        for (turn, plain) in turns.iter().zip(&expected) {
-                            let step = match plain.step {
-                                Step::Feed(r) => Step::Feed(BandRow { level: r.level + stop, ..r }),
-                                draw => draw,
-                            };
-                            assert_eq!(turn.step, step, "{s:?} to {stop}");
-                            let made: Vec<_> = turn.made.iter().map(|m| (m.level, m.first, m.end, m.own.clone())).collect();
-                            assert_eq!(made, plain.made.iter().map(further).collect::<Vec<_>>(), "{s:?} to {stop}");
-                        }
-                    }
                 }
             }
         }

@@ -22,16 +22,6 @@ pub fn set_up(state: &mut State, s: Shape, store: &mut [i32]) -> Result<(), u32>
     made.map(|_| ())
 }
 
-/// A reader that stops at a level.
-pub fn set_up_at(state: &mut State, s: Shape, stop: usize, store: &mut [i32]) -> Result<(), u32> {
-    let made = numbered(Reader::stopping_at(s, stop, store).map(|r| r.state()), Call::ReaderSetUp);
-    let before = *state;
-    let number = raw::reader_set_up_at(state, s, stop, store);
-    assert_eq!(number, made.err().unwrap_or(0));
-    assert_eq!(*state, made.unwrap_or(before), "the whole array is set, or stays");
-    made.map(|_| ())
-}
-
 /// What the wrapper says, and the raw numbers say the same.
 pub fn want(state: &State) -> Result<Want, u32> {
     let answer = numbered(Reader::resume(*state, &mut []).want(), Call::Want).map(|want| match want {

@@ -39,8 +39,6 @@ fn the_filters() {
     let names = names();
     assert_eq!([names["FIVE_THREE"], names["NINE_SEVEN"]], [terrain::FIVE_THREE as usize, terrain::NINE_SEVEN as usize]);
     let lengths = [terrain::FIVE_THREE, terrain::NINE_SEVEN, 2].map(|filter| raw::store_length(Shape::new(3, 1, 2).by(filter)));
-    assert_eq!(lengths, [4 * (3 + 2) + 3, 8 * (3 + 2) + 3, 0]);
-    let lengths = [terrain::FIVE_THREE, terrain::NINE_SEVEN, 2].map(|filter| raw::reader_store_length(Shape::new(3, 1, 2).by(filter)));
     assert_eq!(lengths, [4 * (3 + 2), 8 * (3 + 2), 0]);
     let most = |filter| (1..10).filter(|l| raw::store_length(Shape::new(1, 1, *l).by(filter)) > 0).count();
     assert_eq!([most(terrain::FIVE_THREE), most(terrain::NINE_SEVEN)], [names["MAX_LEVELS"], names["MAX_LEVELS"] - 1]);
@@ -164,7 +162,7 @@ fn the_questions() {
     let questions = questions.split_once("/* The questions: ").expect("the questions").1.split_once("\n\n").expect("their end").0;
     let named: Vec<u32> = questions.lines().filter_map(|l| l.strip_prefix("#define TERRAIN_")?.split_once(' ')?.1.parse().ok()).collect();
     assert!(named.windows(2).all(|pair| pair[0] < pair[1]), "{named:?}");
-    assert!((1..=21).all(|n| named.contains(&n)), "{named:?}");
+    assert!((1..=16).chain([18, 19, 21]).all(|n| named.contains(&n)), "{named:?}");
     let advice = text("docs/STUDIOS.md");
     assert!(named.iter().all(|n| advice.contains(&format!("\n| {n} | "))), "{named:?}");
     assert_eq!(names()["NO_MAP"], 14);

@@ -1,15 +1,198 @@
 //! The reader against the independent transform and the independent steps, and round trips through writer and reader, by each filter.
 use std::collections::HashMap;
-use terrain::raw::{self, State};
+use terrain::raw::State;
 use terrain::{map_backward, Reader, Shape, Writer};
 use terrain_tests::areas::Guarded;
 use terrain_tests::filter::{self, FILTERS, NINE_SEVEN};
-use terrain_tests::maps::{self, MAX_HEIGHT, MAX_LEVELS, MAX_WIDTH};
-use terrain_tests::order::{self, Step};
-use terrain_tests::play::{damaged, Play, DRAWN, ENDED, HEIGHT, SURPLUS};
+use terrain_tests::maps::{self, Rebuilt, MAX_HEIGHT, MAX_LEVELS, MAX_WIDTH};
+use terrain_tests::order::{self, BandRow, Step, Turn};
 use terrain_tests::random::Random;
 use terrain_tests::reader::{self, Want};
 use terrain_tests::writer;
+
+/// Numbers lent beyond what a line store needs.
+const SURPLUS: usize = 5;
+
+/// Where docs/STATE.md has the flag of a reader that 14 ended.
+const ENDED: usize = 7;
+
+/// And the height and the number of rows drawn.
+const HEIGHT: usize = 2;
+const DRAWN: usize = 4;
+
+/// A reader beside what it must answer, over one plane, a map's or not.
+struct Play<'a> {
+    shape: Shape,
+    plane: &'a [i32],
+    /// what the plane makes of each level over 32-bit words
+    grids: Vec<Rebuilt>,
+    turns: Vec<Turn>,
+    at: usize,
+    ended: bool,
+    /// rows that the state says were drawn before the map's own
+    skipped: usize,
+    state: State,
+    store: Guarded,
+}
+
+impl<'a> Play<'a> {
+    fn new(plane: &'a [i32], shape: Shape) -> Self {
+        let needed = order::store_length(shape);
+        let mut store = Guarded::unset(needed + SURPLUS);
+        let mut state = [u64::MAX; 16];
+        assert_eq!(reader::set_up(&mut state, shape, store.lent()), Ok(()), "{shape:?}");
+        assert!(store.content()[..needed].iter().all(|&v| v == 0), "set-up zeroes the needed part");
+        let (grids, turns) = (maps::rebuilt(plane, shape), order::steps(shape));
+        Play { shape, plane, grids, turns, at: 0, ended: false, skipped: 0, state, store }
+    }
+
+    fn step(&self) -> Option<Step> {
+        self.turns.get(self.at).map(|t| t.step)
+    }
+
+    fn row(&self, r: BandRow) -> Vec<i32> {
+        self.plane[order::place(self.shape, r)].to_vec()
+    }
+
+    /// Question 14 of the next step: whether all rows fit that its call makes.
+    fn fits(&self) -> bool {
+        self.turns[self.at].made.iter().all(|m| {
+            let grid = &self.grids[m.level];
+            let fits = grid.rows[m.first..m.end].iter().flatten().all(|&v| maps::fits(self.shape, m.level, v));
+            fits && grid.even[m.own.clone()].iter().all(|&even| even)
+        })
+    }
+
+    fn want(&self) {
+        let wanted = match self.step() {
+            _ if self.ended => Want::Ended,
+            Some(Step::Feed(r)) => Want::Row(BandRow { row: r.row + (self.skipped >> r.level), ..r }),
+            Some(Step::Draw(_)) => Want::Draw,
+            None => Want::Done,
+        };
+        assert_eq!(reader::want(&self.state), Ok(wanted), "{:?} at step {}", self.shape, self.at);
+    }
+
+    /// Makes a call that must be answered by `answer`: the surplus stays, and where it is turned away the whole store; but 14 zeroes the
+    /// needed part and ends the reader.
+    fn call<T: PartialEq + std::fmt::Debug>(&mut self, answer: Result<T, u32>, run: impl FnOnce(&mut State, &mut [i32]) -> Result<T, u32>) {
+        let mut state = self.state;
+        let before = if answer.is_err() { self.store.content().to_vec() } else { Vec::new() };
+        assert_eq!(run(&mut self.state, self.store.lent()), answer, "{:?} at step {}", self.shape, self.at);
+        let needed = self.store.content().len() - SURPLUS;
+        assert!(self.store.is_unset_from(needed), "the surplus of the store is touched");
+        if answer == Err(14) {
+            self.ended = true;
+            state[ENDED] = 1;
+            assert_eq!(self.state, state, "14 ends the reader, and its other numbers stay");
+            assert!(self.store.content()[..needed].iter().all(|&v| v == 0), "14 zeroes the needed part");
+        } else {
+            assert!(answer.is_ok() || self.store.content() == before, "a refusal changes nothing");
+        }
+    }
+
+    fn feed(&mut self, run: &[i32]) -> Result<(), u32> {
+        let answer = match self.step() {
+            _ if self.ended => Err(9),
+            Some(Step::Feed(r)) if run.len() != r.length => Err(13),
+            Some(Step::Feed(r)) if run.iter().any(|&v| i64::from(v).abs() > maps::range(self.shape, r.level)) => Err(7),
+            Some(Step::Feed(_)) if !self.fits() => Err(14),
+            Some(Step::Feed(_)) => Ok(()),
+            _ => Err(8),
+        };
+        self.call(answer, |state, store| reader::feed(state, store, run));
+        self.at += usize::from(answer.is_ok());
+        answer
+    }
+
+    fn draw(&mut self, room: usize) -> Result<usize, u32> {
+        let width = self.shape.width;
+        let answer = match self.step() {
+            _ if self.ended => Err(9),
+            Some(Step::Draw(_)) if room < width => Err(12),
+            Some(Step::Draw(_)) if !self.fits() => Err(14),
+            Some(Step::Draw(_)) => Ok(width),
+            _ => Ok(0),
+        };
+        let mut out = Guarded::<u16>::unset(room);
+        self.call(answer, |state, store| reader::draw(state, store, out.lent()));
+        if let (Ok(1..), Some(Step::Draw(row))) = (answer, self.step()) {
+            let expected: Vec<u16> = self.grids[0].rows[row].iter().map(|&v| u16::try_from(v).unwrap()).collect();
+            assert_eq!(out.content()[..width], expected, "{:?}: height row {row}", self.shape);
+            self.at += 1;
+        }
+        assert!(out.is_unset_from(answer.unwrap_or(0)), "the surplus of the output area is touched");
+        answer
+    }
+
+    /// Calls at a wrong moment, of a wrong length, with an area too short or with a number out of range.
+    fn wrongly(&mut self, random: &mut Random) {
+        let short = self.store.content().len() - SURPLUS - 1;
+        match random.below(6) {
+            0 => {
+                let mut out = Guarded::<u16>::unset(self.shape.width);
+                self.call(Err(5), |state, store| reader::feed(state, &mut store[..short], &[1]));
+                self.call(Err(5), |state, store| reader::draw(state, &mut store[..short], out.lent()));
+                assert!(out.is_unset_from(0));
+            }
+            1 if !matches!(self.step(), Some(Step::Draw(_))) => {
+                let _ = self.draw(self.shape.width + random.below(3));
+            }
+            1 | 2 => {
+                let _ = self.draw(random.below(self.shape.width));
+            }
+            3 => match self.step() {
+                Some(Step::Feed(r)) if !self.ended => {
+                    for len in [0, r.length - 1, r.length + 1, self.shape.width + 7] {
+                        if len != r.length {
+                            assert_eq!(self.feed(&vec![0; len]), Err(13));
+                        }
+                    }
+                }
+                _ => {
+                    let _ = self.feed(&vec![0; random.below(4)]);
+                }
+            },
+            4 => {
+                if let (Some(Step::Feed(r)), false) = (self.step(), self.ended) {
+                    let mut run = vec![0; r.length];
+                    let reach = maps::range(self.shape, r.level) as i32;
+                    run[random.below(r.length)] = [reach + 1, -reach - 1, i32::MIN, i32::MAX][random.below(4)];
+                    assert_eq!(self.feed(&run), Err(7));
+                }
+            }
+            _ => self.want(),
+        }
+    }
+
+    /// Feeds and draws as wanted until Done or until a question says no: its number, or 0.
+    fn run(&mut self, random: &mut Random) -> u32 {
+        loop {
+            self.want();
+            if random.below(4) == 0 {
+                self.wrongly(random);
+                self.want();
+            }
+            let answer = match self.step() {
+                Some(Step::Feed(r)) => self.feed(&self.row(r)),
+                Some(Step::Draw(_)) => self.draw(self.shape.width + [0, 0, 3][random.below(3)]).map(|_| ()),
+                None => break,
+            };
+            if let Err(number) = answer {
+                for _ in 0..4 {
+                    self.wrongly(random);
+                }
+                self.want();
+                return number;
+            }
+        }
+        for _ in 0..4 {
+            self.wrongly(random);
+        }
+        self.want();
+        0
+    }
+}
 
 #[test]
 fn every_small_size_at_every_origin() {
@@ -63,6 +246,24 @@ fn larger_and_odd_sizes() {
     }
 }
 
+/// A reader a few rows below the limit: one in the middle of a map, whose state is told that the map is the longest there is and that as many
+/// more rows are drawn. What it answers then is what it answers without, but for the row numbers.
+fn near_the_limit<'a>(plane: &'a [i32], shape: Shape) -> Play<'a> {
+    let period = filter::of(shape).rows as u64 * (1 << shape.levels);
+    let mut play = Play::new(plane, shape);
+    while play.state[DRAWN] < period {
+        match play.step() {
+            Some(Step::Feed(r)) => assert_eq!(play.feed(&play.row(r)), Ok(())),
+            _ => assert_eq!(play.draw(shape.width), Ok(shape.width)),
+        }
+    }
+    play.skipped = MAX_HEIGHT - shape.height;
+    assert_eq!(play.skipped as u64 % period, 0);
+    play.state[HEIGHT] += play.skipped as u64;
+    play.state[DRAWN] += play.skipped as u64;
+    play
+}
+
 #[test]
 fn the_row_limit() {
     let mut random = Random::new(27);
@@ -71,7 +272,7 @@ fn the_row_limit() {
             let shape = Shape::new(width, 3 * (filter.rows << levels) - 1, levels).by(number);
             for heights in maps::maps(width, shape.height) {
                 let plane = maps::forward(&heights, shape);
-                let mut play = Play::new(&plane, shape).near_the_limit();
+                let mut play = near_the_limit(&plane, shape);
                 assert_eq!(play.run(&mut random), 0);
                 assert_eq!(play.state[HEIGHT..=DRAWN], [MAX_HEIGHT as u64, levels as u64, MAX_HEIGHT as u64]);
             }
@@ -83,7 +284,7 @@ fn the_row_limit() {
 fn past_the_row_limit() {
     let shape = Shape::new(3, 47, 2);
     let plane = maps::forward(&[5; 3 * 47], shape);
-    let play = Play::new(&plane, shape).near_the_limit();
+    let play = near_the_limit(&plane, shape);
     let most = MAX_HEIGHT as u64;
     for (height, drawn, fits) in [(most - 1, most - 1, true), (most, most - 1, true), (most, most, true), (most + 1, 0, false), (most, most + 1, false)] {
         let (mut state, mut store) = (play.state, play.store.content().to_vec());
@@ -96,6 +297,26 @@ fn past_the_row_limit() {
             assert_eq!(store, play.store.content());
         }
     }
+}
+
+/// A plane with one to three numbers changed: to the ends of their range, past them, a little, or to anything.
+fn damaged(s: Shape, random: &mut Random) -> Vec<i32> {
+    let all = maps::maps(s.width, s.height);
+    let mut plane = maps::forward(&all[random.below(all.len())], s);
+    for _ in 0..1 + random.below(3) {
+        let i = random.below(plane.len());
+        let reach = maps::range(s, maps::level_at(s, i)) as i32;
+        plane[i] = match random.below(8) {
+            0 => reach,
+            1 => -reach,
+            2 => reach + 1,
+            3 => random.word(),
+            4 => plane[i].wrapping_add(1),
+            5 => plane[i].wrapping_sub(1),
+            _ => plane[i].wrapping_add(random.below(9) as i32 - 4),
+        };
+    }
+    plane
 }
 
 /// "7 or 14 before Done exactly where the whole map backward refuses": which of the two, and in which call, is the model's.
@@ -226,7 +447,7 @@ fn an_odd_lone_value_gives_14_in_the_feed_of_its_set() {
 
 /// Through a writer and a reader, with nothing between them but the rows: the heights again.
 fn round_trip(heights: &[u16], s: Shape) {
-    let mut store = Guarded::unset(order::writer_store_length(s));
+    let mut store = Guarded::unset(order::store_length(s));
     let mut writer = Writer::new(s, store.lent()).unwrap();
     let mut rows: HashMap<terrain::BandRow, Vec<i32>> = HashMap::new();
     let mut out = vec![0; s.width];
@@ -353,50 +574,29 @@ fn a_made_row_is_drawn_modulo_65_536_whatever_the_store_holds() {
     }
 }
 
-/// The most numbers that a reader without levels can have beside it.
-const MAX_SPARE: u64 = 131_136;
-
-/// The counts of a reader, as docs/STATE.md lists them: whether question 1 passes. Those of a reader with a stop are of the low-low part that it reads,
-/// which may have no level left to work out.
+/// The counts of a reader, as docs/STATE.md lists them: whether question 1 passes.
 fn counts_fit(s: &State) -> bool {
-    let [kind, width, height, levels, drawn, level, band, ended, x, y, back, number, stop, spare, ..] = *s;
-    if kind != 2 || number >= FILTERS.len() as u64 {
-        return false;
-    }
-    let f = &FILTERS[number as usize];
-    let (most, stretch) = (f.levels as u64, (f.rows * MAX_WIDTH) as u64);
-    let sizes = if levels > 0 {
-        (1..=2_049).contains(&width) && (1..=MAX_HEIGHT as u64).contains(&height) && level <= levels && back <= 2 * f.ahead as u64 - 1
-    } else {
-        width <= 2_049 && height <= MAX_HEIGHT as u64 && level == 0 && back == 0 && stop > 0 && width <= spare
-    };
-    sizes
-        && levels <= most
-        && stop <= most - levels
-        && spare <= if levels > 0 { stop * stretch } else { MAX_SPARE }
+    let [kind, width, height, levels, drawn, level, band, ended, x, y, back, number, ..] = *s;
+    kind == 2
+        && number < FILTERS.len() as u64
+        && (1..=2_049).contains(&width)
+        && (1..=MAX_HEIGHT as u64).contains(&height)
+        && (1..=FILTERS[number as usize].levels as u64).contains(&levels)
         && drawn <= height
+        && level <= levels
         && band <= 4
         && ended <= 1
         && x <= 65_535
         && y <= 65_535
-        && s[14..].iter().all(|&n| n == 0)
-}
-
-/// The numbers of the line store that the counts of a reader speak of: its own levels' and, with a stop, those of the levels left out.
-fn needed_by(s: &State) -> usize {
-    let own = if s[3] > 0 { order::store_length(Shape::new(s[1] as usize, 1, s[3] as usize).at(s[8] as u16, 0).by(s[11] as u32)) } else { 0 };
-    own + s[13] as usize
+        && back <= 2 * FILTERS[number as usize].ahead as u64 - 1
+        && s[12..].iter().all(|&n| n == 0)
 }
 
 /// All calls on a state and a store, whatever they hold: each returns, answers 1 or 5 exactly where it must, and stays in its areas.
 fn bear(state: &State, store: &[i32], random: &mut Random) {
     let fit = counts_fit(state);
-    let needed = if fit { needed_by(state) } else { 0 };
-    if fit && state[1] == 0 {
-        // rows without a number, which no list of calls reaches: a draw gives them, 0 heights each, and goes on
-        assert_eq!(raw::reader_want(state, &mut [0; 5]), 0);
-        return;
-    }
+    let shape = || Shape::new(state[1] as usize, 1, state[3] as usize).at(state[8] as u16, 0).by(state[11] as u32);
+    let needed = if fit { order::store_length(shape()) } else { 0 };
     let first = if !fit {
         Some(1)
     } else if store.len() < needed {
@@ -409,8 +609,7 @@ fn bear(state: &State, store: &[i32], random: &mut Random) {
     assert!(fit || want == Err(1));
     let mut len = random.below(9);
     if let Ok(Want::Row(r)) = want {
-        let (stop, levels) = (state[12] as usize, state[3] as usize);
-        assert!(r.level >= 1 && r.level > stop - usize::from(levels == 0) && r.level <= stop + levels && r.band <= 3 && r.length <= state[1] as usize);
+        assert!(r.level >= 1 && r.level <= state[3] as usize && r.band <= 3 && r.length <= state[1] as usize);
         len = r.length + usize::from(random.below(8) == 0);
     }
     let run: Vec<i32> = (0..len).map(|_| [random.below(65_536) as i32, 0, random.word()][random.below(3)]).collect();
@@ -442,53 +641,39 @@ fn bear(state: &State, store: &[i32], random: &mut Random) {
     }
 }
 
-/// A state with its counts in their ranges, or nearly: without a stop, with one, and with one that leaves no level.
-fn any_state(random: &mut Random) -> State {
-    let up_to = |random: &mut Random, n: u64| random.below(n as usize + 1) as u64;
-    let width = [1, 1, 2, 3, 5, 8, 17, 2_049][random.below(8)] as u64;
-    let height = [1 + random.below(12), 1 + random.below(MAX_HEIGHT), MAX_HEIGHT][random.below(3)] as u64;
-    let (number, most) = filter::kind(random);
-    let f = &FILTERS[number as usize];
-    let stop = [0, random.below(most + 1)][random.below(2)];
-    // a stop takes levels away; all of them, now and then
-    let levels = if stop == 0 || random.below(8) == 0 { most } else { most - stop };
-    let spare = if stop == 0 { 0 } else { up_to(random, (stop * f.rows) as u64 * 3) + width };
-    let (level, back) = if levels == 0 { (0, 0) } else { (up_to(random, levels as u64), up_to(random, 2 * f.ahead as u64 - 1)) };
-    let (x, y) = maps::origin(random);
-    let mut state = [0; 16];
-    state[..14].copy_from_slice(&[
-        2,
-        width,
-        height,
-        levels as u64,
-        up_to(random, height),
-        level,
-        up_to(random, 4),
-        u64::from(random.below(8) == 0),
-        x.into(),
-        y.into(),
-        back,
-        // the other filter's, now and then
-        u64::from(if random.below(12) == 0 { 1 - number } else { number }),
-        stop as u64,
-        spare,
-    ]);
-    if random.below(3) == 0 {
-        let i = random.below(16);
-        state[i] = [0, 1, 2, 6, 2_050, 65_536, 1 << 32, u64::MAX][random.below(8)];
-    }
-    state
-}
-
 #[test]
 fn states_nobody_reached_and_scribbled_stores() {
     let mut random = Random::new(27);
-    let mut passed = [0; 3];
-    for _ in 0..90_000 {
-        let state = any_state(&mut random);
-        let fit = counts_fit(&state);
-        passed[if state[3] == 0 { 2 } else { usize::from(state[12] > 0) }] += usize::from(fit);
-        let needed = if fit { needed_by(&state) } else { 40 };
+    let mut passed = 0;
+    for _ in 0..60_000 {
+        let width = [1, 1, 2, 3, 5, 8, 17, 2_049][random.below(8)] as u64;
+        let height = [1 + random.below(12), 1 + random.below(MAX_HEIGHT), MAX_HEIGHT][random.below(3)] as u64;
+        let (number, levels) = filter::kind(&mut random);
+        let (ahead, number, levels) = (FILTERS[number as usize].ahead as u64, number as u64, levels as u64);
+        let up_to = |random: &mut Random, n: u64| random.below(n as usize + 1) as u64;
+        let (x, y) = maps::origin(&mut random);
+        let mut state = [0; 16];
+        state[..12].copy_from_slice(&[
+            2,
+            width,
+            height,
+            levels,
+            up_to(&mut random, height),
+            up_to(&mut random, levels),
+            up_to(&mut random, 4),
+            u64::from(random.below(8) == 0),
+            x.into(),
+            y.into(),
+            up_to(&mut random, 2 * ahead - 1),
+            // the other filter's, now and then
+            if random.below(12) == 0 { 1 - number } else { number },
+        ]);
+        if random.below(3) == 0 {
+            let i = random.below(16);
+            state[i] = [0, 1, 2, 6, 2_050, 65_536, 1 << 32, u64::MAX][random.below(8)];
+        }
+        passed += usize::from(counts_fit(&state));
+        let needed = order::store_length(Shape::new(width as usize, 1, levels as usize).at(x, y).by(number as u32));
         let len = needed + [0, 3, 11][random.below(3)] - usize::from(random.below(5) == 0);
         let store: Vec<i32> = match random.below(3) {
             0 => vec![[i32::MIN, i32::MAX, -1][random.below(3)]; len],
@@ -497,7 +682,7 @@ fn states_nobody_reached_and_scribbled_stores() {
         };
         bear(&state, &store, &mut random);
     }
-    assert!(passed.iter().zip([30_000, 9_000, 2_000]).all(|(&n, least)| n > least), "{passed:?} states pass question 1");
+    assert!(passed > 30_000, "{passed} states pass question 1");
 }
 
 #[test]
@@ -564,7 +749,7 @@ fn states_with_a_wrong_filter_give_1() {
 
 #[test]
 fn a_writer_s_state_is_no_reader_s() {
-    let mut store = vec![0; order::writer_store_length(Shape::new(3, 1, 2))];
+    let mut store = vec![0; order::store_length(Shape::new(3, 1, 2))];
     let (mut of_writer, mut of_reader) = ([0; 16], [0; 16]);
     assert_eq!(writer::set_up(&mut of_writer, Shape::new(3, 3, 2), &mut store), Ok(()));
     assert_eq!(reader::set_up(&mut of_reader, Shape::new(3, 3, 2), &mut store), Ok(()));

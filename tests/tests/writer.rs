@@ -1,7 +1,6 @@
 //! The writer against the independent transform and the independent order, by each filter.
-use std::sync::{Condvar, Mutex};
 use terrain::raw::State;
-use terrain::{reader_store_length, store_length, Band, OwnedWriter, Shape, Writer};
+use terrain::{store_length, Band, Shape, Writer};
 use terrain_tests::areas::Guarded;
 use terrain_tests::filter::{self, FILTERS, NINE_SEVEN};
 use terrain_tests::maps::{self, MAX_HEIGHT, MAX_LEVELS, MAX_WIDTH};
@@ -32,7 +31,7 @@ struct Play<'a> {
 impl<'a> Play<'a> {
     fn new(heights: &'a [u16], shape: Shape) -> Self {
         let plane = maps::forward(heights, shape);
-        let needed = order::writer_store_length(shape);
+        let needed = order::store_length(shape);
         let mut store = Guarded::unset(needed + SURPLUS);
         let mut state = [u64::MAX; 16];
         assert_eq!(writer::set_up(&mut state, shape, store.lent()), Ok(()), "{shape:?}");
@@ -53,11 +52,8 @@ impl<'a> Play<'a> {
     fn offer(&mut self, run: usize) {
         let end = self.heights.len().min(self.taken + run);
         let offered = &self.heights[self.taken..end];
-        let levels = order::store_length(self.shape);
-        let before = self.model.waits().map(|_| self.store.content()[..levels].to_vec());
         let answer = self.model.offer(offered.len());
         self.call(answer, |state, store| writer::offer(state, store, offered));
-        assert!(before.is_none_or(|levels_before| self.store.content()[..levels] == levels_before), "with rows waiting the levels' stretches stay");
         self.taken += answer.unwrap_or(0);
     }
 
@@ -82,7 +78,7 @@ impl<'a> Play<'a> {
 
     /// Each call on a store that is one too short.
     fn lend_too_little(&mut self) {
-        let short = order::writer_store_length(self.shape) - 1;
+        let short = order::store_length(self.shape) - 1;
         let mut out = Guarded::unset(self.shape.width);
         self.call(Err(5), |state, store| writer::offer(state, &mut store[..short], &[1]));
         self.call(Err(5), |state, store| writer::draw(state, &mut store[..short], out.lent()));
@@ -92,7 +88,7 @@ impl<'a> Play<'a> {
 
     fn out_of_order(&mut self, random: &mut Random) {
         match random.below(5) {
-            0 => self.offer([random.below(3), random.below(2 * self.shape.width + 2)][random.below(2)]),
+            0 => self.offer(random.below(3)),
             1 => self.draw(random.below(1 + self.shape.width)),
             2 => self.lend_too_little(),
             // a finish that passes would end the map before its last row
@@ -103,18 +99,11 @@ impl<'a> Play<'a> {
 
     /// The whole map, cut at random, every so often a call out of order.
     fn run(&mut self, random: &mut Random, most: usize) {
-        self.run_ahead(random, most, 0);
-    }
-
-    /// The same, with `often` of four calls that find rows waiting an offer.
-    fn run_ahead(&mut self, random: &mut Random, most: usize, often: usize) {
         loop {
             if random.below(6) == 0 {
                 self.out_of_order(random);
             }
-            if self.model.waits().is_some() && random.below(4) < often {
-                self.offer([1, random.below(self.shape.width + 1), self.shape.width, most][random.below(4)]);
-            } else if let Some(r) = self.model.waits() {
+            if let Some(r) = self.model.waits() {
                 self.draw(r.length + [0, 0, 1, 40][random.below(4)]);
             } else if self.taken < self.heights.len() {
                 let row = self.shape.width;
@@ -171,146 +160,6 @@ fn larger_and_odd_sizes() {
     }
 }
 
-/// Offers while band rows wait, most of the time and now and then.
-#[test]
-fn offers_while_rows_wait() {
-    let mut random = Random::new(15);
-    for width in 1..=9 {
-        for height in 1..=9 {
-            for (number, levels) in filter::kinds() {
-                for heights in maps::maps(width, height) {
-                    for (x, y) in maps::origins() {
-                        let often = 1 + random.below(3);
-                        Play::new(&heights, Shape::new(width, height, levels).at(x, y).by(number)).run_ahead(&mut random, 2 * width + 1, often);
-                    }
-                }
-            }
-        }
-    }
-    for _ in 0..60 {
-        let (width, height) = [(1 + random.below(130), 1 + random.below(70)), (1 + random.below(MAX_WIDTH), 1 + random.below(12))][random.below(2)];
-        for (number, levels) in filter::few_kinds(&mut random) {
-            let mut all = maps::maps(width, height);
-            let heights = all.swap_remove(random.below(all.len()));
-            let (x, y) = maps::origin(&mut random);
-            Play::new(&heights, Shape::new(width, height, levels).at(x, y).by(number)).run_ahead(&mut random, 3 * width, 2);
-        }
-    }
-}
-
-/// A writer with nothing between the test and the library, and what it has handed out.
-struct Plain {
-    writer: OwnedWriter,
-    drawn: Vec<(BandRow, Vec<i32>)>,
-}
-
-impl Plain {
-    fn new(s: Shape) -> Self {
-        Plain { writer: OwnedWriter::new(s).unwrap(), drawn: Vec::new() }
-    }
-
-    fn waits(&mut self) -> bool {
-        self.writer.with(|w| w.waits()).unwrap().is_some()
-    }
-
-    /// Whether a row was drawn.
-    fn draw(&mut self) -> bool {
-        let Some((r, values)) = self.writer.draw().unwrap() else { return false };
-        self.drawn.push((BandRow { level: r.level, band: r.band as usize, row: r.row, length: r.length }, values.to_vec()));
-        true
-    }
-}
-
-/// 02: "What is drawn must be what it would have been had those heights come after the draws." Two lists, by answers and values alone: the other one
-/// leaves out the offers that found rows waiting, and after each draw that empties the wait stands one offer of the heights held, which takes
-/// them all. Every draw and every finish answers alike.
-#[test]
-fn what_is_drawn_is_that_of_the_list_with_those_heights_after_the_draws() {
-    let mut random = Random::new(16);
-    let (mut draws, mut moved) = (0, 0);
-    for _ in 0..3_000 {
-        let ((x, y), (number, levels)) = (maps::origin(&mut random), filter::kind(&mut random));
-        let s = Shape::new(1 + random.below(9), 1, levels).at(x, y).by(number);
-        let (mut one, mut other) = (Plain::new(s), Plain::new(s));
-        let mut held: Vec<u16> = Vec::new();
-        for _ in 0..80 {
-            let waits = one.waits();
-            assert_eq!(waits, other.waits(), "{s:?}");
-            match random.below(if waits { 8 } else { 40 }) {
-                0 | 1 => {
-                    draws += usize::from(waits);
-                    assert_eq!((one.draw(), other.draw()), (waits, waits));
-                    assert_eq!(one.drawn.last(), other.drawn.last(), "{s:?}");
-                    if waits && !other.waits() && !held.is_empty() {
-                        assert_eq!(other.writer.offer(&held), Ok(held.len()), "{s:?}");
-                        moved += held.len();
-                        held.clear();
-                    }
-                }
-                2 => assert_eq!(one.writer.finish(), other.writer.finish(), "{s:?}"),
-                _ => {
-                    let run: Vec<u16> = (0..random.below(2 * s.width + 2)).map(|_| random.bits() as u16).collect();
-                    let taken = one.writer.offer(&run);
-                    if !waits {
-                        assert_eq!(taken, other.writer.offer(&run), "{s:?}");
-                    } else if let Ok(taken) = taken {
-                        held.extend_from_slice(&run[..taken]);
-                        assert_eq!(taken, run.len().min(s.width - (held.len() - taken)), "{s:?}");
-                    }
-                }
-            }
-        }
-    }
-    assert!(draws > 10_000 && moved > 10_000, "{draws} draws, {moved} heights moved on");
-}
-
-/// One thread offers and one draws, under one lock: an editor that paints while the disk is slow.
-#[test]
-fn two_threads_under_one_lock() {
-    let mut random = Random::new(17);
-    for _ in 0..40 {
-        let ((x, y), (number, levels)) = (maps::origin(&mut random), filter::kind(&mut random));
-        let s = Shape::new(1 + random.below(60), 1 + random.below(60), levels).at(x, y).by(number);
-        let heights: Vec<u16> = (0..s.width * s.height).map(|_| random.bits() as u16).collect();
-        let shared = (Mutex::new((Plain::new(s), false)), Condvar::new());
-        std::thread::scope(|threads| {
-            threads.spawn(|| {
-                let (lock, went_on) = &shared;
-                let mut rest = &heights[..];
-                let mut open = lock.lock().unwrap();
-                while !rest.is_empty() || open.0.writer.finish().is_err() {
-                    let taken = if rest.is_empty() { 0 } else { open.0.writer.offer(&rest[..rest.len().min(7)]).unwrap() };
-                    rest = &rest[taken..];
-                    // 0 taken, or a finish that gives 8: rows wait
-                    open = if taken == 0 { went_on.wait_while(open, |open| open.0.waits()).unwrap() } else { open };
-                    went_on.notify_one();
-                }
-                open.1 = true;
-                went_on.notify_one();
-            });
-            threads.spawn(|| {
-                let (lock, went_on) = &shared;
-                let mut open = lock.lock().unwrap();
-                loop {
-                    open = went_on.wait_while(open, |open| !open.1 && !open.0.waits()).unwrap();
-                    if !open.0.draw() {
-                        break;
-                    }
-                    went_on.notify_one();
-                    // the disk: the other thread has the lock meanwhile
-                    drop(open);
-                    std::thread::yield_now();
-                    open = lock.lock().unwrap();
-                }
-            });
-        });
-        let (plane, mut drawn) = (maps::forward(&heights, s), shared.0.into_inner().unwrap().0.drawn);
-        assert_eq!(drawn.iter().map(|(r, _)| r.length).sum::<usize>(), plane.len(), "{s:?}: every coefficient");
-        drawn.retain(|(r, values)| plane[order::place(s, *r)] != values[..]);
-        assert_eq!(drawn, [], "{s:?}");
-    }
-}
-
 /// Rows in which every level's slots and sets come round again.
 fn period(number: u32, levels: usize) -> usize {
     FILTERS[number as usize].rows << levels
@@ -324,14 +173,13 @@ fn at_the_limit() -> impl Iterator<Item = (u32, usize, usize)> {
 
 /// A writer a few rows below the limit: one in the middle of a map, whose state is told that it has taken many more rows. What it answers
 /// then is what it answers without, but for the row numbers, up to the limit.
-fn near_the_limit<'a>(heights: &'a [u16], shape: Shape, random: &mut Random) -> Play<'a> {
-    let (Shape { width, height, levels, .. }, number) = (shape, shape.filter);
-    let mut play = Play::new(heights, shape);
-    while play.model.rows() < period(number, levels) || play.model.waits().is_some() {
-        if play.model.waits().is_some() {
+fn near_the_limit<'a>(heights: &'a [u16], number: u32, width: usize, levels: usize, random: &mut Random) -> Play<'a> {
+    let height = heights.len() / width;
+    let mut play = Play::new(heights, Shape::new(width, height, levels).by(number));
+    while play.model.rows() < period(number, levels) {
+        play.offer(1 + random.below(3 * width));
+        while play.model.waits().is_some() {
             play.draw(width);
-        } else {
-            play.offer(1 + random.below(3 * width));
         }
     }
     play.skipped = MAX_HEIGHT - height;
@@ -345,59 +193,29 @@ fn near_the_limit<'a>(heights: &'a [u16], shape: Shape, random: &mut Random) -> 
 fn the_row_limit() {
     let mut random = Random::new(13);
     for (number, width, levels) in at_the_limit() {
-        for y in 0..4 {
-            the_row_limit_of(Shape::new(width, 3 * period(number, levels) - 1, levels).at(0, y).by(number), &mut random);
+        let height = 3 * period(number, levels) - 1;
+        let heights: Vec<u16> = (0..width * height + 1).map(|_| random.below(65_536) as u16).collect();
+        let mut play = near_the_limit(&heights[..width * height], number, width, levels, &mut random);
+        while play.model.rows() < height {
+            // one height more than the map has: the limit stops the offer before it
+            play.heights = &heights;
+            play.offer(2 * width + 1 + random.below(3));
+            while play.model.waits().is_some() {
+                play.draw(width);
+            }
         }
-    }
-}
-
-/// By offers with none waiting and, half the time, with rows waiting.
-fn the_row_limit_of(shape: Shape, random: &mut Random) {
-    let (width, height) = (shape.width, shape.height);
-    let heights: Vec<u16> = (0..width * height + 1).map(|_| random.below(65_536) as u16).collect();
-    let mut play = near_the_limit(&heights[..width * height], shape, random);
-    // one height more than the map has: the limit stops the offer before it
-    play.heights = &heights;
-    while play.model.rows() < height || play.model.waits().is_some() {
-        if play.model.waits().is_some() && random.below(2) == 0 {
+        play.heights = &heights[..width * height];
+        assert_eq!((play.taken, play.state[ROWS]), (width * height, MAX_HEIGHT as u64));
+        for (run, answer) in [(&[7][..], Err(10)), (&[], Ok(0))] {
+            assert_eq!(play.model.offer(run.len()), answer);
+            play.call(answer, |state, store| writer::offer(state, store, run));
+        }
+        play.finish();
+        while play.model.waits().is_some() {
             play.draw(width);
-        } else {
-            play.offer(random.below(2 * width + 2));
         }
+        play.after();
     }
-    play.heights = &heights[..width * height];
-    assert_eq!((play.taken, play.state[ROWS]), (width * height, MAX_HEIGHT as u64));
-    for (run, answer) in [(&[7][..], Err(10)), (&[], Ok(0))] {
-        assert_eq!(play.model.offer(run.len()), answer);
-        play.call(answer, |state, store| writer::offer(state, store, run));
-    }
-    play.finish();
-    while play.model.waits().is_some() {
-        play.draw(width);
-    }
-    play.after();
-}
-
-/// The last row there can be, offered while rows wait: 10 for one height more, 0 taken of none, and the finish must wait.
-#[test]
-fn the_last_row_offered_while_rows_wait() {
-    let s = Shape::new(2, 1, 1).at(0, 1);
-    let mut store = vec![0; order::writer_store_length(s)];
-    let (mut state, mut out) = ([0; 16], [0; 2]);
-    assert_eq!(writer::set_up(&mut state, s, &mut store), Ok(()));
-    state[ROWS] = MAX_HEIGHT as u64 - 2;
-    assert_eq!(writer::offer(&mut state, &mut store, &[1, 2, 3, 4, 5]), Ok(2), "one row makes rows wait");
-    assert_eq!(writer::offer(&mut state, &mut store, &[3, 4, 5]), Ok(2), "the last one is held");
-    for _ in 0..2 {
-        assert_eq!(writer::offer(&mut state, &mut store, &[5]), Err(10));
-        assert_eq!(writer::offer(&mut state, &mut store, &[]), Ok(0));
-        assert_eq!(writer::finish(&mut state, &mut store), Err(8));
-    }
-    while writer::draw(&mut state, &mut store, &mut out).unwrap().is_some() {}
-    assert_eq!(state[ROWS], MAX_HEIGHT as u64);
-    assert_eq!(writer::offer(&mut state, &mut store, &[5]), Err(10));
-    assert_eq!(writer::offer(&mut state, &mut store, &[]), Ok(0));
-    assert_eq!(writer::finish(&mut state, &mut store), Ok(()));
 }
 
 #[test]
@@ -405,7 +223,7 @@ fn past_the_row_limit() {
     let mut random = Random::new(14);
     for number in [0, 1] {
         let heights: Vec<u16> = (0..3 * (3 * period(number, 2) - 1)).map(|i| i as u16).collect();
-        let mut play = near_the_limit(&heights, Shape::new(3, heights.len() / 3, 2).by(number), &mut random);
+        let mut play = near_the_limit(&heights, number, 3, 2, &mut random);
         for (rows, answers) in [(MAX_HEIGHT - 1, [0, 0, 0]), (MAX_HEIGHT, [10, 0, 0]), (MAX_HEIGHT + 1, [1, 1, 1]), (usize::MAX, [1, 1, 1])] {
             play.state[ROWS] = rows as u64;
             play.state[4] = 0;
@@ -438,48 +256,6 @@ fn a_run_is_taken_up_to_the_first_row_that_waits() {
     play.offer(3);
     play.finish();
     assert_eq!(play.taken, 15);
-}
-
-/// With rows waiting the spare row takes up to a row, and the offer that makes rows wait does not go on into it.
-#[test]
-fn the_spare_row_takes_one_row() {
-    let heights: Vec<u16> = (0..60).map(|i| i * i).collect();
-    let mut play = Play::new(&heights, Shape::new(4, 15, 2));
-    for (run, taken) in [(40, 12), (1, 13), (40, 16), (1, 16), (0, 16)] {
-        play.offer(run);
-        assert_eq!(play.taken, taken);
-    }
-    play.finish();
-    play.draw(4);
-    play.draw(4);
-    play.offer(7);
-    assert_eq!((play.taken, play.model.rows()), (16, 3), "one row still waits");
-    play.draw(4);
-    assert_eq!((play.taken, play.model.rows()), (16, 4), "the row has gone on, and made nothing");
-    play.offer(40);
-    assert_eq!((play.taken, play.model.waits().is_some()), (20, true));
-    play.offer(40);
-    for _ in 0..3 {
-        play.draw(4);
-    }
-    assert_eq!((play.taken, play.model.rows()), (24, 6));
-}
-
-/// A state that was kept before writers had a spare row, rows waiting: it goes on, with the longer store that 5 asks for.
-#[test]
-fn a_state_kept_before_goes_on() {
-    let kept = [1, 2, 2, 3, 0, 0, 0, 1, 2, 0, 0, 0, 0, 0, 0, 0];
-    let mut store = vec![4, 2, 3, 6, 2, 3, 5, 3, 0, 0, 0, 0];
-    let (mut state, mut out) = (kept, [0; 2]);
-    assert_eq!(writer::draw(&mut state, &mut store, &mut out), Err(5));
-    store.extend([0; 2]);
-    assert_eq!(writer::offer(&mut state, &mut store, &[7, 9]), Ok(2));
-    for (band, value) in [(order::LH, 5), (order::HH, 3)] {
-        let row = BandRow { level: 1, band, row: 0, length: 1 };
-        assert_eq!(writer::draw(&mut state, &mut store, &mut out), Ok(Some(row)));
-        assert_eq!(out[0], value);
-    }
-    assert_eq!((state[ROWS], writer::finish(&mut state, &mut store)), (4, Ok(())));
 }
 
 /// The band rows of a map, drawn as they come due after each height and after the finish: level, band, number, values.
@@ -556,15 +332,13 @@ fn the_questions_of_set_up() {
     }
     for width in (1..=40).chain([1_024, 1_025, MAX_WIDTH]) {
         for (number, levels) in filter::kinds() {
-            let needed = order::writer_store_length(shape(number, width, levels));
+            let needed = order::store_length(shape(number, width, levels));
             refused(shape(number, width, levels), needed - 1, 5);
-            // a store sized for a reader
-            refused(shape(number, width, levels), needed - width, 5);
             refused(shape(number, width, levels), 0, 5);
             for (x, y) in maps::origins() {
                 let s = shape(number, width, levels).at(x, y);
-                let needed = order::writer_store_length(s);
-                assert_eq!((store_length(s), reader_store_length(s)), (needed, order::store_length(s)));
+                let needed = order::store_length(s);
+                assert_eq!(store_length(s), needed);
                 let mut store = Guarded::unset(needed);
                 assert_eq!(writer::set_up(&mut [7; 16], s, store.lent()), Ok(()));
                 assert!(store.content().iter().all(|&v| v == 0));
@@ -592,15 +366,6 @@ fn start_of(number: u64, width: u64, x: u64, level: u64) -> u64 {
     }
 }
 
-/// The most that `column` can be: heights of the row begun, or, while rows wait, of the spare row; none where no height can come.
-fn most_column(width: u64, rows: u64, finished: u64, level: u64) -> u64 {
-    match level {
-        0 => width.wrapping_sub(1),
-        _ if finished == 1 || rows >= MAX_HEIGHT as u64 => 0,
-        _ => width,
-    }
-}
-
 /// The counts of a writer, as docs/STATE.md lists them: whether question 1 passes.
 fn counts_fit(s: &State) -> bool {
     let [kind, width, levels, rows, column, finished, closed, level, left, offset, x, y, number, ..] = *s;
@@ -609,7 +374,7 @@ fn counts_fit(s: &State) -> bool {
         && (1..=2_049).contains(&width)
         && (1..=FILTERS[number as usize].levels as u64).contains(&levels)
         && rows <= MAX_HEIGHT as u64
-        && column <= most_column(width, rows, finished, level)
+        && column < width
         && finished <= 1
         && closed <= FILTERS[number as usize].ahead as u64 * levels
         && level <= levels
@@ -624,7 +389,7 @@ fn counts_fit(s: &State) -> bool {
 fn needed_by(s: &State) -> usize {
     let [_, width, levels, ..] = s.map(|n| n as usize);
     if counts_fit(s) {
-        order::writer_store_length(Shape::new(width, 1, levels).at(s[10] as u16, 0).by(s[12] as u32))
+        order::store_length(Shape::new(width, 1, levels).at(s[10] as u16, 0).by(s[12] as u32))
     } else {
         0
     }
@@ -662,7 +427,7 @@ fn bear(state: &State, store: &[i32], random: &mut Random) {
         assert_eq!(lent.content()[needed.min(store.len())..], store[needed.min(store.len())..], "the surplus is touched");
         if let Err(number) = answer {
             assert_eq!(lent.content(), store, "a refusal changes nothing");
-            let others: &[u32] = [&[9, 10][..], &[12], &[8, 9, 11]][call];
+            let others: &[u32] = [&[8, 9, 10][..], &[12], &[8, 9, 11]][call];
             assert!(first == Some(number) || (first.is_none() && others.contains(&number)), "{number} of {state:?}");
         } else {
             assert_eq!(first, None, "{state:?}");
@@ -682,8 +447,6 @@ fn states_nobody_reached_and_scribbled_stores() {
         let up_to = |random: &mut Random, n: u64| random.below(n as usize + 1) as u64;
         let level = up_to(&mut random, levels);
         let most = if random.below(6) == 0 { 4 } else { most_left(levels, level) };
-        let finished = up_to(&mut random, 1);
-        let columns = if random.below(6) == 0 { width } else { most_column(width, rows, finished, level) };
         let (x, y) = maps::origin(&mut random);
         let mut state = [0; 16];
         state[..13].copy_from_slice(&[
@@ -691,8 +454,8 @@ fn states_nobody_reached_and_scribbled_stores() {
             width,
             levels,
             rows,
-            up_to(&mut random, columns),
-            finished,
+            up_to(&mut random, width - 1),
+            up_to(&mut random, 1),
             up_to(&mut random, ahead * levels),
             level,
             up_to(&mut random, most),
@@ -707,7 +470,7 @@ fn states_nobody_reached_and_scribbled_stores() {
             state[i] = [0, 1, 2, 6, 2_050, 65_536, 1 << 32, u64::MAX][random.below(8)];
         }
         passed += usize::from(counts_fit(&state));
-        let needed = order::writer_store_length(Shape::new(width as usize, 1, levels as usize).at(x, y).by(number as u32));
+        let needed = order::store_length(Shape::new(width as usize, 1, levels as usize).at(x, y).by(number as u32));
         let len = needed + [0, 3, 11][random.below(3)] - usize::from(random.below(5) == 0);
         let store: Vec<i32> =
             if random.below(2) == 0 { vec![[i32::MIN, i32::MAX, -1][random.below(3)]; len] } else { (0..len).map(|_| random.word()).collect() };
@@ -719,7 +482,7 @@ fn states_nobody_reached_and_scribbled_stores() {
 /// A number that no filter has, levels that the 9/7 has not, and a closing longer than the 5/3's.
 #[test]
 fn states_with_a_wrong_filter_give_1() {
-    let mut store = vec![0; order::writer_store_length(Shape::new(3, 1, 4).by(NINE_SEVEN))];
+    let mut store = vec![0; order::store_length(Shape::new(3, 1, 4).by(NINE_SEVEN))];
     for (number, levels) in filter::kinds() {
         let mut state = [0; 16];
         assert_eq!(writer::set_up(&mut state, Shape::new(3, 1, levels).by(number), &mut store), Ok(()));
@@ -755,7 +518,7 @@ fn a_store_scribbled_in_between_two_calls() {
         let (x, y) = maps::origin(&mut random);
         let (number, levels) = filter::kind(&mut random);
         let s = Shape::new(1 + random.below(20), 1, levels).at(x, y).by(number);
-        let (width, needed) = (s.width, order::writer_store_length(s));
+        let (width, needed) = (s.width, order::store_length(s));
         let mut store = Guarded::unset(needed + SURPLUS);
         let mut state = [0; 16];
         assert_eq!(writer::set_up(&mut state, s, store.lent()), Ok(()));

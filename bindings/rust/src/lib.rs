@@ -59,7 +59,7 @@ mod writer;
 mod owned;
 
 pub use line::{ccsds_line_backward, ccsds_line_forward, line_backward, line_forward};
-pub use map::{band_row, error_bound, map_backward, map_forward, map_mend, round, view, Rectangle, Shape};
+pub use map::{band_row, map_backward, map_forward, map_mend, view, Rectangle, Shape};
 pub use nearest_change::{nearest_change, Change};
 pub use picture::{picture_head, picture_row};
 pub use profile::profile;
@@ -116,19 +116,7 @@ pub fn version() -> u32 {
     raw::version()
 }
 
-/// The columns and rows of the low-low part (LL) of a level, 1 to the map's levels. A level may be empty: a 0.
-pub fn level_size(shape: Shape, level: usize) -> Result<(usize, usize), Question> {
-    let (mut columns, mut rows) = (0, 0);
-    Question::of(Call::LevelSize, raw::level_size(shape, level, &mut columns, &mut rows))?;
-    Ok((columns, rows))
-}
-
-/// How many numbers the line store of a writer needs, whatever the height; 0 where no set-up passes. It is enough for a reader too.
+/// How many numbers the line store of a writer or reader needs, whatever the height; 0 where no set-up passes.
 pub fn store_length(shape: Shape) -> usize {
     raw::store_length(shape)
-}
-
-/// How many numbers the line store of a reader needs: a writer's less one row of the map's columns.
-pub fn reader_store_length(shape: Shape) -> usize {
-    raw::reader_store_length(shape)
 }

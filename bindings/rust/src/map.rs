@@ -61,18 +61,6 @@ pub fn map_mend(
     Question::of(Call::MapMend, raw::map_mend(heights, s.width, s.height, s.levels, rectangle, plane, work))
 }
 
-/// The plane of a map by the 5/3, from the origin, with each HL, LH and HH value rounded toward zero to the nearest multiple of `step`, 1 to 64.
-/// Of `s` the width, the height and the levels are read.
-pub fn round(plane: &mut [i32], s: Shape, step: usize) -> Result<(), Question> {
-    Question::of(Call::Round, raw::round(plane, s.width, s.height, s.levels, step))
-}
-
-/// By how much a height can be off that is rebuilt, each value limited to its level's range, from a plane of so many levels, rounded by `step`.
-pub fn error_bound(levels: usize, step: usize) -> Result<usize, Question> {
-    let mut bound = 0;
-    Question::of(Call::ErrorBound, raw::error_bound(levels, step, &mut bound)).map(|()| bound)
-}
-
 /// The one map that has this plane, or 7 or 14: none has it. 14 zeroes `heights` and `work`.
 pub fn map_backward(plane: &[i32], s: Shape, heights: &mut [u16], work: &mut [i32]) -> Result<(), Question> {
     Question::of(Call::MapBackward, raw::map_backward(plane, s, heights, work))

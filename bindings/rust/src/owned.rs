@@ -1,6 +1,6 @@
 //! A writer and a reader that own what they work in: the state, the line store and the row last drawn.
 use crate::raw::State;
-use crate::{reader_store_length, store_length, BandRow, Question, Reader, Shape, Want, Writer, MAX_WIDTH};
+use crate::{store_length, BandRow, Question, Reader, Shape, Want, Writer, MAX_WIDTH};
 
 /// A [`Writer`] that owns its line store, and the area that its rows are drawn into. A clone goes on by itself.
 ///
@@ -91,15 +91,8 @@ pub struct OwnedReader {
 impl OwnedReader {
     /// A reader of a map of that shape.
     pub fn new(shape: Shape) -> Result<Self, Question> {
-        let mut store = vec![0; reader_store_length(shape)];
-        let state = Reader::new(shape, &mut store)?.state();
-        Ok(OwnedReader { state, store, row: vec![0; shape.width] })
-    }
-
-    /// As [`Reader::stopping_at`].
-    pub fn stopping_at(shape: Shape, stop: usize) -> Result<Self, Question> {
         let mut store = vec![0; store_length(shape)];
-        let state = Reader::stopping_at(shape, stop, &mut store)?.state();
+        let state = Reader::new(shape, &mut store)?.state();
         Ok(OwnedReader { state, store, row: vec![0; shape.width] })
     }
 

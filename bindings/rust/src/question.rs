@@ -11,8 +11,6 @@ pub enum Call {
     MapForward,
     MapBackward,
     MapMend,
-    Round,
-    ErrorBound,
     View,
     NearestChange,
     WriterSetUp,
@@ -20,7 +18,6 @@ pub enum Call {
     WriterDraw,
     WriterWaits,
     Finish,
-    LevelSize,
     ReaderSetUp,
     Want,
     Feed,
@@ -35,7 +32,7 @@ pub enum Call {
 pub struct Question {
     /// The call that was turned away.
     pub call: Call,
-    /// The question's number: 1 to 14 or 17 to 21.
+    /// The question's number: 1 to 14, 18, 19 or 21.
     pub number: u32,
 }
 
@@ -56,16 +53,16 @@ impl Question {
             (2, Call::Profile) => "the row has no height, or more than 2,049",
             (2, _) => "the width is not 1 to 2,049",
             (3, _) => "the height is not 1 to 4,294,967,295",
-            (4, Call::Round | Call::ErrorBound) => "the number of levels is not 1 to 5",
             (4, _) => "the number of levels is not 1 to 5, by the 9/7 1 to 4",
             (5, Call::Line) => "the output is shorter than the line",
             (5, Call::Profile) => "the output is shorter than the row",
-            (5, Call::WriterSetUp) => "the line store is too short: lend it store_length(shape) numbers",
-            (5, Call::ReaderSetUp) => "the line store is too short: lend it reader_store_length(shape) numbers",
+            (5, Call::WriterSetUp | Call::ReaderSetUp) => {
+                "the line store is too short: lend it store_length(shape) numbers"
+            }
             (5, Call::MapForward | Call::MapBackward | Call::MapMend) => {
                 "heights, plane or work area is shorter than width times height"
             }
-            (5, Call::View | Call::Round) => "the plane is shorter than width times height",
+            (5, Call::View) => "the plane is shorter than width times height",
             (5, Call::NearestChange) => "there are fewer than width times height heights",
             (5, _) => "the line store is too short",
             (6, Call::NearestChange) => "there is no such cell: LL has half as many rows and columns as the map, rounded up",
@@ -85,11 +82,8 @@ impl Question {
             (14, Call::Line) => "no line has this value: alone at an odd coordinate, it is odd",
             (14, Call::MapBackward) => "no map has this plane",
             (14, _) => "no map has the rows that were fed: the reader has ended",
-            (17, Call::LevelSize) => "the level is not 1 to the map's number of levels",
-            (17, _) => "the stop is not 1 to the map's number of levels",
             (18, _) => "there is no such filter: 0 is the 5/3, 1 the 9/7",
             (19, _) => "the rectangle is empty or leaves the map",
-            (20, _) => "the step is not 1 to 64",
             (21, _) => "the reader's number is not 0 to 15",
             _ => "no question has this number",
         }

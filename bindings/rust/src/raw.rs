@@ -80,15 +80,6 @@ mod c {
             work: *mut i32,
             work_len: usize,
         ) -> u32;
-        pub fn terrain_round(
-            plane: *mut i32,
-            plane_len: usize,
-            width: usize,
-            height: usize,
-            levels: usize,
-            step: usize,
-        ) -> u32;
-        pub fn terrain_error_bound(levels: usize, step: usize, bound: *mut usize) -> u32;
         pub fn terrain_map_backward(
             plane: *const i32,
             plane_len: usize,
@@ -117,7 +108,6 @@ mod c {
             change: *mut [u64; 3],
         ) -> u32;
         pub fn terrain_store_length(shape: Shape) -> usize;
-        pub fn terrain_reader_store_length(shape: Shape) -> usize;
         pub fn terrain_writer_set_up(state: *mut [u64; 16], shape: Shape, store: *mut i32, store_len: usize) -> u32;
         pub fn terrain_writer_offer(
             state: *mut [u64; 16],
@@ -138,14 +128,6 @@ mod c {
         pub fn terrain_writer_waits(state: *const [u64; 16], row: *mut [u64; 4]) -> u32;
         pub fn terrain_writer_finish(state: *mut [u64; 16], store: *mut i32, store_len: usize) -> u32;
         pub fn terrain_reader_set_up(state: *mut [u64; 16], shape: Shape, store: *mut i32, store_len: usize) -> u32;
-        pub fn terrain_level_size(shape: Shape, level: usize, columns: *mut usize, rows: *mut usize) -> u32;
-        pub fn terrain_reader_set_up_at(
-            state: *mut [u64; 16],
-            shape: Shape,
-            stop: usize,
-            store: *mut i32,
-            store_len: usize,
-        ) -> u32;
         pub fn terrain_reader_want(state: *const [u64; 16], want: *mut [u64; 5]) -> u32;
         pub fn terrain_reader_feed(
             state: *mut [u64; 16],
@@ -225,14 +207,6 @@ pub fn map_mend(
     unsafe { c::terrain_map_mend(from, n, width, height, levels, rectangle, to, m, between, k) }
 }
 
-pub fn round(plane: &mut [i32], width: usize, height: usize, levels: usize, step: usize) -> u32 {
-    unsafe { c::terrain_round(plane.as_mut_ptr(), plane.len(), width, height, levels, step) }
-}
-
-pub fn error_bound(levels: usize, step: usize, bound: &mut usize) -> u32 {
-    unsafe { c::terrain_error_bound(levels, step, bound) }
-}
-
 pub fn map_backward(plane: &[i32], shape: Shape, heights: &mut [u16], work: &mut [i32]) -> u32 {
     let (from, to, between) = (plane.as_ptr(), heights.as_mut_ptr(), work.as_mut_ptr());
     unsafe { c::terrain_map_backward(from, plane.len(), shape, to, heights.len(), between, work.len()) }
@@ -258,10 +232,6 @@ pub fn store_length(shape: Shape) -> usize {
     unsafe { c::terrain_store_length(shape) }
 }
 
-pub fn reader_store_length(shape: Shape) -> usize {
-    unsafe { c::terrain_reader_store_length(shape) }
-}
-
 pub fn writer_set_up(state: &mut State, shape: Shape, store: &mut [i32]) -> u32 {
     unsafe { c::terrain_writer_set_up(state, shape, store.as_mut_ptr(), store.len()) }
 }
@@ -284,14 +254,6 @@ pub fn writer_finish(state: &mut State, store: &mut [i32]) -> u32 {
 
 pub fn reader_set_up(state: &mut State, shape: Shape, store: &mut [i32]) -> u32 {
     unsafe { c::terrain_reader_set_up(state, shape, store.as_mut_ptr(), store.len()) }
-}
-
-pub fn level_size(shape: Shape, level: usize, columns: &mut usize, rows: &mut usize) -> u32 {
-    unsafe { c::terrain_level_size(shape, level, columns, rows) }
-}
-
-pub fn reader_set_up_at(state: &mut State, shape: Shape, stop: usize, store: &mut [i32]) -> u32 {
-    unsafe { c::terrain_reader_set_up_at(state, shape, stop, store.as_mut_ptr(), store.len()) }
 }
 
 pub fn reader_want(state: &State, want: &mut [u64; 5]) -> u32 {

@@ -23,19 +23,10 @@ pub struct Reader<'s> {
 }
 
 impl<'s> Reader<'s> {
-    /// A reader of a map of that shape. The store has at least [`crate::reader_store_length`] numbers; what stood in them is lost.
+    /// A reader of a map of that shape. The store has at least [`crate::store_length`] numbers; what stood in them is lost.
     pub fn new(shape: Shape, store: &'s mut [i32]) -> Result<Self, Question> {
         let mut state = [0; 16];
         Question::of(Call::ReaderSetUp, raw::reader_set_up(&mut state, shape, store))?;
-        Ok(Reader { state, store })
-    }
-
-    /// A reader of distant ground, which stops at a level, 1 to the map's levels: it draws the rows of that level's LL, as long as
-    /// [`crate::level_size`] says, each value limited to 0 to 65,535, and never wants a row of that level or of a finer one, but LL at the last
-    /// level. The store is as long as for the whole map.
-    pub fn stopping_at(shape: Shape, stop: usize, store: &'s mut [i32]) -> Result<Self, Question> {
-        let mut state = [0; 16];
-        Question::of(Call::ReaderSetUp, raw::reader_set_up_at(&mut state, shape, stop, store))?;
         Ok(Reader { state, store })
     }
 

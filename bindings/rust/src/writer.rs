@@ -35,8 +35,7 @@ impl<'s> Writer<'s> {
     }
 
     /// Takes heights, row after row, until a band row waits, the row limit is reached or the run is used up: how many were taken. A run may
-    /// begin and end anywhere in a row. While band rows wait, one row more is taken, in one offer or several, and kept apart until the draw
-    /// after which none waits: 0 once it is complete.
+    /// begin and end anywhere in a row.
     pub fn offer(&mut self, run: &[u16]) -> Result<usize, Question> {
         let mut taken = 0;
         Question::of(Call::Offer, raw::writer_offer(&mut self.state, self.store, run, &mut taken))?;

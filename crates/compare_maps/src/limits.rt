@@ -44,7 +44,7 @@ fn map_answer(width: usize, levels: usize, plane: &mut [i32], expected: u8) -> u
 }
 
 fn stream_answer(width: usize, levels: usize, expected: u8) -> u64 {
-    let mut store = [0i32; 18000];
+    let mut store = [0i32; 16400];
     let a = writer_answer(width, levels, &mut store);
     let b = reader_answer(width, levels, &mut store);
     area::sum(differ(a, expected), differ(b, expected))

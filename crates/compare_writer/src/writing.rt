@@ -219,15 +219,17 @@ fn row_drawn(t: Turn, d: Drew, book: &[u64], code: usize, out: &[i32]) -> Turn {
     )
 }
 
-// A row waits: a finish is refused by 8; after the finish, offer and finish by 9.
+// A row waits: offer and finish are refused by 8, or by 9 after the finish.
 fn wait_refused(t: Turn, map: &[u16], store: &mut [i32]) -> u64 {
     let w = t.writer;
-    if t.finished {
-        let a = offer_refused(w, store, map, 9);
-        let b = finish_refused(w, store, 9);
-        return area::sum(a, b);
-    }
-    finish_refused(w, store, 8)
+    let no = waiting_question(t.finished);
+    let a = offer_refused(w, store, map, no);
+    let b = finish_refused(w, store, no);
+    area::sum(a, b)
+}
+
+fn waiting_question(is_finished: bool) -> u8 {
+    if is_finished { 9 } else { 8 }
 }
 
 // A draw without room for all of a row of `length` is refused by 12.
@@ -444,16 +446,16 @@ fn cuts(
 fn one_map(t: Tally, i: usize) -> Tally {
     let s = heights::shape_at(i);
     let n = heights::count(s);
-    let m = std::num::wrapping_add_usize(heights::store_length(s), s.width);
+    let m = heights::store_length(s);
     if 6160 < n {
         return t.failed();
     }
-    if 18000 < m {
+    if 16400 < m {
         return t.failed();
     }
     let mut map = [0u16; 6160];
     let mut book = [0u64; area::BOOK];
-    let mut store = [0i32; 18000];
+    let mut store = [0i32; 16400];
     let mut out = [0i32; 6160];
     t800::prepare(i, &mut map, &mut book);
     let total = order::writer_rows(&mut book, s);

@@ -18,11 +18,11 @@ use Rattle.demand_1.proofs.WordLaws.{front-zeroed, front-surplus, kept,
 
 -- ---- an area of which a passed call writes the first n numbers, y
 module _ (q n : ℕ) (y x : Memory) where
-  pub passed-kept : Kept q x (passed q n y x)
+  passed-kept : Kept q x (passed q n y x)
   unfolding passed
   passed-kept = kept q (fronted n y x) x
 
-  pub passed-surplus : Surplus n x (passed q n y x)
+  passed-surplus : Surplus n x (passed q n y x)
   unfolding passed
   passed-surplus j h = go (eqb q 0)
     where

@@ -1,8 +1,8 @@
 -- Demand 1 of the writer's calls, Rattle's and C's: `writer-calls`. Assumes nothing.
-use mathlib.Core.Path.{_≡_, refl, ap, subst, sym, _∙_}
+use mathlib.Core.Path.{_≡_, refl, subst, sym, _∙_}
 use mathlib.Core.Bool.{Bool, true, false}
 use mathlib.Core.List.{List}
-use Prim.Native.Nat.{ℕ, zero, suc, _+_, _≤_}
+use Prim.Native.Nat.{ℕ, zero, suc, _≤_}
 use native.Mathlib.Omega.{arith}
 use lib.IntN.{pos}
 use lib.ListN.{length}
@@ -11,16 +11,15 @@ use Rattle.lifting.specs.Grid.{Side}
 use Rattle.lifting.specs.Halves.{fronted}
 use Rattle.wavelet.specs.Limits.{maxWidth}
 use Rattle.wavelet.specs.Questions.{within}
-use Rattle.wavelet.specs.Asks.{Width, Known, Levels}
+use Rattle.wavelet.specs.Asks.{Width, Known, Levels, needed, WriterSetUpAsks}
 use Rattle.wavelet.proofs.AskLaws.{width-exactly}
 use Rattle.filters.specs.Filters.{filterOf, isFilter}
 use Rattle.calls.specs.Lists.{Reply, gives, refused, unless, changedUnless}
 use Rattle.level.specs.Level.{Memory}
-use Rattle.filters.specs.Figures.{storeBy, writerStoreBy, streamable}
+use Rattle.filters.specs.Figures.{storeBy, streamable}
 use Rattle.filters.proofs.PlainFigures.{known-exactly, levels-exactly, needed-is}
 use Rattle.writer.specs.declared.Writer.{Writer}
 use Rattle.writer.specs.Taking.{columnsOf}
-use Rattle.writer.specs.Asks.{writerNeeded, WriterSetUpAsks}
 use Rattle.writer.specs.Questions.{setUpQuestion, offerQuestion, drawQuestion, waitsQuestion, finishQuestion}
 use Rattle.writer.specs.Calls.{setUpReply, setUpStore, offerReply, offerStore, drawReply, drawStore, drawArea, waitsReply, finishReply, finishStore}
 use Rattle.writer.proofs.SetUpPasses.{set-up-asks, set-up-passes}
@@ -70,26 +69,20 @@ module _ {A : Type 0} (t : Bool) (q : ℕ) (a : A) where
       go true (suc q) h = refl
       go false q h = refl
 
--- what a writer's line store needs
-whole-is : (f : ℕ) (W : Side) (L : ℕ) → writerStoreBy f W L ≡ writerNeeded f W L
-whole-is f W L = ap (λ n. n + W .length) (needed-is f W L)
-
 -- ---- the calls
 store-length-of : (f : ℕ) (W : Side) (L : ℕ) → StoreLength f W L
 unfolding streamable
 store-length-of f W L = record {
-  writer-sized = λ h. simp (known-exactly f .1 (h .1), width-exactly (W .length) .1 (h .0), levels-exactly f L .1 (h .2)) (whole-is f W L);
-  writer-none = λ h. go (writerStoreBy f W L) h (isFilter f) (within 1 maxWidth (W .length)) (within 1 (filterOf f .levels) L) refl refl refl;
   sized = λ h. simp (known-exactly f .1 (h .1), width-exactly (W .length) .1 (h .0), levels-exactly f L .1 (h .2)) (needed-is f W L);
-  none = λ h. go (storeBy f W L) h (isFilter f) (within 1 maxWidth (W .length)) (within 1 (filterOf f .levels) L) refl refl refl;
+  none = λ h. go h (isFilter f) (within 1 maxWidth (W .length)) (within 1 (filterOf f .levels) L) refl refl refl;
 }
   where
-    go : (n : ℕ) → (Width (W .length) × Known f × Levels f L → ⊥) → (a b c : Bool) → isFilter f ≡ a → within 1 maxWidth (W .length) ≡ b
-        → within 1 (filterOf f .levels) L ≡ c → pick (both a (both b c)) n 0 ≡ 0
-    go n h true true true p q r = absurd (h (width-exactly (W .length) .0 q, known-exactly f .0 p, levels-exactly f L .0 r))
-    go n h true true false p q r = refl
-    go n h true false c p q r = refl
-    go n h false b c p q r = refl
+    go : (Width (W .length) × Known f × Levels f L → ⊥) → (a b c : Bool) → isFilter f ≡ a → within 1 maxWidth (W .length) ≡ b
+        → within 1 (filterOf f .levels) L ≡ c → pick (both a (both b c)) (storeBy f W L) 0 ≡ 0
+    go h true true true p q r = absurd (h (width-exactly (W .length) .0 q, known-exactly f .0 p, levels-exactly f L .0 r))
+    go h true true false p q r = refl
+    go h true false c p q r = refl
+    go h false b c p q r = refl
 
 set-up-of : (f : ℕ) (W : Side) (y L n : ℕ) (x : Memory) (s : List ℕ) → SetUp f W y L n x s
 unfolding setUpReply setUpStore
@@ -104,13 +97,13 @@ set-up-of f W y L n x s = record {
     q : ℕ
     q = setUpQuestion f W L n
 
-    zeroed : (q : ℕ) → q ≡ 0 → Zeroed (writerNeeded f W L) x (changedUnless q (fronted (writerStoreBy f W L) (λ _. pos 0) x) x)
-    zeroed zero e = rw (whole-is f W L) (front-zeroed (writerNeeded f W L) x)
+    zeroed : (q : ℕ) → q ≡ 0 → Zeroed (needed f W L) x (changedUnless q (fronted (storeBy f W L) (λ _. pos 0) x) x)
+    zeroed zero e = rw (needed-is f W L) (front-zeroed (needed f W L) x)
     zeroed (suc q) e = absurd (omega arith)
 
 -- the surplus by the numbers of document 01
-past : (w : Writer) {j : ℕ} → own w ≤ j → writerStoreBy (w .filter) (columnsOf w) (w .levels) ≤ j
-past w h = omega (arith, whole-is (w .filter) (columnsOf w) (w .levels))
+past : (w : Writer) {j : ℕ} → own w ≤ j → storeBy (w .filter) (columnsOf w) (w .levels) ≤ j
+past w h = omega (arith, needed-is (w .filter) (columnsOf w) (w .levels))
 
 offer-of : (w : Writer) (n : ℕ) (run : List ℕ) (x : Memory) → Offer w n run x
 unfolding offerReply offerStore

@@ -4,25 +4,24 @@ use mathlib.Core.Path.{_≡_}
 use mathlib.Core.Bool.{true, false}
 use mathlib.Core.List.{List}
 use mathlib.Core.Logic.{_↔_}
-use Prim.Native.Nat.{ℕ, _+_, _≤_}
+use Prim.Native.Nat.{ℕ, _≤_}
 use Rattle.lifting.specs.Grid.{Side}
 use Rattle.wavelet.specs.Asks.{Width, Height, Known, Levels, needed, ReaderSetUpAsks}
 use Rattle.reader.specs.declared.Reader.{Reader}
 use Rattle.reader.specs.Answers.{Reply, impossible, number}
 use Rattle.reader.specs.State.{columns, endedReader}
-use Rattle.reader.specs.Questions.{setUpQuestion}
-use Rattle.reader.specs.Reading.{by, wantQuestion, feedQuestion, drawQuestion, wantReply, feedReply, feedStore, drawReply, drawStore, drawArea}
+use Rattle.reader.specs.Questions.{setUpQuestion, wantQuestion, feedQuestion, drawQuestion}
 use Rattle.reader.specs.Plain.{FeedAsks}
-use Rattle.reader.specs.Calls.{setUpReply, setUpStore}
+use Rattle.reader.specs.Calls.{setUpReply, setUpStore, wantReply, feedReply, feedStore, drawReply, drawStore, drawArea}
 use Rattle.states.specs.ReaderAnswers.{countOf}
 use Rattle.states.specs.ReaderState.{isReader, readerOf, readerWords}
 use Rattle.terrain.specs.ReaderCalls as c
 use Rattle.level.specs.Level.{Memory}
 use Rattle.demand_1.specs.Words.{Kept, KeptBut14, Zeroed, Surplus}
 
--- the numbers of the line store that a reader needs: those of its levels, and those that a stop leaves spare
+-- the numbers of the line store that a reader needs
 abbrev pub own : Reader → ℕ
-own r = r .spare + by (r .levels) 0 (needed (r .filter) (columns r) (r .levels))
+own r = needed (r .filter) (columns r) (r .levels)
 
 -- what a set-up by the filter f answers, of the columns W, the rows H and L levels
 abbrev pub ready : ℕ → Side → Side → ℕ → ℕ → Reply Reader
@@ -39,8 +38,7 @@ pub record SetUp (f : ℕ) (W H : Side) (L n : ℕ) (x : Memory) (s : List ℕ) 
 -- a run v of m numbers; q is the question that turns the feed away
 pub record Feed (r : Reader) (n : ℕ) (x : Memory) (m : ℕ) (v : Memory) (q : ℕ) : Type 0 where
   pub answer : number (feedReply r q) ≡ q
-  -- of a reader with levels to work out
-  pub asks : (r .levels ≡ 0 → ⊥) → FeedAsks r n x m v q
+  pub asks : FeedAsks r n x m v q
   pub store : KeptBut14 q x (feedStore r q v x)
   pub ended : q ≡ 14 → feedReply r q ≡ impossible (endedReader r)
   pub zeroed : q ≡ 14 → Zeroed (own r) x (feedStore r q v x)

@@ -8,12 +8,11 @@ use Prim.Native.Nat.{ℕ, _≤_}
 use lib.ListN.{length}
 use Rattle.numbers.specs.Signal.{pick}
 use Rattle.lifting.specs.Grid.{Side}
-use Rattle.wavelet.specs.Asks.{Width, Known, Levels, needed}
+use Rattle.wavelet.specs.Asks.{Width, Known, Levels, needed, WriterSetUpAsks}
 use Rattle.level.specs.Level.{Memory}
-use Rattle.filters.specs.Figures.{storeBy, writerStoreBy, streamable}
+use Rattle.filters.specs.Figures.{storeBy, streamable}
 use Rattle.writer.specs.declared.Writer.{Writer}
 use Rattle.writer.specs.Taking.{columnsOf}
-use Rattle.writer.specs.Asks.{writerNeeded, WriterSetUpAsks}
 use Rattle.writer.specs.Questions.{offerQuestion, drawQuestion, waitsQuestion, finishQuestion}
 use Rattle.writer.specs.Calls.{setUpReply, setUpStore, offerReply, offerStore, drawReply, drawStore, drawArea, waitsReply, finishReply, finishStore}
 use Rattle.states.specs.WriterAnswers.{number, takenOf, rowOf}
@@ -23,15 +22,15 @@ use Rattle.demand_1.specs.Words.{Kept, Zeroed, Surplus}
 
 -- the numbers of the line store that a writer needs
 abbrev pub own : Writer → ℕ
-own w = writerNeeded (w .filter) (columnsOf w) (w .levels)
+own w = needed (w .filter) (columnsOf w) (w .levels)
 
 -- of the filter f, the columns W and L levels, the rows starting at y; in C the state array held s
 pub record SetUp (f : ℕ) (W : Side) (y L n : ℕ) (x : Memory) (s : List ℕ) : Type 0 where
   pub answer : WriterSetUpAsks f W L n (number (setUpReply f W y L n))
-  pub passes : number (setUpReply f W y L n) ≡ 0 ↔ Width (W .length) × Known f × Levels f L × (writerNeeded f W L ≤ n)
+  pub passes : number (setUpReply f W y L n) ≡ 0 ↔ Width (W .length) × Known f × Levels f L × (needed f W L ≤ n)
   pub store : Kept (number (setUpReply f W y L n)) x (setUpStore f W L n x)
   pub array : Kept (number (setUpReply f W y L n)) s (c.stateOf (setUpReply f W y L n) s)
-  pub passed : number (setUpReply f W y L n) ≡ 0 → Zeroed (writerNeeded f W L) x (setUpStore f W L n x)
+  pub passed : number (setUpReply f W y L n) ≡ 0 → Zeroed (needed f W L) x (setUpStore f W L n x)
 
 -- ---- Rattle's calls
 pub record Offer (w : Writer) (n : ℕ) (run : List ℕ) (x : Memory) : Type 0 where
@@ -79,17 +78,11 @@ pub record CFinish (s : List ℕ) (n : ℕ) (x : Memory) : Type 0 where
   pub array : Kept (number (c.finished s n x)) s (c.stateOf (c.finished s n x) s)
   pub store : Kept (number (c.finished s n x)) x (c.finishedStore s n x)
 
--- the numbers that a line store needs, as `terrain_store_length` tells a writer's and `terrain_reader_store_length` a reader's: 0 where a set-up would give
--- 2, 18 or 4
-abbrev pub writerNumbers : ℕ → Side → ℕ → ℕ
-writerNumbers f W L = pick (streamable f W L) (writerStoreBy f W L) 0
-
+-- the numbers that a line store needs, as `terrain_store_length` tells them: 0 where a set-up would give 2, 18 or 4
 abbrev pub storeNumbers : ℕ → Side → ℕ → ℕ
 storeNumbers f W L = pick (streamable f W L) (storeBy f W L) 0
 
 pub record StoreLength (f : ℕ) (W : Side) (L : ℕ) : Type 0 where
-  pub writer-sized : Width (W .length) × Known f × Levels f L → writerNumbers f W L ≡ writerNeeded f W L
-  pub writer-none : (Width (W .length) × Known f × Levels f L → ⊥) → writerNumbers f W L ≡ 0
   pub sized : Width (W .length) × Known f × Levels f L → storeNumbers f W L ≡ needed f W L
   pub none : (Width (W .length) × Known f × Levels f L → ⊥) → storeNumbers f W L ≡ 0
 

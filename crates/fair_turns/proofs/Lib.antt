@@ -1,4 +1,3 @@
 pub mod Projection
 pub mod Fed
 pub mod Standing
-pub mod Stopping

@@ -3,4 +3,3 @@ pub mod Reading
 pub mod Together
 pub mod FedInTurn
 pub mod Standing
-pub mod Stopping

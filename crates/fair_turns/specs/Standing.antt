@@ -1,10 +1,9 @@
 -- The reader that stands, as one that takes turns: of the filter f, the columns W and the rows H at L levels, on a store in which x stood; its feeds are lent n
--- numbers of it. With a stop at level b (Q-6) W and H are that level's, L the levels above it, and the steps count levels from it; e numbers of the store are
--- left alone.
+-- numbers of it.
 use mathlib.Core.Path.{_≡_}
 use mathlib.Core.Bool.{true}
 use mathlib.Core.List.{List, [], _∷_}
-use Prim.Native.Nat.{ℕ, zero, suc, _-_}
+use Prim.Native.Nat.{ℕ}
 use lib.IntN.{ℤ}
 use lib.Dec.{eqb}
 use Rattle.numbers.specs.Signal.{pick}
@@ -17,7 +16,7 @@ use Rattle.reader_steps.specs.Asked.{named}
 use Rattle.reader_steps.specs.Sets.{ahead}
 use Rattle.reader.specs.Answers.{Want, row, drawNow, done, ended}
 use Rattle.reader.specs.Questions.{runFits}
-use Rattle.reader.specs.Demand3.{onTop, Call, want, feed, World, Event, wanted, fed, drew, event, next, freshWorld}
+use Rattle.reader.specs.Demand3.{Call, want, feed, World, Event, wanted, fed, drew, event, next, freshWorld}
 use Rattle.fair_turns.specs.Reading.{Reading}
 
 unfoldable pub namesRow : Event → List RowName
@@ -35,42 +34,22 @@ takesRun (fed a (gives u)) = a ∷ []
 takesRun (fed a (refused q)) = pick (eqb q 14) (a ∷ []) []
 takesRun (drew a v b) = []
 
--- the map's name of a row of the steps, and of their rows; a level of the map, counted from the stop
-abbrev pub ofMap : ℕ → RowName → RowName
-ofMap b x = rowName (onTop b (x .level)) (x .band) (x .row)
-
-unfoldable pub allOfMap : ℕ → List RowName → List RowName
-allOfMap b [] = []
-allOfMap b (x ∷ l) = ofMap b x ∷ allOfMap b l
-
-abbrev pub namesOf : ℕ → List RowName → List RowName
-namesOf zero l = l
-namesOf (suc b) l = allOfMap (suc b) l
-
-abbrev pub fromStop : ℕ → ℕ → ℕ
-fromStop zero k = k
-fromStop (suc b) k = k - suc b
-
-pub record FitsRow (f b : ℕ) (W : Side) (x : RowName) (a : Area) : Type 0 where
-  pub size : a .size ≡ bandColumns W (fromStop b (x .level)) (x .band)
+pub record FitsRow (f : ℕ) (W : Side) (x : RowName) (a : Area) : Type 0 where
+  pub size : a .size ≡ bandColumns W (x .level) (x .band)
   pub numbers : runFits f (x .level) (a .size) (a .numbers) ≡ true
 
-abbrev pub over : ℕ → ℕ → ℕ → Side → Side → ℕ → ℕ → (ℕ → ℤ) → Reading
-over f b e W H L n x = record {
+abbrev pub standing : ℕ → Side → Side → ℕ → ℕ → (ℕ → ℤ) → Reading
+standing f W H L n x = record {
   Call = Call;
   World = World;
   Event = Event;
   event = event;
   next = next;
-  fresh = freshWorld f b e W H L x;
-  rows = namesOf b (bandRowsOf (steps (ahead f) W H L));
+  fresh = freshWorld f W H L x;
+  rows = bandRowsOf (steps (ahead f) W H L);
   want = want;
   feed = feed n;
   names = namesRow;
   takes = takesRun;
-  Fits = FitsRow f b W;
+  Fits = FitsRow f W;
 }
-
--- with no stop
-abbrev pub standing : ℕ → Side → Side → ℕ → ℕ → (ℕ → ℤ) → Reading
-standing f W H L n x = over f 0 0 W H L n x

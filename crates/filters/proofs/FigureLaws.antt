@@ -1,5 +1,5 @@
 -- What a stream needs by its filter's number. Assumes nothing.
-use mathlib.Core.Path.{_≡_, refl, sym, ap, _∙_}
+use mathlib.Core.Path.{_≡_, refl}
 use mathlib.Core.Bool.{Bool, true, false}
 use Prim.Native.Nat.{ℕ, zero, suc, _+_, _*_, _^_, _≤_, _<_, min}
 use native.Mathlib.Omega.{arith}
@@ -15,12 +15,12 @@ use Rattle.wavelet.specs.Questions.{within}
 use Rattle.wavelet.specs.Store.{widths, anyWidths, anyLength}
 use Rattle.wavelet.proofs.LimitLaws.{width-small, levels-small}
 use Rattle.wavelet.proofs.QuestionLaws.{within-true}
-use Rattle.wavelet.proofs.StoreLaws.{store-is, store-back, widths-le}
+use Rattle.wavelet.proofs.StoreLaws.{store-is, widths-le}
 use Rattle.lifting.specs.FiveThree.{fiveThreeFilter}
 use Rattle.nine_seven.specs.NineSevenFilter.{nineSevenFilter}
 use Rattle.filters.specs.Filters.{filterOf, isFilter}
 use Rattle.filters.specs.Range as nine
-use Rattle.filters.specs.Figures.{storeBy, writerStoreBy, anyBy, streamable}
+use Rattle.filters.specs.Figures.{storeBy, anyBy, streamable}
 
 -- no filter has more levels than the limit, or many rows, or looks far ahead
 pub levels-most : (f : ℕ) → filterOf f .levels ≤ maxLevels
@@ -166,38 +166,3 @@ pub second-ranged : (f k : ℕ) (z : ℤ) → (f ≡ 0 → ⊥) → z ≡ pos (r
 unfolding filterOf nine.maxLevels
 second-ranged zero k z d p = absurd (d refl)
 second-ranged (suc f) k z d p = p
-
--- ---- a writer's store: the levels' stretches and a row more
-pub stretch-some : (f : ℕ) (W : Side) (L : ℕ) → streamable f W L ≡ true → 0 < storeBy f W L
-unfolding filterOf
-stretch-some zero W L e =
-    let s = streams 0 W L e in
-    omega (arith, s .width .0, store-back 4 W L (s .levels .0))
-stretch-some (suc f) W L e =
-    let s = streams (suc f) W L e in
-    omega (arith, s .width .0, store-back 8 W L (s .levels .0))
-
-module _ (f : ℕ) (W : Side) (L n : ℕ) (e : n ≡ pick (streamable f W L) (storeBy f W L) 0) where
-  pub writer-none : n ≡ 0 → 0 ≡ pick (streamable f W L) (writerStoreBy f W L) 0
-  writer-none z = go (streamable f W L) refl (sym z ∙ e)
-    where
-      go : (t : Bool) → streamable f W L ≡ t → 0 ≡ pick t (storeBy f W L) 0 → 0 ≡ pick t (writerStoreBy f W L) 0
-      go true s h = absurd (omega (arith, stretch-some f W L s))
-      go false s h = refl
-
-  writer-stream : 0 < n → streamable f W L ≡ true
-  writer-stream z = go (streamable f W L) refl e
-    where
-      go : (t : Bool) → streamable f W L ≡ t → n ≡ pick t (storeBy f W L) 0 → streamable f W L ≡ true
-      go true s h = s
-      go false s h = absurd (omega arith)
-
-  pub writer-some : 0 < n → n + W .length ≡ pick (streamable f W L) (writerStoreBy f W L) 0
-  writer-some z = let s = writer-stream z in rw (e, s) refl
-
-  pub writer-fits : 0 < n → n + W .length < 2 ^ 64
-  writer-fits z =
-      let s = writer-stream z in
-      let t = streams f W L s in
-      let g : n ≡ storeBy f W L = e ∙ ap (λ b. pick b (storeBy f W L) 0) s in
-      omega (arith, g, store-few f W L, t .width .1, width-small, t .levels .1, levels-most f, levels-small)

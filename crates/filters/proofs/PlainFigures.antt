@@ -18,7 +18,7 @@ use Rattle.filters.specs.Figures.{storeBy}
 -- question 18
 pub known-exactly : (f : ℕ) → isFilter f ≡ true ↔ Known f
 unfolding isFilter
-known-exactly f = (λ e. omega (arith, leb-true, e), λ h. le-leb f _ (omega arith))
+known-exactly f = (λ e. omega (arith, leb-true, e), λ h. le-leb f 1 (omega arith))
 
 -- question 4
 levels-are : (f : ℕ) → filterOf f .levels ≡ byFilter f 5 4

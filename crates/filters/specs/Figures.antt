@@ -1,6 +1,6 @@
 -- What a stream needs by its filter's number. Document 02, Q-8: 1 to 5 levels and four rows a level for the 5/3, 1 to 4 levels and eight rows for the 9/7.
 use mathlib.Core.Bool.{Bool}
-use Prim.Native.Nat.{ℕ, _+_}
+use Prim.Native.Nat.{ℕ}
 use Rattle.numbers.specs.Signal.{both}
 use Rattle.lifting.specs.Grid.{Side}
 use Rattle.wavelet.specs.Limits.{maxWidth}
@@ -11,11 +11,6 @@ use Rattle.filters.specs.Filters.{filterOf, isFilter}
 -- the numbers of its line store, of the columns W at L levels
 abbrev pub storeBy : ℕ → Side → ℕ → ℕ
 storeBy f = storeLength (filterOf f .rows)
-
--- and of a writer's, the levels' stretches and the spare row. Document 02, Q-2: "one more row of W numbers right after the levels' stretches ...
--- question 5 counts it for the writer only"
-abbrev pub writerStoreBy : ℕ → Side → ℕ → ℕ
-writerStoreBy f W L = storeBy f W L + W .length
 
 -- enough for w columns, wherever they start, at every number of levels
 abbrev pub anyBy : ℕ → ℕ → ℕ

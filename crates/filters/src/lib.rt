@@ -13,7 +13,7 @@ ghost use Rattle.numbers.specs.Signal.{pick, both};
 ghost use Rattle.lifting.specs.Grid.{side};
 ghost use Rattle.wavelet.specs.Limits.{maxWidth, range};
 ghost use Rattle.filters.specs.Filters.{filterOf, isFilter};
-ghost use Rattle.filters.specs.Figures.{storeBy, writerStoreBy, anyBy, streamable};
+ghost use Rattle.filters.specs.Figures.{storeBy, anyBy, streamable};
 
 // Is this the number of a filter?
 pub fn is_filter(filter: usize) -> bool
@@ -68,17 +68,6 @@ pub fn store_length(filter: usize, width: usize, x: usize, levels: usize) -> usi
         return 0;
     }
     rows_kept(filter) * store::widths(width, x, levels)
-}
-
-// The same for a writer: the spare row of its columns besides, right after the levels' stretches (document 02, Q-2).
-pub fn writer_store_length(filter: usize, width: usize, x: usize, levels: usize) -> usize
-    ensures { λ r. ⌜ r ≡ pick (streamable filter (side x width) levels) (writerStoreBy filter (side x width) levels) 0 ⌝ }
-{
-    let n = store_length(filter, width, x, levels);
-    if n == 0 {
-        return 0;
-    }
-    n + width
 }
 
 // Whether n numbers are enough for so many columns, wherever they start, at every number of levels. So the sizes are seldom added up.

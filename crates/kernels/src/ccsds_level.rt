@@ -1,21 +1,23 @@
-// The calls of `analysis` by the 9/7, exported likewise: each has that crate's own promise.
-use analysis::forward;
+// The calls of `nine_seven_making`, exported likewise: each has that crate's own promise.
+use nine_seven_making::heights;
+use nine_seven_making::making;
+use nine_seven_making::rows;
 ghost use mathlib.Core.Path.{_≡_};
-ghost use Prim.Native.Nat.{_+_};
+ghost use Prim.Native.Nat.{_+_, _^_};
 ghost use lib.ListN.{length};
 ghost use lib.Dec.{ltb};
 ghost use Rattle.numbers.specs.Signal.{at, pick};
 ghost use Rattle.lifting.specs.Grid.{side};
-ghost use Rattle.filters.specs.Filters.{filterOf};
 ghost use Rattle.level.specs.Heights.{heightAt};
-ghost use Rattle.level.specs.Stretch.{rowPlace};
-ghost use Rattle.analysis.specs.Forward.{kindOf, levelFits, nextFits, countable, delivered, heightsPut, heightsFit};
+ghost use Rattle.nine_seven_making.specs.NineSevenLevel.{slot, rowsTo, setMade};
+ghost use Rattle.nine_seven_making.specs.Making.{levelFits, nextFits, delivered};
+ghost use Rattle.nine_seven_making.specs.Heights.{heightsPut, heightsFit};
 
 #[no_mangle]
 pub extern "C" fn ccsds_level_slot(w: usize, q: usize) -> usize
-    ensures { λ s. ⌜ s ≡ pick (ltb w countable) (rowPlace (filterOf 1 .rows) w q) 0 ⌝ }
+    ensures { λ s. ⌜ s ≡ pick (ltb w (2 ^ 61)) (slot w q) 0 ⌝ }
 {
-    forward::row_place(1, w, q)
+    rows::slot(w, q)
 }
 
 #[no_mangle]
@@ -29,24 +31,24 @@ pub extern "C" fn ccsds_level_put(
     from: usize,
     n: usize,
 ) -> u32
-    ensures { λ r. ⌜ r ≡ pick (heightsFit 1 (length (now (store .entry))) (side x w) column n (length (now (run .entry))) from) 0 5 ⌝ }
+    ensures { λ r. ⌜ r ≡ pick (heightsFit (length (now (store .entry))) w column n (length (now (run .entry))) from) 0 5 ⌝ }
     ensures { λ r. ⌜
-        at (now (store .exit)) ≡ pick (heightsFit 1 (length (now (store .entry))) (side x w) column n (length (now (run .entry))) from)
-        (heightsPut 1 (side x w) q column n (λ j. heightAt (now (run .entry)) (from + j)) (at (now (store .entry)))) (at (now (store .entry)))
+        at (now (store .exit)) ≡ pick (heightsFit (length (now (store .entry))) w column n (length (now (run .entry))) from)
+        (heightsPut (side x w) q column n (λ j. heightAt (now (run .entry)) (from + j)) (at (now (store .entry)))) (at (now (store .entry)))
         ⌝ }
 {
-    forward::put(1, store, w, x, q, column, run, from, n) as u32
+    heights::put(store, w, x, q, column, run, from, n) as u32
 }
 
 #[no_mangle]
 pub extern "C" fn ccsds_level_make(store: &mut [i32], w: usize, x: usize, y: usize, n: usize) -> u32
-    ensures { λ r. ⌜ r ≡ pick (levelFits 1 (length (now (store .entry))) (side x w)) 0 5 ⌝ }
+    ensures { λ r. ⌜ r ≡ pick (levelFits (length (now (store .entry))) w) 0 5 ⌝ }
     ensures { λ r. ⌜
-        at (now (store .exit)) ≡ pick (levelFits 1 (length (now (store .entry))) (side x w))
-        (kindOf 1 .make (side x w) y n (at (now (store .entry)))) (at (now (store .entry)))
+        at (now (store .exit)) ≡ pick (levelFits (length (now (store .entry))) w)
+        (setMade (side x w) (rowsTo y n) n (at (now (store .entry)))) (at (now (store .entry)))
         ⌝ }
 {
-    forward::make(1, store, w, x, y, n) as u32
+    making::make(store, w, x, y, n) as u32
 }
 
 #[no_mangle]
@@ -58,13 +60,13 @@ pub extern "C" fn ccsds_level_close(
     m: usize,
     n: usize,
 ) -> u32
-    ensures { λ r. ⌜ r ≡ pick (levelFits 1 (length (now (store .entry))) (side x w)) 0 5 ⌝ }
+    ensures { λ r. ⌜ r ≡ pick (levelFits (length (now (store .entry))) w) 0 5 ⌝ }
     ensures { λ r. ⌜
-        at (now (store .exit)) ≡ pick (levelFits 1 (length (now (store .entry))) (side x w))
-        (kindOf 1 .close (side x w) (side y m) n (at (now (store .entry)))) (at (now (store .entry)))
+        at (now (store .exit)) ≡ pick (levelFits (length (now (store .entry))) w)
+        (setMade (side x w) (side y m) n (at (now (store .entry)))) (at (now (store .entry)))
         ⌝ }
 {
-    forward::close(1, store, w, x, y, m, n) as u32
+    making::close(store, w, x, y, m, n) as u32
 }
 
 #[no_mangle]
@@ -75,11 +77,11 @@ pub extern "C" fn ccsds_level_deliver(
     n: usize,
     q: usize,
 ) -> u32
-    ensures { λ r. ⌜ r ≡ pick (nextFits 1 (length (now (store .entry))) (side x w)) 0 5 ⌝ }
+    ensures { λ r. ⌜ r ≡ pick (nextFits (length (now (store .entry))) (side x w)) 0 5 ⌝ }
     ensures { λ r. ⌜
-        at (now (store .exit)) ≡ pick (nextFits 1 (length (now (store .entry))) (side x w))
-        (delivered 1 (side x w) n q (at (now (store .entry)))) (at (now (store .entry)))
+        at (now (store .exit)) ≡ pick (nextFits (length (now (store .entry))) (side x w))
+        (delivered (side x w) n q (at (now (store .entry)))) (at (now (store .entry)))
         ⌝ }
 {
-    forward::deliver(1, store, w, x, n, q) as u32
+    making::deliver(store, w, x, n, q) as u32
 }

@@ -19,66 +19,66 @@ use Rattle.numbers.proofs.Words.{read-back}
 use Rattle.numbers.proofs.Sweep.{both}
 use Rattle.numbers.proofs.Stores.{at-stored}
 use Rattle.lifting.specs.Grid.{Side}
-use Rattle.level.specs.Cells.{spot}
+use Rattle.level.specs.Cells.{cellOf}
 use Rattle.level.specs.Heights.{heightAt, heightsPut, heightsFit}
-use Rattle.level.proofs.Spots.{spot-in, spot-on}
+use Rattle.level.proofs.Places.{cell-in, cell-on}
 
 -- ---- one height more
-pub put-more : (W : Side) (c n : ℕ) (h x : ℕ → ℤ) → heightsPut W c (n + 1) h x ≡ stored (spot W (c + n)) (h n) (heightsPut W c n h x)
+pub put-more : (W : Side) (q c n : ℕ) (h x : ℕ → ℤ) → heightsPut W q c (n + 1) h x ≡ stored (cellOf W q (c + n)) (h n) (heightsPut W q c n h x)
 unfolding heightsPut
-put-more W c n h x = let e : n + 1 ≡ suc n = omega arith in rw e refl
+put-more W q c n h x = let e : n + 1 ≡ suc n = omega arith in rw e refl
 
 -- n heights stand in the list l, l₀ being the list before them
-pub record Put (W : Side) (c n : ℕ) (h : ℕ → ℤ) (l₀ l : List ℤ) : Type 0 where
-  pub room : W .length ≤ length l₀
+pub record Put (W : Side) (q c n : ℕ) (h : ℕ → ℤ) (l₀ l : List ℤ) : Type 0 where
+  pub room : 4 * W .length ≤ length l₀
   pub size : length l ≡ length l₀
-  pub value : at l ≡ heightsPut W c n h (at l₀)
+  pub value : at l ≡ heightsPut W q c n h (at l₀)
 
-module _ (W : Side) (c : ℕ) (h : ℕ → ℤ) (l₀ : List ℤ) where
-  pub put-none : W .length ≤ length l₀ → Put W c 0 h l₀ l₀
+module _ (W : Side) (q c : ℕ) (h : ℕ → ℤ) (l₀ : List ℤ) where
+  pub put-none : 4 * W .length ≤ length l₀ → Put W q c 0 h l₀ l₀
   unfolding heightsPut
   put-none r = record { room = r; size = refl; value = refl }
 
-  pub put-one : (n p : ℕ) (v : ℤ) (l : List ℤ) → Put W c n h l₀ l → c + n < W .length → p ≡ spot W (c + n) → v ≡ h n → Put W c (n + 1) h l₀ (set l p v)
+  pub put-one : (n p : ℕ) (v : ℤ) (l : List ℤ) → Put W q c n h l₀ l → c + n < W .length → p ≡ cellOf W q (c + n) → v ≡ h n → Put W q c (n + 1) h l₀ (set l p v)
   put-one n p v l f r e g =
-      let i : p < length l = omega (arith, spot-in W (c + n) r, f .room, f .size) in
+      let i : p < length l = omega (arith, cell-in W q (c + n) r, f .room, f .size) in
       record {
         room = f .room;
         size = length-set l p v ∙ f .size;
-        value = at-stored l p v i ∙ ap (stored p v) (f .value) ∙ cc (e, g) ∙ sym (put-more W c n h (at l₀));
+        value = at-stored l p v i ∙ ap (stored p v) (f .value) ∙ cc (e, g) ∙ sym (put-more W q c n h (at l₀));
       }
 
-  -- a pair more: d and b are the places of the first two columns
-  pub put-pair : (j d b : ℕ) (v u : ℤ) (l : List ℤ) → Put W c (2 * j) h l₀ l → c + 2 * j + 2 ≤ W .length
-      → d ≡ spot W c → b ≡ spot W (c + 1) → v ≡ h (2 * j) → u ≡ h (2 * j + 1)
-      → Put W c (2 * (j + 1)) h l₀ (set (set l (d + j) v) (b + j) u)
-  put-pair j d b v u l f r ea eb ev eu =
-      let p : d + j ≡ spot W (c + 2 * j) = omega (arith, ea, spot-on W c j) in
+  -- a pair more: a and b are the places of the first two columns
+  pub put-pair : (j a b : ℕ) (v u : ℤ) (l : List ℤ) → Put W q c (2 * j) h l₀ l → c + 2 * j + 2 ≤ W .length
+      → a ≡ cellOf W q c → b ≡ cellOf W q (c + 1) → v ≡ h (2 * j) → u ≡ h (2 * j + 1)
+      → Put W q c (2 * (j + 1)) h l₀ (set (set l (a + j) v) (b + j) u)
+  put-pair j a b v u l f r ea eb ev eu =
+      let p : a + j ≡ cellOf W q (c + 2 * j) = omega (arith, ea, cell-on W q c j) in
       let k : c + (2 * j + 1) ≡ c + 1 + 2 * j = omega arith in
-      let e : b + j ≡ spot W (c + (2 * j + 1)) = ap (λ (z : ℕ). z + j) eb ∙ sym (spot-on W (c + 1) j) ∙ sym (ap (spot W) k) in
+      let e : b + j ≡ cellOf W q (c + (2 * j + 1)) = ap (λ (z : ℕ). z + j) eb ∙ sym (cell-on W q (c + 1) j) ∙ sym (ap (cellOf W q) k) in
       let n : 2 * (j + 1) ≡ 2 * j + 1 + 1 = omega arith in
-      rw n (put-one (2 * j + 1) (b + j) u _ (put-one (2 * j) (d + j) v l f (omega arith) p ev) (omega arith) e eu)
+      rw n (put-one (2 * j + 1) (b + j) u _ (put-one (2 * j) (a + j) v l f (omega arith) p ev) (omega arith) e eu)
 
 -- of the heights only the first n count
-put-by : (W : Side) (c n : ℕ) (g h x : ℕ → ℤ) → ((j : ℕ) → j < n → g j ≡ h j) → heightsPut W c n g x ≡ heightsPut W c n h x
+put-by : (W : Side) (q c n : ℕ) (g h x : ℕ → ℤ) → ((j : ℕ) → j < n → g j ≡ h j) → heightsPut W q c n g x ≡ heightsPut W q c n h x
 unfolding heightsPut
-put-by W c zero g h x e = refl
-put-by W c (suc n) g h x e = let k = put-by W c n g h x (λ j l. e j (omega arith)) in cc (e n (omega arith), k)
+put-by W q c zero g h x e = refl
+put-by W q c (suc n) g h x e = let k = put-by W q c n g h x (λ j l. e j (omega arith)) in cc (e n (omega arith), k)
 
 -- ---- the n heights of a run from height f on, lent
 module _ (f k n : ℕ) (run : List ℕ) (e : k ≡ n) (r : f + n ≤ length run) where
   pub part-length : length (midOf f k run) ≡ n
   part-length = length-take-le k (drop f run) (simp length-drop (omega arith)) ∙ e
 
-  pub part-put : (W : Side) (c : ℕ) (x : ℕ → ℤ)
-      → heightsPut W c (length (midOf f k run)) (heightAt (midOf f k run)) x ≡ heightsPut W c n (λ j. heightAt run (f + j)) x
-  part-put W c x =
-      ap (λ (m : ℕ). heightsPut W c m (heightAt (midOf f k run)) x) part-length
-      ∙ put-by W c n _ _ x (λ j l. ap pos (getD-take k (drop f run) j 0 (omega arith) ∙ getD-drop f run j 0))
+  pub part-put : (W : Side) (q c : ℕ) (x : ℕ → ℤ)
+      → heightsPut W q c (length (midOf f k run)) (heightAt (midOf f k run)) x ≡ heightsPut W q c n (λ j. heightAt run (f + j)) x
+  part-put W q c x =
+      ap (λ (m : ℕ). heightsPut W q c m (heightAt (midOf f k run)) x) part-length
+      ∙ put-by W q c n _ _ x (λ j l. ap pos (getD-take k (drop f run) j 0 (omega arith) ∙ getD-drop f run j 0))
 
--- the places of a pair lie in the row
-pub put-place : (W : Side) (c j d : ℕ) → c + 2 * j < W .length → d ≡ spot W c → d + j < W .length
-put-place W c j d h e = omega (arith, e, spot-on W c j, spot-in W (c + 2 * j) h)
+-- the places of a pair lie in the store
+pub put-place : (W : Side) (q c j a : ℕ) → c + 2 * j < W .length → a ≡ cellOf W q c → a + j < 4 * W .length
+put-place W q c j a h e = omega (arith, e, cell-on W q c j, cell-in W q (c + 2 * j) h)
 
 -- a height as a 32-bit number
 pub height-fits : (v : ℕ) → v < 65536 → SFits w32 (pos v)
@@ -95,12 +95,14 @@ lies-in a n k h =
       | no d ↦ simp (le-leb a (k - n) (omega arith), le-leb (a + n) k (omega arith))
     ]
 
-pub record HeightsIn (w c n l f : ℕ) : Type 0 where
+pub record HeightsIn (k w c n l f : ℕ) : Type 0 where
+  pub room : 4 * w ≤ k
   pub columns : c + n ≤ w
   pub heights : f + n ≤ l
 
-pub heights-in : (w c n l f : ℕ) → heightsFit w c n l f ≡ true → HeightsIn w c n l f
+pub heights-in : (k w c n l f : ℕ) → heightsFit k w c n l f ≡ true → HeightsIn k w c n l f
 unfolding heightsFit
-heights-in w c n l f e =
-    let b = both (leb (c + n) w) _ e in
-    record { columns = leb-true _ _ (b .0); heights = leb-true _ _ (b .1) }
+heights-in k w c n l f e =
+    let a = both (leb (4 * w) k) _ e in
+    let b = both (leb (c + n) w) _ (a .1) in
+    record { room = leb-true _ _ (a .0); columns = leb-true _ _ (b .0); heights = leb-true _ _ (b .1) }

@@ -1,24 +1,30 @@
 -- Where column i stands in a row in halves. Assumes nothing.
-use mathlib.Core.Path.{_≡_, sym, ap}
-use Prim.Native.Nat.{ℕ, _+_, _*_, _/_, _%_, _<_}
+use mathlib.Core.Path.{_≡_, refl, sym, ap}
+use Prim.Native.Nat.{ℕ, _+_, _/_, _%_, _<_}
 use native.Mathlib.Decide.{ℕ-discrete}
 use native.Mathlib.Omega.{arith}
 use lib.IntN.{ℤ}
+use lib.Dec.{eqb}
 use borrow.Author.Tests.{eq-eqb, ne-eqb}
-use Rattle.lifting.specs.Line.{Half, lo, hi}
-use Rattle.lifting.specs.Grid.{Side, place, count, joined}
+use Rattle.numbers.specs.Signal.{pick}
+use Rattle.lifting.specs.Line.{lo}
+use Rattle.lifting.specs.Grid.{Side, count, joined}
 use Rattle.lifting.specs.GridHalves.{halvesOf}
 use Rattle.lifting.proofs.GridLaws.{half-even, half-odd}
 use Rattle.wavelet.proofs.SideLaws.{count-lo}
-use Rattle.level.specs.Cells.{spot}
-use Rattle.level.specs.Stretch.{halfPlace}
+use Rattle.level.specs.Cells.{slot, cellOf}
+
+abbrev pub spot : Side → ℕ → ℕ
+spot W i = pick (eqb ((W .start % 2 + i) % 2) 0) (i / 2) (count lo W + i / 2)
+
+pub cell-spot : (W : Side) (q i : ℕ) → cellOf W q i ≡ slot (W .length) q + spot W i
+unfolding cellOf
+cell-spot W q i = refl
 
 pub spot-even : (W : Side) (i : ℕ) → (W .start % 2 + i) % 2 ≡ 0 → spot W i ≡ i / 2
-unfolding spot
 spot-even W i e = simp (eq-eqb ((W .start % 2 + i) % 2) 0 e)
 
 pub spot-odd : (W : Side) (i : ℕ) → ((W .start % 2 + i) % 2 ≡ 0 → ⊥) → spot W i ≡ count lo W + i / 2
-unfolding spot
 spot-odd W i e = simp (ne-eqb ((W .start % 2 + i) % 2) 0 e)
 
 pub spot-in : (W : Side) (i : ℕ) → i < W .length → spot W i < W .length
@@ -50,23 +56,3 @@ joined-spot W z i =
       | yes e ↦ rw (half-even (W .start + i) (omega arith)) (ap z (sym (spot-even W i e)))
       | no e ↦ rw (half-odd (W .start + i) (omega (arith, e))) (ap z (sym (spot-odd W i e)))
     ]
-
--- two columns on is one place on
-pub spot-on : (W : Side) (c j : ℕ) → spot W (c + 2 * j) ≡ spot W c + j
-spot-on W c j =
-    elim (ℕ-discrete ((W .start % 2 + c) % 2) 0) [
-      | yes e ↦
-          let d : (W .start % 2 + (c + 2 * j)) % 2 ≡ 0 = omega arith in
-          let h : (c + 2 * j) / 2 ≡ c / 2 + j = omega arith in
-          omega (arith, spot-even W (c + 2 * j) d, spot-even W c e, h)
-      | no e ↦
-          let d : (W .start % 2 + (c + 2 * j)) % 2 ≡ 1 = omega (arith, e) in
-          let h : (c + 2 * j) / 2 ≡ c / 2 + j = omega arith in
-          omega (arith, spot-odd W (c + 2 * j) (λ z. omega arith), spot-odd W c e, h)
-    ]
-
--- number i of a half stands at its place in the line
-pub spot-place : (h : Half) (W : Side) (i : ℕ) → spot W (place W h i) ≡ halfPlace h W + i
-unfolding place halfPlace
-spot-place lo W i = omega (arith, spot-even W (place W lo i) (omega arith))
-spot-place hi W i = omega (arith, spot-odd W (place W hi i) (λ e. omega arith))

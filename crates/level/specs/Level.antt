@@ -1,6 +1,6 @@
 -- What a level of the writer does, of the columns W, in its own stretch of the line store. The store is a signal x: what stands at each place, counted from
 -- where the level's stretch begins. The level's rows are counted from 0, the first at coordinate s; its sets are those of `Order` (grid).
--- The machine above knows a level by these seven definitions alone; those of the two filters are `kindOf` (crate analysis).
+-- The machine above knows a level by these seven definitions alone; the 5/3 level is `fiveThree` (FiveThreeLevel).
 use mathlib.Core.Path.{_≡_}
 use mathlib.Core.Bool.{Bool}
 use Prim.Native.Nat.{ℕ, zero, suc, _+_, _-_, _*_, _%_, _<_, _≤_}

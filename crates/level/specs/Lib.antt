@@ -1,6 +1,6 @@
 -- What a level is to the streams above it.
 pub mod Level
--- A row of a stretch, and what is done to it whatever the filter.
+-- Four rows of a stretch, and what is done to them whatever the filter.
 pub mod Cells
 pub mod Moves
 pub mod Heights

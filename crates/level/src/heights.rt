@@ -1,5 +1,5 @@
-// Heights into a row of a level, which stands in halves: the even coordinates first. The row is lent by itself, so that a level may keep any number of them;
-// its columns start at x, of which only the parity counts.
+// Heights into a row of a level, which stands in halves: the even coordinates first. x is where the level's columns start, of which only the parity counts; a
+// row is told by its coordinate q past the last even one that is not after the level's first row.
 use wavelet::sizes;
 ghost use mathlib.Core.Path.{_≡_};
 ghost use Prim.Native.Nat.{_+_, _*_, _^_, _<_, _≤_};
@@ -7,51 +7,57 @@ ghost use lib.Dec.{leb};
 ghost use lib.ListN.{length};
 ghost use Rattle.numbers.specs.Signal.{at, pick};
 ghost use Rattle.lifting.specs.Grid.{side};
-ghost use Rattle.level.specs.Cells.{spot};
+ghost use Rattle.level.specs.Cells.{cellOf};
 ghost use Rattle.level.specs.Heights.{heightAt, heightsPut, heightsFit};
 
-// Where column c of a row of w stands.
-fn cell(w: usize, x: usize, c: usize) -> usize
+// Where column c of row q stands.
+fn cell(w: usize, x: usize, q: usize, c: usize) -> usize
     requires { ⌜ (w < 2 ^ 62) × (c ≤ w + 1) ⌝ }
-    ensures { λ s. ⌜ s ≡ spot (side x w) c ⌝ }
+    ensures { λ s. ⌜ s ≡ cellOf (side x w) q c ⌝ }
 {
     if (x % 2 + c) % 2 == 0 {
-        return c / 2;
+        return q % 4 * w + c / 2;
     }
-    sizes::low_count(x, w) + c / 2
+    q % 4 * w + (sizes::low_count(x, w) + c / 2)
 }
 
-// Pairs of heights to the columns from `column` on. One loop stores both of a pair: the compiler then reads whole vectors.
-fn fill_pairs(row: &mut [i32], x: usize, column: usize, run: &[u16], pairs: usize)
-    requires { ⌜ (column + 2 * pairs ≤ length (now row)) × (2 * pairs ≤ length (now run)) ⌝ }
-    ensures { λ _. ⌜ at (now (row .exit)) ≡
-        heightsPut (side x (length (now (row .entry)))) column (2 * pairs) (heightAt (now (run .entry))) (at (now (row .entry))) ⌝ }
+// Pairs of heights to the columns of row q from `column` on. One loop stores both of a pair: the compiler then reads whole vectors.
+fn fill_pairs(
+    store: &mut [i32],
+    w: usize,
+    x: usize,
+    q: usize,
+    column: usize,
+    run: &[u16],
+    pairs: usize,
+)
+    requires { ⌜ (4 * w ≤ length (now store)) × (column + 2 * pairs ≤ w) × (2 * pairs ≤ length (now run)) ⌝ }
+    ensures { λ _. ⌜ at (now (store .exit)) ≡
+        heightsPut (side x w) q column (2 * pairs) (heightAt (now (run .entry))) (at (now (store .entry))) ⌝ }
 {
-    let w = row.len();
-    let first = cell(w, x, column);
-    let second = cell(w, x, column + 1);
+    let first = cell(w, x, q, column);
+    let second = cell(w, x, q, column + 1);
     let mut j = 0;
     while j < pairs {
-        row[first + j] = run[2 * j] as i32;
-        row[second + j] = run[2 * j + 1] as i32;
+        store[first + j] = run[2 * j] as i32;
+        store[second + j] = run[2 * j + 1] as i32;
         j += 1;
     }
 }
 
-// Heights to the columns from `column` on: pairs, and the last by itself where their number is odd.
-fn fill(row: &mut [i32], x: usize, column: usize, run: &[u16])
-    requires { ⌜ column + length (now run) ≤ length (now row) ⌝ }
-    ensures { λ _. ⌜ at (now (row .exit)) ≡
-        heightsPut (side x (length (now (row .entry)))) column (length (now (run .entry))) (heightAt (now (run .entry))) (at (now (row .entry))) ⌝ }
+// Heights to the columns of row q from `column` on: pairs, and the last by itself where their number is odd.
+fn fill(store: &mut [i32], w: usize, x: usize, q: usize, column: usize, run: &[u16])
+    requires { ⌜ (4 * w ≤ length (now store)) × (column + length (now run) ≤ w) ⌝ }
+    ensures { λ _. ⌜ at (now (store .exit)) ≡
+        heightsPut (side x w) q column (length (now (run .entry))) (heightAt (now (run .entry))) (at (now (store .entry))) ⌝ }
 {
-    let w = row.len();
     let n = run.len();
     let pairs = n / 2;
-    fill_pairs(row, x, column, run, pairs);
+    fill_pairs(store, w, x, q, column, run, pairs);
     let k = 2 * pairs;
     if k < n {
-        let p = cell(w, x, column + k);
-        row[p] = run[k] as i32;
+        let p = cell(w, x, q, column + k);
+        store[p] = run[k] as i32;
     }
 }
 
@@ -65,27 +71,38 @@ pub fn lies_in(a: usize, n: usize, all: usize) -> bool
     false
 }
 
-fn heights_fit(w: usize, column: usize, n: usize, all: usize, from: usize) -> bool
-    ensures { λ r. ⌜ r ≡ heightsFit w column n all from ⌝ }
+fn heights_fit(k: usize, w: usize, column: usize, n: usize, all: usize, from: usize) -> bool
+    ensures { λ r. ⌜ r ≡ heightsFit k w column n all from ⌝ }
 {
-    if lies_in(column, n, w) {
-        return lies_in(from, n, all);
+    if w <= k / 4 {
+        if lies_in(column, n, w) {
+            return lies_in(from, n, all);
+        }
     }
     false
 }
 
-// Heights `from` to `from + n` of a run are put into a row, from column `column` on. 5, and nothing is changed, where the row has not as many columns or the
-// run not as many heights.
-pub fn put(row: &mut [i32], x: usize, column: usize, run: &[u16], from: usize, n: usize) -> u8
-    ensures { λ r. ⌜ r ≡ pick (heightsFit (length (now (row .entry))) column n (length (now (run .entry))) from) 0 5 ⌝ }
+// Heights `from` to `from + n` of a run are put into row q of a level of w columns, from column `column` on. 5, and nothing is changed, where the level's
+// stretch does not lie in the store, the row has not as many columns or the run not as many heights.
+pub fn put(
+    store: &mut [i32],
+    w: usize,
+    x: usize,
+    q: usize,
+    column: usize,
+    run: &[u16],
+    from: usize,
+    n: usize,
+) -> u8
+    ensures { λ r. ⌜ r ≡ pick (heightsFit (length (now (store .entry))) w column n (length (now (run .entry))) from) 0 5 ⌝ }
     ensures { λ r. ⌜
-        at (now (row .exit)) ≡ pick (heightsFit (length (now (row .entry))) column n (length (now (run .entry))) from)
-        (heightsPut (side x (length (now (row .entry)))) column n (λ j. heightAt (now (run .entry)) (from + j)) (at (now (row .entry)))) (at (now (row .entry)))
+        at (now (store .exit)) ≡ pick (heightsFit (length (now (store .entry))) w column n (length (now (run .entry))) from)
+        (heightsPut (side x w) q column n (λ j. heightAt (now (run .entry)) (from + j)) (at (now (store .entry)))) (at (now (store .entry)))
         ⌝ }
 {
-    if heights_fit(row.len(), column, n, run.len(), from) {
+    if heights_fit(store.len(), w, column, n, run.len(), from) {
         let end = from + n;
-        fill(row, x, column, &run[from..end]);
+        fill(store, w, x, q, column, &run[from..end]);
         return 0;
     }
     5

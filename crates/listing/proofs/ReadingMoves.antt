@@ -16,10 +16,9 @@ use Rattle.level.specs.Level.{Memory, LevelKind}
 use Rattle.writer.specs.Taking.{kind, Taking, oneMore, takes, begun, complete, heightPut, rowMakes, offering}
 use Rattle.writer.specs.Questions.{offerQuestion}
 use Rattle.writer.specs.Answers.{Took}
-use Rattle.writer.specs.Calls.{offeredAt, took, offerReply, offerStore}
-use Rattle.writer.specs.Spare.{holding}
+use Rattle.writer.specs.Calls.{took, offerReply, offerStore}
 use Rattle.writer.specs.declared.Writer.{Writer}
-use Rattle.writer.proofs.CallLaws.{offer-takes}
+use Rattle.writer.proofs.CallLaws.{offer-may}
 use Rattle.writer.proofs.Reached.{takes-one}
 use Rattle.listing.specs.Moves.{Idle, largestOn, readByte, takes as offers, Reads}
 use Rattle.pgm.specs.InputSteps.{heightsCame}
@@ -58,15 +57,8 @@ taken-most K (h ∷ run) s x =
     (taken-most K run (complete s (rowMakes K s (heightPut K h s x))) (rowMakes K s (heightPut K h s x) .store))
     refl
 
-taken-all : (v : ℕ) (run : List ℕ) (s : Writer) (x : Memory) → offeredAt v run s x .taken ≤ length run
-unfolding holding
-taken-all zero run s x = taken-most (kind s) run s x
-taken-all (suc v) run s x = omega arith
-
-taken-some : (v : ℕ) (run : List ℕ) (s : Writer) (n : ℕ) (x : Memory) → s .level ≡ v → v ≡ 0 → 0 < length run → offerQuestion s n (length run) ≡ 0 →
-    0 < offeredAt v run s x .taken
-taken-some zero run s n x e z h q = takes-one (kind s) run s x (offer-takes s n (length run) q e h) h
-taken-some (suc v) run s n x e z h q = absurd (omega arith)
+taken-some : (run : List ℕ) (s : Writer) (n : ℕ) (x : Memory) → 0 < length run → offerQuestion s n (length run) ≡ 0 → 0 < offering (kind s) run s x .taken
+taken-some run s n x h q = takes-one (kind s) run s x (offer-may s n (length run) q .1 h) h
 
 -- ---- the answer of an offer
 yes : {A : Type 0} (q : ℕ) (a b : A) → gives b ≡ unless q a → (q ≡ 0) × (b ≡ a)
@@ -79,17 +71,17 @@ kept (suc q) r a x y e = refl
 
 pub offer-kept : (s : Writer) (n r : ℕ) (run : List ℕ) (x : Memory) → refused r ≡ offerReply s n run x → offerStore s n run x ≡ x
 unfolding offerReply offerStore
-offer-kept s n r run x e = kept (offerQuestion s n (length run)) r (took (offeredAt (s .level) run s x)) x (offeredAt (s .level) run s x .store) e
+offer-kept s n r run x e = kept (offerQuestion s n (length run)) r (took (offering (kind s) run s x)) x (offering (kind s) run s x .store) e
 
-record Passed (s : Writer) (run : List ℕ) (j : Took) : Type 0 where
+record Passed (run : List ℕ) (j : Took) : Type 0 where
   pub most : j .taken ≤ length run
-  pub some : s .level ≡ 0 → 0 < length run → 0 < j .taken
+  pub some : 0 < length run → 0 < j .taken
 
-passed : (s : Writer) (n : ℕ) (run : List ℕ) (x : Memory) (j : Took) → gives j ≡ offerReply s n run x → Passed s run j
+passed : (s : Writer) (n : ℕ) (run : List ℕ) (x : Memory) (j : Took) → gives j ≡ offerReply s n run x → Passed run j
 unfolding offerReply
 passed s n run x j e =
-    let y = yes (offerQuestion s n (length run)) (took (offeredAt (s .level) run s x)) j e in
-    rw (y .1) (record { most = taken-all (s .level) run s x; some = λ z h. taken-some (s .level) run s n x refl z h (y .0) })
+    let y = yes (offerQuestion s n (length run)) (took (offering (kind s) run s x)) j e in
+    rw (y .1) (record { most = taken-most (kind s) run s x; some = λ h. taken-some run s n x h (y .0) })
 
 -- ---- heights together
 heights-size : (m : ℕ) (s : List ℕ) (c : ℕ) → c ≤ length (heightsOf m s) → length (heightsOf m (take (sampleSize m * c) s)) ≡ c
@@ -158,12 +150,12 @@ module _ (n k : ℕ) (s : State) (p : List ℕ) (a c : ℕ) (run : List ℕ) (j 
       in-piece z h = omega (arith, length-drop a p, r .place)
 
   pub heights-on : (m : ℕ) (i : Input) (x₁ : Memory) (l : Listing) {x′ z′ : Memory} → Idle s → s .listing .input .phase ≡ 3
-      → s .listing .input .samples .half ≡ false → s .listing .writer .level ≡ 0
+      → s .listing .input .samples .half ≡ false
       → m ≡ n → i ≡ heightsCame (j .taken) (s .listing .input) → x₁ ≡ offerStore (s .listing .writer) n run (s .store)
       → Leaves (drawState m k i (j .writer) x₁ (s .row)) l x′ z′ → Reads n k s p a (a + used) (stateOf l x′ z′)
-  heights-on m i x₁ l {x′} {z′} idle phase whole free em ei ex f =
+  heights-on m i x₁ l {x′} {z′} idle phase whole em ei ex f =
       let y = passed (s .listing .writer) n run (s .store) j reply in
-      let some : 0 < j .taken = y .some free (omega (arith, count, r .some)) in
+      let some : 0 < j .taken = y .some (omega (arith, count, r .some)) in
       let cut : take used bytes ≡ take used (drop a p) = take-take used (sampleSize m₀ * c) (drop a p) (bytes-more m₀ (j .taken) c most .0) in
       let size : length (take used bytes) ≡ used = ap length cut ∙ length-take-le used (drop a p) in-drop in
       record {

@@ -17,12 +17,12 @@ use Rattle.wavelet.proofs.StoreLaws.{store-in, store-grows}
 use Rattle.calls.specs.Lists.{Reply, gives, refused, unless}
 use Rattle.level.specs.Level.{Memory}
 use Rattle.filters.specs.Filters.{filterOf, isFilter}
-use Rattle.filters.specs.Figures.{writerStoreBy}
+use Rattle.filters.specs.Figures.{storeBy}
 use Rattle.writer.specs.Questions.{either, setUpQuestion}
 use Rattle.writer.specs.Answers.{Took}
 use Rattle.writer.specs.Calls.{offerReply, offerStore, finishReply, finishStore}
 use Rattle.writer.specs.History.{offer, finish, Event, offered, finished, event, next, events, freshWorld, taken, DrawnRow}
-use Rattle.writer.specs.Demand3.{wholeRows, waitingOf, spareFull, offerTurned, finishTurned}
+use Rattle.writer.specs.Demand3.{wholeRows, waitingOf, offerTurned, finishTurned}
 use Rattle.writer.specs.declared.Writer.{Writer}
 use Rattle.writer.proofs.Demand3.{demand-3}
 use Rattle.pgm.specs.Limits.{maxPictureWidth}
@@ -39,8 +39,8 @@ pub set-up-passes : (W L n : ℕ) → mapStore ≤ n → 1 ≤ W → W ≤ maxPi
 unfolding setUpQuestion within isFilter filterOf maxLevels
 set-up-passes W L n h a b c d =
     let r = filterOf 0 .rows in
-    let f : writerStoreBy 0 (side 0 W) L ≤ n = omega (arith, store-in r (side 0 W) L maxLevels d, store-grows r maxLevels 0 W maxPictureWidth b) in
-    rw (le-leb 1 W a, le-leb W maxWidth (omega (arith, narrow)), le-leb 1 L c, le-leb L maxLevels d, le-leb (writerStoreBy 0 (side 0 W) L) n f)
+    let f : storeBy 0 (side 0 W) L ≤ n = omega (arith, store-in r (side 0 W) L maxLevels d, store-grows r maxLevels 0 W maxPictureWidth b) in
+    rw (le-leb 1 W a, le-leb W maxWidth (omega (arith, narrow)), le-leb 1 L c, le-leb L maxLevels d, le-leb (storeBy 0 (side 0 W) L) n f)
 
 module _ (W L n : ℕ) (s : setUpQuestion 0 (side 0 W) L n ≡ 0) (hs : List ℕ) (ds : List DrawnRow) (w : Writer) (x : Memory) (r : Ran W L n hs false ds w x)
     (idle : waits W L hs false ds ≡ []) where
@@ -81,17 +81,12 @@ module _ (W L n : ℕ) (s : setUpQuestion 0 (side 0 W) L n ≡ 0) (hs : List ℕ
 
       not-turned : offerTurned 0 (side 0 W) 0 L es n (length run) ≡ 0
       unfolding offerTurned
-      not-turned = rw (is-long W L n s, r .ended, low) refl
-
-      -- nothing stands in the spare row
-      not-full : spareFull 0 (side 0 W) 0 L es ≡ false
-      unfolding spareFull
-      not-full = rw nothing-waits refl
+      not-turned = rw (is-long W L n s, r .ended, nothing-waits, low) refl
 
       pub offer-out : OfferOut
       offer-out =
           let d = demand-3 0 (side 0 W) 0 L n (r .before) (omega arith) (omega arith) s (r .calls) .1 .offers-taken n run not-turned in
-          go (offerReply w n run x) refl (d .0) (ap (event (offer n run)) (sym (r .world)) ∙ d .1) (d .2 .most) (λ h. d .2 .some h not-full)
+          go (offerReply w n run x) refl (d .0) (ap (event (offer n run)) (sym (r .world)) ∙ d .1) (d .2 .most) (d .2 .some)
         where
           go : (y : Reply Took) → offerReply w n run x ≡ y → (m : ℕ) → event (offer n run) (worldOf w x) ≡ offered run (gives m) → m ≤ length run
               → (0 < length run → 0 < m) → OfferOut

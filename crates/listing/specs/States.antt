@@ -9,7 +9,7 @@ use Rattle.lifting.specs.Grid.{side}
 use Rattle.wavelet.specs.Limits.{maxLevels}
 use Rattle.pgm.specs.Limits.{maxPictureWidth}
 use Rattle.level.specs.Level.{Memory}
-use Rattle.filters.specs.Figures.{writerStoreBy}
+use Rattle.filters.specs.Figures.{storeBy}
 use Rattle.calls.specs.Lists.{Reply, gives, refused}
 use Rattle.writer.specs.Answers.{Took, Handed, aRow, nothing}
 use Rattle.writer.specs.Calls.{fresh, setUpReply, setUpStore, offerReply, offerStore, drawReply, drawStore, drawArea, finishReply, finishStore}
@@ -26,7 +26,7 @@ use Rattle.pgm.specs.EndedAnswer as ended
 
 -- a line store in which every map that is listed has room; the filter is the 5/3, number 0
 abbrev pub mapStore : ℕ
-mapStore = writerStoreBy 0 (side 0 maxPictureWidth) maxLevels
+mapStore = storeBy 0 (side 0 maxPictureWidth) maxLevels
 
 pub record State : Type 0 where
   pub listing : Listing

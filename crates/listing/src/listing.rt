@@ -32,7 +32,7 @@ pub struct Fed {
 impl Listing {
     // How many numbers the lent areas have to hold so that no map listed is refused: the line store of the largest width and number of levels, and
     // the longest band row.
-    pub const STORE: usize = 8981;
+    pub const STORE: usize = 7956;
 
     pub const ROW: usize = limits::MAX_WIDTH;
 

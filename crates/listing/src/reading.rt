@@ -47,7 +47,7 @@ fn read_run(
     run: &mut [u16],
 ) -> Read
     requires { ⌜ (listing .line .part ≡ 0) × (listing .input .phase ≡ 3) × (listing .input .samples .half ≡ false) × (0 < listing .input .left) ×
-        (used + 2 ≤ length (now piece)) × (0 < length (now run)) × (listing .writer .level ≡ 0) ⌝ }
+        (used + 2 ≤ length (now piece)) × (0 < length (now run)) ⌝ }
     ensures { λ r. ⌜ Reads (length (now (store .entry))) (length (now (row .entry))) (stateOf listing (at (now (store .entry))) (at (now (row .entry))))
         (now (piece .entry)) used (r .used) (stateOf (r .listing) (at (now (store .exit))) (at (now (row .exit)))) ⌝ }
 {
@@ -78,7 +78,7 @@ fn read_heights(
     row: &mut [i32],
 ) -> Read
     requires { ⌜ (listing .line .part ≡ 0) × (listing .input .phase ≡ 3) × (listing .input .samples .half ≡ false) × (0 < listing .input .left) ×
-        (used + 2 ≤ length (now piece)) × (listing .writer .level ≡ 0) ⌝ }
+        (used + 2 ≤ length (now piece)) ⌝ }
     ensures { λ r. ⌜ Reads (length (now (store .entry))) (length (now (row .entry))) (stateOf listing (at (now (store .entry))) (at (now (row .entry))))
         (now (piece .entry)) used (r .used) (stateOf (r .listing) (at (now (store .exit))) (at (now (row .exit)))) ⌝ }
 {
@@ -86,14 +86,10 @@ fn read_heights(
     read_run(listing, piece, used, store, row, &mut run)
 }
 
-// Whether a whole height is next, and no band row waits at any level: then an offer takes some. Where it says no, the next byte is read, which is right for
-// any input.
-fn are_next(input: Input, level: usize, bytes: usize) -> bool
-    ensures { λ r. ⌜ (r ≡ true → (input .phase ≡ 3) × (input .samples .half ≡ false) × (0 < input .left) × (2 ≤ bytes) × (level ≡ 0)) ⌝ }
+// Whether a whole height is next. Where it says no, the next byte is read, which is right for any input.
+fn are_next(input: Input, bytes: usize) -> bool
+    ensures { λ r. ⌜ (r ≡ true → (input .phase ≡ 3) × (input .samples .half ≡ false) × (0 < input .left) × (2 ≤ bytes)) ⌝ }
 {
-    if 0 < level {
-        return false;
-    }
     let samples = input.samples;
     if input.phase != 3 {
         return false;
@@ -118,8 +114,7 @@ pub fn read_on(
     ensures { λ r. ⌜ Reads (length (now (store .entry))) (length (now (row .entry))) (stateOf listing (at (now (store .entry))) (at (now (row .entry))))
         (now (piece .entry)) used (r .used) (stateOf (r .listing) (at (now (store .exit))) (at (now (row .exit)))) ⌝ }
 {
-    let writer = listing.writer;
-    if are_next(listing.input, writer.level, piece.len() - used) {
+    if are_next(listing.input, piece.len() - used) {
         return read_heights(listing, piece, used, store, row);
     }
     read_byte(listing, piece, used, store, row)

@@ -21,7 +21,7 @@ use Rattle.wavelet.proofs.GridLaws.{cells-flat}
 use Rattle.map_levels.specs.Passes.{Rows, within, rowsMapped}
 use Rattle.filters.specs.Filters.{filterOf}
 use Rattle.map_levels.specs.ByFilter.{liftedBy, columnsLiftedBy, levelLiftedBy}
-use Rattle.map_levels.specs.LevelPasses.{columnsLiftedInPlace, levelLifted, planeWritten, LevelMade, LevelMadeBy}
+use Rattle.map_levels.specs.LevelPasses.{columnsLiftedInPlace, levelLifted, LevelMade, LevelMadeBy}
 use Rattle.map_levels.proofs.LevelMath.{five-three-made}
 use Rattle.map_levels.proofs.CellLaws.{flat-same}
 use Rattle.map_levels.proofs.LevelCalls.{mapped-same}
@@ -58,22 +58,17 @@ nine-seven-rows s W H x y z some wide e f =
     f ∙ flat-same s _ _ some
     (λ r c cs. mapped-same (nine.liftedInPlace W) (W .length) (H .length) (cells s y) Z r c (same r c cs) (λ j jw. same r j (omega arith)))
 
--- the levels of the 5/3
-pub five-levels : (f L : ℕ) → f ≡ 0 → L ≤ filterOf f .levels → L ≤ 5
+-- either filter, by its number
+pub by-five-three : (f s : ℕ) (W H : Side) (x x′ : ℕ → ℤ) → f ≡ 0 → x′ ≡ flat s (levelLifted W H (cells s x)) →
+    x′ ≡ flat s (levelLiftedBy (filterOf f) W H (cells s x))
 unfolding filterOf
-five-levels f L e b = rw e at b
+by-five-three f s W H x x′ e is = rw e (is ∙ ap (flat s) (five-three-level W H (cells s x)))
 
--- either filter's plane, by its number
-pub plane-five-three : (f L A : ℕ) (W H : Side) (g Z : Grid) (z : ℕ → ℤ) → f ≡ 0 → z ≡ flat A (planeWritten fiveThreeFilter L W H g Z) →
-    z ≡ flat A (planeWritten (filterOf f) L W H g Z)
+pub by-nine-seven : (f s : ℕ) (W H : Side) (x x′ : ℕ → ℤ) → (f ≡ 0 → ⊥) → x′ ≡ flat s (levelLiftedBy nineSevenFilter W H (cells s x)) →
+    x′ ≡ flat s (levelLiftedBy (filterOf f) W H (cells s x))
 unfolding filterOf
-plane-five-three f L A W H g Z z e is = rw e is
-
-pub plane-nine-seven : (f L A : ℕ) (W H : Side) (g Z : Grid) (z : ℕ → ℤ) → (f ≡ 0 → ⊥) → z ≡ flat A (planeWritten nineSevenFilter L W H g Z) →
-    z ≡ flat A (planeWritten (filterOf f) L W H g Z)
-unfolding filterOf
-plane-nine-seven zero L A W H g Z z d is = absurd (d refl)
-plane-nine-seven (suc f) L A W H g Z z d is = is
+by-nine-seven zero s W H x x′ d is = absurd (d refl)
+by-nine-seven (suc f) s W H x x′ d is = is
 
 -- ---- the way back
 pub back-five-three : (f : ℕ) {ok : Bool} {from s : ℕ} {W H : Side} {z : Grid} {y₀ y : ℕ → ℤ} → f ≡ 0 → LevelMade ok from s W H z y₀ y →

@@ -124,30 +124,18 @@ module _ (F : Filter) (laws : FilterLaws F) (W H : Side) (L : ℕ) (l : List ℕ
       ∙ halved-out W H heights (cells w z₀) r c o
       ∙ sym (written-out F L W H g (cells w z₀) r c o)))
 
-  pub plane-loaded : (z₂ : ℕ → ℤ) → z₂ ≡ flat w (planeWritten F L W H (cornerGrid W H (cells w z₁)) (cells w z₁)) →
-      z₂ ≡ flat w (planeWritten F L W H heights (cells w z₀))
-  plane-loaded z₂ f =
+  pub plane-made : L ≤ F .levels → (z₂ : ℕ → ℤ) → ((i : ℕ) → getD l i 0 < 65536) → z₂ ≡ flat w
+      (planeWritten F L W H (cornerGrid W H (cells w z₁)) (cells w z₁)) →
+      z₂ ≡ fronted (w * H .length) (planeOf F whole L W H heights) z₀
+  unfolding planeOf
+  plane-made few z₂ fits f =
       let g = cornerGrid W H (cells w z₁) in
-      f ∙ over g ∙ flat-same w _ _ (s .width .0)
-      (λ r c cw.
-      by-within w (H .length) r c
-      (λ rh cv.
-      written-in F L W H g (cells w z₀) r c rh cv
-      ∙ plane-reads F laws wrap32 L W H g heights (halved-grid w W H heights (cells w z₀) z₁ (omega arith) e) r c rh cv
-      ∙ sym (written-in F L W H heights (cells w z₀) r c rh cv))
-      (λ o. written-out F L W H g (cells w z₀) r c o ∙ sym (written-out F L W H heights (cells w z₀) r c o)))
-
--- for a map the words are whole numbers
-pub plane-made : (F : Filter) (laws : FilterLaws F) (W H : Side) (L : ℕ) (l : List ℕ) (z₀ z₂ : ℕ → ℤ) → Sized (W .length) (H .length) L → L ≤ F .levels →
-    ((i : ℕ) → getD l i 0 < 65536) → z₂ ≡ flat (W .length) (planeWritten F L W H (cells (W .length) (heightsAt l)) (cells (W .length) z₀)) →
-    z₂ ≡ fronted (W .length * H .length) (planeOf F whole L W H (cells (W .length) (heightsAt l))) z₀
-unfolding planeOf
-plane-made F laws W H L l z₀ z₂ s few fits f =
-    let w = W .length in
-    let g = cells w (heightsAt l) in
-    f ∙ map-places w (H .length) _ (planeCell F whole L W H g) z₀ (s .width .0) (s .height .0)
-    (λ r c rh cw. written-in F L W H g (cells w z₀) r c rh cw ∙ map-plane F laws W H g (heights-map w (H .length) l fits) L few r c rh cw)
-    (λ r c o. written-out F L W H g (cells w z₀) r c o)
+      f ∙ over g ∙ map-places w (H .length) _ (planeCell F whole L W H heights) z₀ (s .width .0) (s .height .0)
+      (λ r c rh cw.
+      written-in F L W H g (cells w z₀) r c rh cw
+      ∙ plane-reads F laws wrap32 L W H g heights (halved-grid w W H heights (cells w z₀) z₁ (omega arith) e) r c rh cw
+      ∙ map-plane F laws W H heights (heights-map w (H .length) l fits) L few r c rh cw)
+      (λ r c o. written-out F L W H g (cells w z₀) r c o)
 
 module _ (F : Filter) (laws : FilterLaws F) where
   -- ---- backward

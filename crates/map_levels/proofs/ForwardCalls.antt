@@ -16,7 +16,7 @@ use Rattle.numbers.proofs.Parts.{window-in, splice-in, splice-past, length-mid}
 use Rattle.lifting.specs.Line.{Half, lo, hi}
 use Rattle.lifting.specs.Grid.{Side, side, count, place, parted}
 use Rattle.lifting.specs.Halves.{fronted}
-use Rattle.lifting.specs.GridHalves.{inHalves, partedInto}
+use Rattle.lifting.specs.GridHalves.{inHalves, liftedInPlace, partedInto}
 use Rattle.lifting.proofs.GridLaws.{counts, halves-low, halves-high}
 use Rattle.lifting.proofs.RowLaws.{row-order}
 use Rattle.areas.proofs.AreaLaws.{front-at, front-rest, did}
@@ -39,7 +39,7 @@ halves-inside S p y z c h =
       | no d ↦ halves-high S p y c (omega arith) h ∙ sym (halves-high S p z c (omega arith) h)
     ]
 
--- ---- a part laid in halves in another, and a part changed in place, as a line is lifted; x is where they start on the grid
+-- ---- a part laid in halves in another, and a part lifted in place; x is where they start on the grid
 pub halved-part : (x a b n k k′ : ℕ) (from to z : List ℤ) → k ≡ n → k′ ≡ n → a + n ≤ length from → b + n ≤ length to → length z ≡ length (midOf b k to) →
     at z ≡ pick (leb (length (midOf a k′ from)) (length (midOf b k to)))
     (partedInto (side x (length (midOf a k′ from))) (at (midOf a k′ from)) (at (midOf b k to))) (at (midOf b k to)) →
@@ -52,11 +52,12 @@ halved-part x a b n k k′ from to z e e′ fa fb size is =
     let is′ : at z ≡ inHalves (side x n) (parted (side x n) y) (at (midOf b k to)) = cc (did _ _ _ _ room is, mid, lent-part a n k′ from e′) in
     moved-part b n k to z _ e fb size (λ i h. ap (λ (u : ℕ → ℤ). u i) is′ ∙ halves-inside (side x n) (parted (side x n) y) _ y i h)
 
-pub changed-part : (F : Side → (ℕ → ℤ) → ℕ → ℤ) (x a n k : ℕ) (l z : List ℤ) → k ≡ n → a + n ≤ length l → length z ≡ length (midOf a k l) →
-    at z ≡ F (side x (length (midOf a k l))) (at (midOf a k l)) → at (putMid a k l z) ≡ spliced a n (F (side x n) (windowed a n (at l))) (at l)
-changed-part F x a n k l z e room size is =
+pub lifted-part : (x a n k : ℕ) (l z : List ℤ) → k ≡ n → a + n ≤ length l → length z ≡ length (midOf a k l) →
+    at z ≡ liftedInPlace (side x (length (midOf a k l))) (at (midOf a k l)) →
+    at (putMid a k l z) ≡ spliced a n (liftedInPlace (side x n) (windowed a n (at l))) (at l)
+lifted-part x a n k l z e room size is =
     let mid : length (midOf a k l) ≡ n = length-mid a k l (omega arith) ∙ e in
-    let is′ : at z ≡ F (side x n) (windowed a n (at l)) = cc (is, mid, lent-part a n k l e) in
+    let is′ : at z ≡ liftedInPlace (side x n) (windowed a n (at l)) = cc (is, mid, lent-part a n k l e) in
     moved-part a n k l z _ e room size (λ i h. ap (λ (y : ℕ → ℤ). y i) is′)
 
 -- each number of a part at the front changed by f

@@ -29,7 +29,7 @@ goes-on L w h e =
     (ltb-true 1 L (a .0), ltb-true 0 w (b .0), ltb-true 0 h (b .1))
 
 -- rows of its own width, and those of the low-low part: no more of them, and no longer
-pub own-end : (W H : Side) → (count lo H - 1) * count lo W + count lo W ≤ (H .length - 1) * W .length + W .length
+own-end : (W H : Side) → (count lo H - 1) * count lo W + count lo W ≤ (H .length - 1) * W .length + W .length
 own-end W H =
     let l = counts H in
     let k = counts W in

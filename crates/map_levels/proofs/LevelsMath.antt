@@ -30,12 +30,12 @@ use Rattle.map_levels.proofs.TestLaws.{goes-no}
 
 -- ---- the plane, by cells
 module _ (F : Filter) (keep : ℤ → ℤ) (W H : Side) (g : Grid) (r c : ℕ) where
-  pub plane-corner : (L : ℕ) → r < count lo H → c < count lo W →
+  plane-corner : (L : ℕ) → r < count lo H → c < count lo W →
       planeCell F keep (suc L) W H g r c ≡ planeCell F keep L (next W) (next H) (subband F keep W H g LL) r c
   unfolding planeCell inCorner
   plane-corner L rb cb = simp (lt-ltb r (count lo H) rb, lt-ltb c (count lo W) cb)
 
-  pub plane-rest : (L : ℕ) → within (count lo W) (count lo H) r c ≡ false →
+  plane-rest : (L : ℕ) → within (count lo W) (count lo H) r c ≡ false →
       planeCell F keep (suc L) W H g r c ≡ subband F keep W H g (bandOf (halfAt W c) (halfAt H r)) (placeIn H r) (placeIn W c)
   unfolding planeCell inCorner within
   plane-rest L e = simp e
@@ -46,7 +46,7 @@ module _ (F : Filter) (keep : ℤ → ℤ) (W H : Side) (g : Grid) (r c : ℕ) w
   plane-none L z = rw z refl
 
   -- the last level: the corner is its low-low band, or empty
-  pub plane-last : (L : ℕ) → 0 < L → goesOn L (count lo W) (count lo H) ≡ false →
+  plane-last : (L : ℕ) → 0 < L → goesOn L (count lo W) (count lo H) ≡ false →
       planeCell F keep L W H g r c ≡ subband F keep W H g (bandOf (halfAt W c) (halfAt H r)) (placeIn H r) (placeIn W c)
   unfolding bandOf
   plane-last zero some e = absurd (omega arith)

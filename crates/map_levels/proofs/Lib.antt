@@ -4,7 +4,7 @@ pub mod GridSweep
 pub mod ColumnPass
 pub mod HeightRows
 pub mod CellLaws
-pub mod OneRow
+pub mod ColumnLift
 pub mod LevelMath
 pub mod LevelsMath
 pub mod TestLaws
@@ -16,8 +16,3 @@ pub mod ForwardSteps
 pub mod ByFilterLaws
 pub mod CallLaws
 pub mod NineSevenBack
-pub mod SweepLines
-pub mod ShortSums
-pub mod SweepRows
-pub mod SweepSets
-pub mod SweepLevels

@@ -1,13 +1,13 @@
 -- The levels as the private functions make them: a level's rows stand in an area, each in halves. W are its columns, H its rows.
 use mathlib.Core.Bool.{Bool, true}
-use Prim.Native.Nat.{ℕ, _+_, _-_, _*_, _^_, _%_, _≤_, _<_}
+use Prim.Native.Nat.{ℕ, _+_, _-_, _*_, _^_, _%_, _≤_, _<_, min}
 use mathlib.Core.Path.{_≡_}
 use lib.IntN.{ℤ, pos, natAbs}
 use lib.Dec.{ltb, leb, eqb}
 use Rattle.numbers.specs.Signal.{pick, both, windowed, spliced}
 use Rattle.numbers.specs.Tests.{every}
 use Rattle.numbers.specs.Word.{wrap32}
-use Rattle.lifting.specs.Line.{lo, unupdated, unpredicted}
+use Rattle.lifting.specs.Line.{lo, predicted, updated, unupdated, unpredicted}
 use Rattle.lifting.specs.Halves.{fronted}
 use Rattle.lifting.specs.Grid.{Side, count, joined, loneHigh, isEven}
 use Rattle.lifting.specs.GridHalves.{halvesOf, liftedInPlace, unliftedInPlace}
@@ -41,6 +41,18 @@ levelLifted W H X = rowsMapped (liftedInPlace W) (W .length) (H .length) (column
 -- row r of an area, in halves, lifted in place
 abbrev pub rowLifted : ℕ → Side → ℕ → (ℕ → ℤ) → ℕ → ℤ
 rowLifted s W r x = spliced (r * s) (W .length) (liftedInPlace W (windowed (r * s) (W .length) x)) x
+
+-- low row k and the high row after it, of `low` low rows in an area of n numbers: this one predicted, and low row k updated. b is 1 where a high row comes
+-- first, and 0 where a low one does.
+abbrev pub pairLifted : ℕ → ℕ → ℕ → ℕ → ℕ → ℕ → (ℕ → ℤ) → ℕ → ℤ
+pairLifted n s w low b k x =
+    rowsChanged (updated wrap32) n s w k (low + (k + b - 1)) (low + (k + b))
+    (rowsChanged (predicted wrap32) n s w (low + (k + b)) k (min (k + 1) (low - 1)) x)
+
+-- what comes before the turns: a first high row predicted, or the first pair lifted and its low row
+abbrev pub firstLifted : ℕ → ℕ → Side → ℕ → ℕ → (ℕ → ℤ) → ℕ → ℤ
+firstLifted n s W low b x =
+    pick (eqb b 1) (rowsChanged (predicted wrap32) n s (W .length) low 0 0 x) (rowLifted s W 0 (pairLifted n s (W .length) low 0 0 x))
 
 -- all columns back: the low rows first, then the high ones; a lone high row is halved
 unfoldable pub columnsUnliftedInPlace : ℕ → Side → Grid → Grid

@@ -1,6 +1,6 @@
-// The levels of a map. Forward by the 9/7 a level is lifted where it stands, in the plane's corner (by the 5/3: `sweep`). Back its rows stand in the work area,
-// `height` rows of `width` numbers each in halves, `stride` apart: the rows of the next level are every second one of them, so its stride is twice as long,
-// and they begin at the first low row. The plane's rows are `across` apart at every level. x and y are where the level starts on the grid.
+// The levels of a map. Forward a level is lifted where it stands, in the plane's corner. Back its rows stand in the work area, `height` rows of
+// `width` numbers each in halves, `stride` apart: the rows of the next level are every second one of them, so its stride is twice as long, and they begin at
+// the first low row. The plane's rows are `across` apart at every level. x and y are where the level starts on the grid.
 // The module is private: only this crate, which meets what is required, can call it.
 use crate::passes;
 use lifting::halves;
@@ -54,7 +54,7 @@ fn level_row(y: usize, height: usize, r: usize) -> usize
 }
 
 // Whether more levels follow on a low-low part of this width and height: an empty one has none.
-pub fn goes_on(levels: usize, width: usize, height: usize) -> bool
+fn goes_on(levels: usize, width: usize, height: usize) -> bool
     ensures { λ r. ⌜ r ≡ goesOn levels width height ⌝ }
 {
     if levels < 2 {
@@ -67,7 +67,7 @@ pub fn goes_on(levels: usize, width: usize, height: usize) -> bool
 }
 
 // n numbers from place a of one area to place b of another.
-pub fn copy_part(from: &[i32], a: usize, to: &mut [i32], b: usize, n: usize)
+fn copy_part(from: &[i32], a: usize, to: &mut [i32], b: usize, n: usize)
     requires { ⌜ (a + n ≤ length (now from)) × (b + n ≤ length (now to)) ⌝ }
     ensures { λ _. ⌜ at (now (to .exit)) ≡ spliced b n (windowed a n (at (now (from .entry)))) (at (now (to .entry))) ⌝ }
 {
@@ -77,7 +77,7 @@ pub fn copy_part(from: &[i32], a: usize, to: &mut [i32], b: usize, n: usize)
 }
 
 // The same, a row that goes from its own order into halves.
-pub fn halve_part(from: &[i32], a: usize, to: &mut [i32], b: usize, x: usize, n: usize)
+fn halve_part(from: &[i32], a: usize, to: &mut [i32], b: usize, x: usize, n: usize)
     requires { ⌜ (a + n ≤ length (now from)) × (b + n ≤ length (now to)) ⌝ }
     ensures { λ _. ⌜ at (now (to .exit)) ≡
         spliced b n (partedInPlace (side x n) (windowed a n (at (now (from .entry))))) (at (now (to .entry))) ⌝ }
@@ -88,7 +88,7 @@ pub fn halve_part(from: &[i32], a: usize, to: &mut [i32], b: usize, x: usize, n:
 }
 
 // A grid from the plane's corner to the work area, its rows one after the other.
-pub fn save(plane: &[i32], work: &mut [i32], across: usize, width: usize, height: usize)
+fn save(plane: &[i32], work: &mut [i32], across: usize, width: usize, height: usize)
     requires { ⌜ Rows (length (now plane)) across width height × Rows (length (now work)) width width height ⌝ }
     ensures { λ _. ⌜ at (now (work .exit)) ≡
         flat width (gridCopied width height (cells across (at (now (plane .entry)))) (cells width (at (now (work .entry))))) ⌝ }
@@ -101,7 +101,7 @@ pub fn save(plane: &[i32], work: &mut [i32], across: usize, width: usize, height
 }
 
 // And back to the corner as the level takes it: the low rows first, each row in halves.
-pub fn spread(
+fn spread(
     work: &[i32],
     plane: &mut [i32],
     across: usize,
@@ -194,7 +194,7 @@ fn fetch_last(
     fetch_row(plane, work, across, stride, from, x, width, y, height, r);
 }
 
-// All levels forward by the 9/7, in the plane's corner: this one, and then the same of its low-low part with the levels left, which goes through the
+// All levels forward, in the plane's corner: this one, and then the same of its low-low part with the levels left, which goes through the
 // work area into the order that a level takes.
 pub fn forward_levels(
     plane: &mut [i32],
@@ -205,15 +205,16 @@ pub fn forward_levels(
     y: usize,
     height: usize,
     levels: usize,
+    filter: usize,
 )
     requires { ⌜ Rows (length (now plane)) across width height × Rows (length (now work)) width width height × (0 < levels) ⌝ }
     ensures { λ _. ⌜ at (now (plane .exit)) ≡
-        flat across (planeWritten nineSevenFilter levels (side x width) (side y height)
+        flat across (planeWritten (filterOf filter) levels (side x width) (side y height)
         (cornerGrid (side x width) (side y height) (cells across (at (now (plane .entry)))))
         (cells across (at (now (plane .entry))))) ⌝ }
     ensures { λ _. ⌜ KeptFrom ((height - 1) * width + width) (at (now (work .entry))) (at (now (work .exit))) ⌝ }
 {
-    passes::lift_nine_seven(plane, across, x, width, y, height);
+    passes::lift_by(plane, across, x, width, y, height, filter);
     let w = sizes::low_count(x, width);
     let h = sizes::low_count(y, height);
     if !goes_on(levels, w, h) {
@@ -223,7 +224,7 @@ pub fn forward_levels(
     let v = sizes::next_start(y);
     save(plane, work, across, w, h);
     spread(work, plane, across, u, w, v, h);
-    forward_levels(plane, work, across, u, w, v, h, levels - 1);
+    forward_levels(plane, work, across, u, w, v, h, levels - 1, filter);
 }
 
 // The least number of a level's range.

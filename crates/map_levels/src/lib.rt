@@ -1,14 +1,11 @@
 // All levels of a whole map, from its heights to its plane and back, over areas that the caller lends.
 mod heights;
 mod levels;
-mod lines;
 mod passes;
 mod rowwise;
-mod short;
-mod sweep;
 
 ghost use mathlib.Core.Path.{_≡_};
-ghost use Prim.Native.Nat.{_+_, _-_, _*_, _≤_};
+ghost use Prim.Native.Nat.{_*_, _≤_};
 ghost use lib.ListN.{length};
 ghost use Rattle.numbers.specs.Signal.{at};
 ghost use Rattle.numbers.specs.Word.{whole, wrap32};
@@ -19,68 +16,7 @@ ghost use Rattle.wavelet.specs.Questions.{Sized};
 ghost use Rattle.filters.specs.Filters.{filterOf};
 ghost use Rattle.map_questions.specs.Calls.{sizeQuestions, planeQuestions, zeros, passed, rebuilt};
 ghost use Rattle.map_levels.specs.Rowwise.{heightsAt};
-ghost use Rattle.nine_seven.specs.NineSevenFilter.{nineSevenFilter};
-ghost use Rattle.map_levels.specs.Passes.{KeptFrom};
-ghost use Rattle.map_levels.specs.LevelPasses.{planeWritten, MapRebuilt};
-
-// The map's plane by the 9/7: its rows are loaded into the plane and lifted there.
-fn lift_in_place(
-    heights: &[u16],
-    x: usize,
-    width: usize,
-    y: usize,
-    height: usize,
-    levels: usize,
-    plane: &mut [i32],
-    work: &mut [i32],
-)
-    requires { ⌜ Sized width height levels × (width * height ≤ length (now heights)) × (width * height ≤ length (now plane))
-        × (width * height ≤ length (now work)) ⌝ }
-    ensures { λ _. ⌜ at (now (plane .exit)) ≡
-        flat width (planeWritten nineSevenFilter levels (side x width) (side y height) (cells width (heightsAt (now (heights .entry))))
-        (cells width (at (now (plane .entry))))) ⌝ }
-    ensures { λ _. ⌜ KeptFrom ((height - 1) * width + width) (at (now (work .entry))) (at (now (work .exit))) ⌝ }
-{
-    heights::load_rows(heights, plane, x, width, y, height);
-    levels::forward_levels(plane, work, width, x, width, y, height, levels);
-}
-
-// The map's plane by the filter of a number; the 5/3 goes from the heights straight to the plane.
-fn lift_by(
-    heights: &[u16],
-    x: usize,
-    width: usize,
-    y: usize,
-    height: usize,
-    levels: usize,
-    plane: &mut [i32],
-    work: &mut [i32],
-    filter: usize,
-)
-    requires { ⌜ Sized width height levels × (width * height ≤ length (now heights)) × (width * height ≤ length (now plane))
-        × (width * height ≤ length (now work)) × (levels ≤ filterOf filter .levels) ⌝ }
-    ensures { λ _. ⌜ at (now (plane .exit)) ≡
-        flat width (planeWritten (filterOf filter) levels (side x width) (side y height) (cells width (heightsAt (now (heights .entry))))
-        (cells width (at (now (plane .entry))))) ⌝ }
-    ensures { λ _. ⌜ KeptFrom ((height - 1) * width + width) (at (now (work .entry))) (at (now (work .exit))) ⌝ }
-{
-    if filter == 0 {
-        sweep::sweep_levels(
-            heights,
-            plane,
-            work,
-            true,
-            width,
-            x,
-            width,
-            y,
-            height,
-            levels,
-        );
-        return;
-    }
-    lift_in_place(heights, x, width, y, height, levels, plane, work);
-}
+ghost use Rattle.map_levels.specs.LevelPasses.{MapRebuilt};
 
 // The map's plane, all questions passed.
 fn transform(
@@ -101,7 +37,8 @@ fn transform(
         (at (now (plane .entry))) ⌝ }
     ensures { λ _. ⌜ at (now (work .exit)) ≡ fronted (width * height) zeros (at (now (work .entry))) ⌝ }
 {
-    lift_by(heights, x, width, y, height, levels, plane, work, filter);
+    heights::load_rows(heights, plane, x, width, y, height);
+    levels::forward_levels(plane, work, width, x, width, y, height, levels, filter);
     areas::copies::clear(work, width * height);
 }
 

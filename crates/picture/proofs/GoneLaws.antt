@@ -14,19 +14,20 @@ use Rattle.numbers.specs.Signal.{pick}
 use Rattle.text.specs.Moves.{Went, Stops, full, idle}
 use Rattle.text.proofs.TextLaws.{wrote-none, wrote-size}
 use Rattle.text.proofs.MoveLaws.{one, went-not, went-on, stops-in}
-use Rattle.picture.specs.Machine.{Kept, kept, settled, Move, busyOn, Reads, Writes, quiet, Onward, on, off}
+use Rattle.picture.specs.Machine.{Kept, kept, settled, byteRead, Move, reads, busyOn, Writes, quiet, Onward, on, off}
 use Rattle.picture.specs.declared.rewriting.Rewriting.{Rewriting}
 
 -- ---- one call
-pub reads-went : {s s′ : Kept} {p o : List ℕ} {a a′ b : ℕ} → b ≤ length o → Reads s p a a′ s′ → Went Move s p a a′ o o b b s′
-reads-went {o = o} {b = b} h r = record {
-  bytes = r .bytes;
+pub read-went : (r r′ : Rewriting) (z z′ p o : List ℕ) (a b : ℕ) → r .part .kind ≡ 0 → a < length p → b ≤ length o
+    → r′ ≡ byteRead r z (getD p a 0) .state → z′ ≡ byteRead r z (getD p a 0) .row → Went Move (kept r z) p a (a + 1) o o b b (kept r′ z′)
+read-went r r′ z z′ p o a b k h g e f = record {
+  bytes = getD p a 0 ∷ [];
   text = [];
-  goes = r .goes;
-  read = r .read;
-  used = r .used;
-  part = r .part;
-  wrote = wrote-none b o h;
+  goes = one (reads (getD p a 0) k refl refl (ap₂ kept e f));
+  read = drop-cons p a 0 h ∙ ap (λ m. getD p a 0 ∷ drop m p) (sym (add-one a));
+  used = refl;
+  part = omega arith;
+  wrote = wrote-none b o g;
 }
 
 pub writes-went : {r r′ : Rewriting} {z p o o′ : List ℕ} {a b b′ : ℕ} → a ≤ length p → Writes r z o o′ b b′ r′
@@ -41,8 +42,8 @@ quiet-most s = go (eqb (busyOn s) 0)
     go true = omega arith
     go false = omega arith
 
-pub reads-on : (s s′ : Kept) (p o : List ℕ) (a a′ b : ℕ) → Reads s p a a′ s′ → Onward s s′ p a a′ o b b true
-reads-on s s′ p o a a′ b r = on (omega (arith, quiet-most s, r .some))
+pub read-on : (s s′ : Kept) (p o : List ℕ) (a b : ℕ) → Onward s s′ p a (a + 1) o b b true
+read-on s s′ p o a b = on (omega (arith, quiet-most s))
 
 quiet-settled : (r : Rewriting) (z : List ℕ) → quiet (kept (settled r) z) ≡ 1
 unfolding settled

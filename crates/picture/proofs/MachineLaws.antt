@@ -1,5 +1,5 @@
 -- What a rewriting owes, as it reads and writes. Assumes nothing.
-use mathlib.Core.Path.{_≡_, refl, sym, ap, subst, _∙_}
+use mathlib.Core.Path.{_≡_, refl, sym, ap, _∙_}
 use mathlib.Core.Bool.{Bool, true, false}
 use mathlib.Core.List.{List, [], _∷_, _++_, append-nil, append-assoc}
 use Prim.Native.Nat.{ℕ, zero, suc, _+_, _≤_, _<_}
@@ -45,15 +45,6 @@ module _ (r : Rewriting) (i : Input) (v : ℕ) (z : List ℕ) where
       → (moved r i (r .filled + 1) p ≡ heightKept r i v z .state) × (set z (r .filled) v ≡ heightKept r i v z .row)
   unfolding heightKept
   kept-some p h g = (rw (lt-leb (length z) (r .filled) h, g), rw (lt-leb (length z) (r .filled) h))
-
--- a row is written once it is whole, and nothing of a begun one is
-pub row-whole : (f W : ℕ) → f ≡ W → partOf 2 0 ≡ rowPart f W
-unfolding rowPart
-row-whole f W e = subst (λ x. partOf 2 0 ≡ rowPart x W) (sym e) (rw (eq-eqb W W refl))
-
-pub row-begun : (f W : ℕ) → (f ≡ W → ⊥) → noPart ≡ rowPart f W
-unfolding rowPart
-row-begun f W d = sym (ap (λ t. pick t (partOf 2 0) noPart) (ne-eqb f W d))
 
 pub ends-on : (r : Rewriting) → (r .part .kind ≡ 0 → ⊥) → r ≡ endOf r
 unfolding endOf

@@ -47,8 +47,7 @@ use Rattle.picture.specs.declared.parts.Part.{Part}
 use Rattle.picture.specs.declared.rewriting.Rewriting.{Rewriting}
 use Rattle.pgm.proofs.InputCases.{header-case, height-none, phase-2, phase-3, phase-on, end-early, end-over, end-few, end-whole}
 use Rattle.pgm.proofs.InputReads.{at, first-byte, Lasts, second-byte, lone-byte}
-use Rattle.picture.proofs.MachineLaws.{begun-room, kept-some, row-whole, row-begun}
-use Rattle.picture.proofs.MachineLaws.{left-none, settle-owed, read-owed, ends-as, end-owed, idle-owed, goes-owed}
+use Rattle.picture.proofs.MachineLaws.{begun-room, kept-some, left-none, settle-owed, read-owed, ends-as, end-owed, idle-owed, goes-owed}
 
 abbrev idle : Input → ℕ → ℕ → ℕ → Rewriting
 idle i W H f = rewriting i W H f noPart
@@ -186,6 +185,14 @@ set-taken z f u l h =
     ∙ ap (λ k. take k (take f z ++ (u ∷ drop (suc f) z)) ++ l) n
     ∙ ap (λ y. y ++ l) (take-append-add (take f z) (u ∷ drop (suc f) z) 1)
     ∙ append-assoc (take f z) (u ∷ []) l
+
+row-whole : (f W : ℕ) → f ≡ W → partOf 2 0 ≡ rowPart f W
+unfolding rowPart
+row-whole f W h = rw (eq-eqb f W h)
+
+row-begun : (f W : ℕ) → (f ≡ W → ⊥) → noPart ≡ rowPart f W
+unfolding rowPart
+row-begun f W h = rw (ne-eqb f W h)
 
 row-left : (i : Input) (W H f : ℕ) (z : List ℕ) → leftOn (rewriting i W H f (partOf 2 0)) z ≡ rowBytes (take W z)
 unfolding leftOn partText

@@ -142,15 +142,6 @@ pub record Writes (r : Rewriting) (z o o′ : List ℕ) (b b′ : ℕ) (r′ : R
   pub wrote : Wrote text b b′ o o′
   pub end : b′ < length o → r′ ≡ settled r
 
--- bytes of the piece p are read, from place a to a′, at least one
-pub record Reads (s : Kept) (p : List ℕ) (a a′ : ℕ) (s′ : Kept) : Type 0 where
-  pub bytes : List ℕ
-  pub goes : Goes Move s bytes [] s′
-  pub read : drop a p ≡ bytes ++ drop a′ p
-  pub used : a′ ≡ a + length bytes
-  pub part : a′ ≤ length p
-  pub some : a < a′
-
 -- 1 where nothing is being written
 abbrev pub quiet : Kept → ℕ
 quiet s = pick (eqb (busyOn s) 0) 1 0

@@ -5,18 +5,15 @@ use pgm::input::Ended;
 use pgm::input::Input;
 use pgm::input::Step;
 use pgm::limits;
-use pgm_runs::runs;
-use text::bytes;
 ghost use mathlib.Core.Path.{_≡_};
-ghost use mathlib.Core.Bool.{true, false};
-ghost use Prim.Native.Nat.{_+_, _<_, _≤_};
+ghost use Prim.Native.Nat.{_<_, _≤_};
 ghost use lib.Dec.{eqb};
-ghost use lib.ListN.{length};
+ghost use lib.ListN.{length, getD};
 ghost use Rattle.numbers.specs.Signal.{pick};
 ghost use Rattle.pgm.specs.Limits.{maxPictureWidth};
 ghost use Rattle.text.specs.Moves.{Went, Stops};
-ghost use Rattle.picture.specs.Machine.{partOf, started, moved, settled, doneOn, rowPart, begunOn, kept, heightKept, byteRead, Move, busyOn};
-ghost use Rattle.picture.specs.Machine.{Reads, Writes, Onward, endOf};
+ghost use Rattle.picture.specs.Machine.{partOf, started, moved, settled, doneOn, rowPart, begunOn, kept, heightKept, byteRead, Move, busyOn, Writes};
+ghost use Rattle.picture.specs.Machine.{Onward, endOf};
 
 pub struct Rewriting {
     pub input: Input,
@@ -222,74 +219,12 @@ struct Turned {
     going: bool,
 }
 
-struct Read {
-    rewriting: Rewriting,
-    used: usize,
-}
-
-fn read_byte(rewriting: Rewriting, piece: &[u8], used: usize, row: &mut [u16]) -> Read
-    requires { ⌜ (rewriting .part .kind ≡ 0) × (used < length (now piece)) ⌝ }
-    ensures { λ r. ⌜ Reads (kept rewriting (now (row .entry))) (now (piece .entry)) used (r .used) (kept (r .rewriting) (now (row .exit))) ⌝ }
+fn read_on(rewriting: Rewriting, piece: &[u8], used: usize, row: &mut [u16]) -> Rewriting
+    requires { ⌜ used < length (now piece) ⌝ }
+    ensures { λ r. ⌜ r ≡ byteRead rewriting (now (row .entry)) (getD (now (piece .entry)) used 0) .state ⌝ }
+    ensures { λ r. ⌜ now (row .exit) ≡ byteRead rewriting (now (row .entry)) (getD (now (piece .entry)) used 0) .row ⌝ }
 {
-    Read {
-        rewriting: rewriting.read(piece[used], row),
-        used: used + 1,
-    }
-}
-
-// As many whole heights as there are, as are still to come and as the row has room for, straight into the row area. Where the next sample is no height,
-// its byte is read.
-fn read_run(rewriting: Rewriting, piece: &[u8], used: usize, row: &mut [u16]) -> Read
-    requires { ⌜ (rewriting .part .kind ≡ 0) × (rewriting .input .phase ≡ 3) × (rewriting .input .samples .half ≡ false)
-        × (rewriting .filled ≤ rewriting .width) × (rewriting .width ≤ length (now row)) × (used + 2 ≤ length (now piece)) ⌝ }
-    ensures { λ r. ⌜ Reads (kept rewriting (now (row .entry))) (now (piece .entry)) used (r .used) (kept (r .rewriting) (now (row .exit))) ⌝ }
-{
-    let input = rewriting.input;
-    let samples = input.samples;
-    let largest = samples.largest;
-    let from = rewriting.filled;
-    let end = from + bytes::least(input.left, rewriting.width - from);
-    let n = runs::read(piece, used, largest, &mut row[from..end]);
-    if n == 0 {
-        return read_byte(rewriting, piece, used, row);
-    }
-    let filled = from + n;
-    Read {
-        rewriting: rewriting.moved(input.took(n), filled, row_part(filled, rewriting.width)),
-        used: used + runs::size(largest) * n,
-    }
-}
-
-// Whether heights are next, and the row area holds a row of them. Where it says no, the next byte is read, which is right for any input.
-fn are_next(rewriting: Rewriting, bytes: usize, room: usize) -> bool
-    ensures { λ r. ⌜ (r ≡ true → (rewriting .input .phase ≡ 3) × (rewriting .input .samples .half ≡ false) × (rewriting .filled ≤ rewriting .width)
-        × (rewriting .width ≤ room) × (2 ≤ bytes)) ⌝ }
-{
-    let input = rewriting.input;
-    let samples = input.samples;
-    if input.phase != 3 {
-        return false;
-    }
-    if samples.half {
-        return false;
-    }
-    if rewriting.width < rewriting.filled {
-        return false;
-    }
-    if room < rewriting.width {
-        return false;
-    }
-    2 <= bytes
-}
-
-fn read_on(rewriting: Rewriting, piece: &[u8], used: usize, row: &mut [u16]) -> Read
-    requires { ⌜ (rewriting .part .kind ≡ 0) × (used < length (now piece)) ⌝ }
-    ensures { λ r. ⌜ Reads (kept rewriting (now (row .entry))) (now (piece .entry)) used (r .used) (kept (r .rewriting) (now (row .exit))) ⌝ }
-{
-    if are_next(rewriting, piece.len() - used, row.len()) {
-        return read_run(rewriting, piece, used, row);
-    }
-    read_byte(rewriting, piece, used, row)
+    rewriting.read(piece[used], row)
 }
 
 struct Written {
@@ -342,11 +277,10 @@ fn turn(
     let part = rewriting.part;
     if part.kind == 0 {
         if used < piece.len() {
-            let r = read_on(rewriting, piece, used, row);
-            let next = r.rewriting;
+            let next = read_on(rewriting, piece, used, row);
             return Turned {
                 rewriting: next,
-                used: r.used,
+                used: used + 1,
                 written,
                 going: true,
             };

@@ -3,7 +3,7 @@
 use mathlib.Core.Bool.{Bool, true}
 use mathlib.Core.Path.{_≡_, sym, subst}
 use mathlib.Core.List.{List, [], _∷_, _++_}
-use Prim.Native.Nat.{ℕ, zero, suc, _≤_, _<_, _+_}
+use Prim.Native.Nat.{ℕ, zero, suc, _≤_, _<_}
 use native.Mathlib.Omega.{arith}
 use lib.IntN.{ℤ}
 use borrow.Author.Tests.{lt-ltb}
@@ -16,8 +16,7 @@ use Rattle.calls.proofs.ListLaws.{list-reached}
 use Rattle.filters.specs.Figures.{storeBy}
 use Rattle.reader_steps.specs.Places.{Place}
 use Rattle.reader.specs.Store.{stretchAt}
-use Rattle.reader.specs.Questions.{setUpQuestion}
-use Rattle.reader.specs.Reading.{countsFit}
+use Rattle.reader.specs.Questions.{countsFit, setUpQuestion}
 use Rattle.reader.specs.Demand3.{Event, World, event, freshWorld, left, FedRow, fedRows, Demand3}
 use Rattle.reader.specs.Past.{Lent, found, lentEvent, lentNext}
 use Rattle.reader.proofs.StoreLaws.{stretch-is}
@@ -26,9 +25,9 @@ use Rattle.reader.proofs.CallViews.{Limits, limits, at}
 use Rattle.reader.proofs.Reached.{Kept, Reached, reached}
 use Rattle.reader.proofs.Demand3.{no-levels, Then, step-reached, fresh-reached, claim}
 
-module _ (f base spare : ℕ) (W H : Side) (l : ℕ) where
+module _ (f : ℕ) (W H : Side) (l : ℕ) where
   pub kept-reads : (d : ℕ) (p : Place) (e : Bool) (x y : ℕ → ℤ) (t : List Step) (fs : List FedRow) (ds : List (ℕ → ℤ)) →
-      ((j : ℕ) → j < storeBy f W (suc l) → y j ≡ x j) → Kept f base spare W H l d p e x t fs ds → Kept f base spare W H l d p e y t fs ds
+      ((j : ℕ) → j < storeBy f W (suc l) → y j ≡ x j) → Kept f W H l d p e x t fs ds → Kept f W H l d p e y t fs ds
   kept-reads d p e x y t fs ds same kept = record {
     drawn-le = kept .drawn-le;
     level-le = kept .level-le;
@@ -47,37 +46,34 @@ module _ (f base spare : ℕ) (W H : Side) (l : ℕ) where
           has = o .has;
           holds = λ live due.
               let q = at f W H l d p in
-              held-reads f base W H l P (q .level) (q .set) (q .band) x y (λ j b. same j (omega (arith, stretch-is f W (suc l)))) (o .holds live due);
+              held-reads f W H l P (q .level) (q .set) (q .band) x y (λ j b. same j (omega (arith, stretch-is f W (suc l)))) (o .holds live due);
           refuses = o .refuses;
         };
   }
 
-  module _ (lim : Limits f base spare W H l) where
-    found-reached : (w : World) (e : Bool) (t : List Step) (fs : List FedRow) (ds : List (ℕ → ℤ)) (q : ℕ → ℤ) → Reached f base spare W H l lim w e t fs ds →
-        Reached f base spare W H l lim (found q w) e t fs ds
+  module _ (lim : Limits f W H l) where
+    found-reached : (w : World) (e : Bool) (t : List Step) (fs : List FedRow) (ds : List (ℕ → ℤ)) (q : ℕ → ℤ) → Reached f W H l lim w e t fs ds →
+        Reached f W H l lim (found q w) e t fs ds
     found-reached _ e t fs ds q (reached d p _ x _ _ _ kept) =
-        reached d p e (fronted (spare + storeBy f W (suc l)) x q) t fs ds
-        (kept-reads d p e x (fronted (spare + storeBy f W (suc l)) x q) t fs ds
-        (λ j b. unfold fronted in simp (lt-ltb j (spare + storeBy f W (suc l)) (omega arith))) kept)
+        reached d p e (fronted (storeBy f W (suc l)) x q) t fs ds
+        (kept-reads d p e x (fronted (storeBy f W (suc l)) x q) t fs ds (λ j b. unfold fronted in simp (lt-ltb j (storeBy f W (suc l)) b)) kept)
 
-    lent-reached : (d : Lent) (es : List Event) (w : World) → Then f base spare W H l lim es w → Then f base spare W H l lim (es ++ (lentEvent d w ∷ []))
-        (lentNext d w)
+    lent-reached : (d : Lent) (es : List Event) (w : World) → Then f W H l lim es w → Then f W H l lim (es ++ (lentEvent d w ∷ [])) (lentNext d w)
     unfolding lentEvent lentNext
-    lent-reached d es w r = step-reached f base spare W H l lim (d .call) es (found (d .past) w) (found-reached w _ _ _ _ (d .past) r)
+    lent-reached d es w r = step-reached f W H l lim (d .call) es (found (d .past) w) (found-reached w _ _ _ _ (d .past) r)
 
-    lents-reached : (x : ℕ → ℤ) (ds : List Lent) → (let w = freshWorld f base spare W H (suc l) x in
-        Then f base spare W H l lim (lists.events lentEvent lentNext ds w) (lists.final lentNext ds w))
+    lents-reached : (x : ℕ → ℤ) (ds : List Lent) → (let w = freshWorld f W H (suc l) x in
+        Then f W H l lim (lists.events lentEvent lentNext ds w) (lists.final lentNext ds w))
     unfolding lists.ever lists.gathered left fedRows
     lents-reached x ds =
-        list-reached lentEvent lentNext (Then f base spare W H l lim) lent-reached ds [] (freshWorld f base spare W H (suc l) x)
-        (fresh-reached f base spare W H l lim x)
+        list-reached lentEvent lentNext (Then f W H l lim) lent-reached ds [] (freshWorld f W H (suc l) x) (fresh-reached f W H l lim x)
 
 -- a set-up that passed, then any calls, and a further one, whatever each finds past the needed part
 pub any-past : (f : ℕ) (W H : Side) (L n : ℕ) → W .start ≤ maxOrigin → H .start ≤ maxOrigin → setUpQuestion f W H L n ≡ 0 → (x : ℕ → ℤ) (ds : List Lent)
     (q : ℕ → ℤ) →
-    (let w = freshWorld f 0 0 W H L x in let e = lists.final lentNext ds w in
-    (countsFit (e .reader) ≡ true) × Demand3 f 0 0 W H L (lists.events lentEvent lentNext ds w) (λ c. event c (found q e)))
+    (let w = freshWorld f W H L x in let e = lists.final lentNext ds w in
+    (countsFit (e .reader) ≡ true) × Demand3 f W H L (lists.events lentEvent lentNext ds w) (λ c. event c (found q e)))
 any-past f W H zero n across down ok x ds q = absurd (no-levels f W H n ok)
 any-past f W H (suc l) n across down ok x ds q =
     let lim = limits f W H l n across down ok in
-    claim f 0 0 W H l lim _ _ (found-reached f 0 0 W H l lim _ _ _ _ _ q (lents-reached f 0 0 W H l lim x ds))
+    claim f W H l lim _ _ (found-reached f W H l lim _ _ _ _ _ q (lents-reached f W H l lim x ds))

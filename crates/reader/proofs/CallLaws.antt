@@ -31,17 +31,16 @@ use Rattle.synthesis.proofs.BackLaws.{back-made}
 use Rattle.filters.proofs.FigureLaws.{row-few}
 use Rattle.reader.specs.declared.Reader.{Reader}
 use Rattle.reader.specs.declared.walk.Spot.{Spot}
-use Rattle.reader.specs.Limited.{shown}
+use Rattle.areas.specs.Areas.{height16}
 use Rattle.reader.specs.Answers.{gives, refused, impossible, Want, row, drawNow, done, ended, aRow, nothing}
 use Rattle.level.specs.Tried.{Tried, failed, passed, fits, memory}
 use Rattle.level.specs.Stretch.{local}
 use Rattle.reader.specs.Store.{zeroed}
 use Rattle.reader_steps.specs.Places.{spot, placeOf, dive, enter, spotFed}
-use Rattle.reader.specs.State.{columns, rows, needs, next, nextRow, nextLength, unfinished, rowDue, drawDue, wants, settles, feeds, movedTo}
+use Rattle.reader.specs.State.{columns, rows, next, nextRow, nextLength, unfinished, rowDue, drawDue, wants, settles, feeds, movedTo}
 use Rattle.reader.specs.State.{fedReader, drawnReader, endedReader}
 use Rattle.reader.specs.Questions.{countsFit, storeFits, runFits, wantQuestion, feedQuestion, drawQuestion}
-use Rattle.reader.specs.Calls.{freshOver, fresh, setUpReply, setUpStore, wantReply, feedReply}
-use Rattle.reader.specs.Calls.{storeAfter, feedStore, drawReply, drawStore, heightRow, drawArea}
+use Rattle.reader.specs.Calls.{fresh, setUpReply, setUpStore, wantReply, feedReply, storeAfter, feedStore, drawReply, drawStore, heightRow, drawArea}
 use Rattle.reader.specs.Inside.{Is, Small, Counts, storeQuestion, rowQuestion}
 use Rattle.level.specs.Rebuilding.{Kept, widest}
 use Rattle.areas.proofs.AreaLaws.{front-at, front-rest, did}
@@ -50,13 +49,15 @@ use Rattle.reader.proofs.QuestionLaws.{counts-small}
 use Rattle.reader.proofs.StepLaws.{spot-of, next-draw}
 
 -- ---- a store zeroed after places past n were kept
-pub zero-front : (N n m : ℕ) (y z : ℕ → ℤ) → n ≡ N → N ≤ m → z ≡ pick (leb n m) (fronted n (λ _. pos 0) y) y → z ≡ zeroed N y
+pub zero-front : (f : ℕ) (W : Side) (L n m : ℕ) (y z : ℕ → ℤ) → n ≡ storeBy f W L → storeBy f W L ≤ m → z ≡ pick (leb n m) (fronted n (λ _. pos 0) y) y →
+    z ≡ zeroed f W L y
 unfolding zeroed
-zero-front N n m y z e room is = did _ _ _ _ (le-leb n m (omega arith)) is ∙ ap (λ (i : ℕ). fronted i (λ _. pos 0) y) e
+zero-front f W L n m y z e room is = did _ _ _ _ (le-leb n m (omega arith)) is ∙ ap (λ (i : ℕ). fronted i (λ _. pos 0) y) e
 
-pub zero-kept : (n N : ℕ) (x y z : ℕ → ℤ) → n ≤ N → Kept n x y → z ≡ zeroed N y → z ≡ zeroed N x
+pub zero-kept : (f : ℕ) (W : Side) (L : ℕ) (x y z : ℕ → ℤ) → Kept (storeBy f W L) x y → z ≡ zeroed f W L y → z ≡ zeroed f W L x
 unfolding zeroed
-zero-kept n N x y z le a is =
+zero-kept f W L x y z a is =
+    let N = storeBy f W L in
     is ∙ fun-ext λ j. elim (decLt j N) [
       | yes p ↦ front-at N _ y j p ∙ sym (front-at N _ x j p)
       | no q ↦ front-rest N _ y j (omega arith) ∙ a .same j (omega arith) ∙ sym (front-rest N _ x j (omega arith))
@@ -93,7 +94,7 @@ module _ (s : Reader) where
 
   module _ (p : Spot) (is : Is (next s) p) (live : s .ended ≡ false) (more : s .drawn < s .height) where
     abbrev named-row : Want
-    named-row = row (s .stop + next s .level) (next s .band) (nextRow s) (nextLength s)
+    named-row = row (next s .level) (next s .band) (nextRow s) (nextLength s)
 
     wants-live : pick (ltb 0 (next s .level)) named-row drawNow ≡ wants s
     unfolding wants unfinished
@@ -105,11 +106,11 @@ module _ (s : Reader) where
         let t : ltb 0 (next s .level) ≡ false = le-ltb 0 (next s .level) (omega arith) in
         ap (λ (b : Bool). pick b named-row drawNow) (sym t) ∙ wants-live
 
-    pub wants-row : (r n : ℕ) → 0 < p .level → r ≡ nextRow s → n ≡ nextLength s → row (s .stop + p .level) (p .band) r n ≡ wants s
+    pub wants-row : (r n : ℕ) → 0 < p .level → r ≡ nextRow s → n ≡ nextLength s → row (p .level) (p .band) r n ≡ wants s
     wants-row r n h er en =
         let e = is .level in
         let t : ltb 0 (next s .level) ≡ true = lt-ltb 0 (next s .level) (omega arith) in
-        let same : row (s .stop + p .level) (p .band) r n ≡ named-row = cc (is .level, is .band, er, en) in
+        let same : row (p .level) (p .band) r n ≡ named-row = cc (is .level, is .band, er, en) in
         same ∙ ap (λ (b : Bool). pick b named-row drawNow) (sym t) ∙ wants-live
 
   pub wants-top : s .level ≡ 0 → s .ended ≡ false → s .drawn < s .height → drawNow ≡ wants s
@@ -121,12 +122,12 @@ module _ (s : Reader) where
 -- questions 1, 5 and 9
 module _ (s : Reader) (n : ℕ) where
   abbrev early : List (Bool × ℕ)
-  early = (countsFit s, 0) ∷ (storeFits (needs s) n, 4) ∷ (not (s .ended), 8) ∷ []
+  early = (countsFit s, 0) ∷ (storeFits (s .filter) (columns s) (s .levels) n, 4) ∷ (not (s .ended), 8) ∷ []
 
 -- 8, 13 and 7
 module _ (s : Reader) (m : ℕ) (v : ℕ → ℤ) where
   abbrev late : List (Bool × ℕ)
-  late = (rowDue s, 7) ∷ (eqb m (nextLength s), 12) ∷ (runFits (s .filter) (s .stop + next s .level) m v, 6) ∷ []
+  late = (rowDue s, 7) ∷ (eqb m (nextLength s), 12) ∷ (runFits (s .filter) (next s .level) m v, 6) ∷ []
 
 -- ---- of a feed
 module _ (s : Reader) (n m : ℕ) (v x : ℕ → ℤ) where
@@ -198,7 +199,7 @@ module _ (s : Reader) (Q : ℕ) (v x : ℕ → ℤ) where
   unfolding feedReply feedStore storeAfter
   feed-yes t y e et is = (rw (← e) (ap gives et), rw (← e) (memory-is (feeds s v x) x y is))
 
-  pub feed-end : (t : Reader) (z : ℕ → ℤ) → 14 ≡ Q → t ≡ endedReader s → z ≡ zeroed (needs s) x →
+  pub feed-end : (t : Reader) (z : ℕ → ℤ) → 14 ≡ Q → t ≡ endedReader s → z ≡ zeroed (s .filter) (columns s) (s .levels) x →
       (impossible t ≡ feedReply s Q) × (z ≡ feedStore s Q v x)
   unfolding feedReply feedStore storeAfter
   feed-end t z e et is = (rw (← e) (ap impossible et), rw (← e) is)
@@ -235,7 +236,7 @@ module _ (s : Reader) (Q : ℕ) (x z : ℕ → ℤ) where
       let area = made ∙ ap (λ (f : ℕ → ℤ). fronted (s .width) (heightRow s f) z) m in
       (rw (← e, d) (ap (λ (r : Reader). gives (aRow (s .width) r)) et), (rw (← e, d) m, rw (← e, d) area))
 
-  pub draw-end : (t : Reader) (y : ℕ → ℤ) → 14 ≡ Q → t ≡ endedReader s → y ≡ zeroed (needs s) x →
+  pub draw-end : (t : Reader) (y : ℕ → ℤ) → 14 ≡ Q → t ≡ endedReader s → y ≡ zeroed (s .filter) (columns s) (s .levels) x →
       (impossible t ≡ drawReply s Q) × ((y ≡ drawStore s Q x) × (z ≡ drawArea s Q x z))
   unfolding drawReply drawStore storeAfter drawArea
   draw-end t y e et is = (rw (← e) (ap impossible et), (rw (← e) is, rw (← e)))
@@ -243,7 +244,7 @@ module _ (s : Reader) (Q : ℕ) (x z : ℕ → ℤ) where
 -- the heights of the row that is lent
 drawn-row : (s : Reader) (a k : ℕ) (l : List ℤ) (z u : ℕ → ℤ) → a ≡ rowPlaceOf (s .filter) (s .width) (s .y % 2 + s .drawn) → k ≡ s .width →
     a + k ≤ length l →
-    u ≡ fronted (length (midOf a k l)) (λ c. shown (s .stop) (joined (side (s .x) (length (midOf a k l)))
+    u ≡ fronted (length (midOf a k l)) (λ c. height16 (joined (side (s .x) (length (midOf a k l)))
     (halvesOf (side (s .x) (length (midOf a k l))) (at (midOf a k l))) c)) z →
     u ≡ fronted (s .width) (heightRow s (at l)) z
 unfolding heightRow local
@@ -251,10 +252,10 @@ drawn-row s a k l z u ea ek room made =
     let W = s .width in
     let d = s .y % 2 + s .drawn in
     made
-    ∙ ap (λ (i : ℕ). fronted i (λ c. shown (s .stop) (joined (side (s .x) i) (halvesOf (side (s .x) i) (at (midOf a k l))) c)) z) (length-mid a k l room ∙ ek)
-    ∙ ap (λ (f : ℕ → ℤ). fronted W (λ c. shown (s .stop) (joined (columns s) (halvesOf (columns s) f) c)) z) (at-mid a k l
+    ∙ ap (λ (i : ℕ). fronted i (λ c. height16 (joined (side (s .x) i) (halvesOf (side (s .x) i) (at (midOf a k l))) c)) z) (length-mid a k l room ∙ ek)
+    ∙ ap (λ (f : ℕ → ℤ). fronted W (λ c. height16 (joined (columns s) (halvesOf (columns s) f) c)) z) (at-mid a k l
     ∙ ap (λ (i : ℕ). windowed i k (at l)) ea ∙ ap (λ (i : ℕ). windowed (rowPlaceOf (s .filter) W d) i (at l)) ek)
-    ∙ ap (λ (f : ℕ → ℤ). fronted W (λ c. shown (s .stop) (f c)) z) (sym (back-made (s .filter) (columns s) (s .y) (s .drawn) (at l)))
+    ∙ ap (λ (f : ℕ → ℤ). fronted W (λ c. height16 (f c)) z) (sym (back-made (s .filter) (columns s) (s .y) (s .drawn) (at l)))
 
 -- where a height row begins, from level 0 on
 pub enter-is : (f : ℕ) (W H : Side) (L d : ℕ) (p : Spot) → Is (dive f (L - 0) 0 W H d d) p → Is (enter f W H L d) p
@@ -284,27 +285,24 @@ module _ (s : Reader) (counts : Counts s) (due : s .drawn < s .height) where
         let first = first-room (filterOf (s .filter) .rows) (columns s) (s .levels) (counts .deep .0) in
         (omega arith, omega arith, omega arith, omega arith)
 
-  pub row-long : (a m : ℕ) (l : List ℤ) → storeBy (s .filter) (columns s) (s .levels) ≤ length l → s .width ≤ m →
-      a + s .width ≤ filterOf (s .filter) .rows * s .width → length (midOf a (a + s .width - a) l) ≤ m
-  row-long a m l room wide fit =
-      let k = a + s .width - a in
-      omega (arith, length-mid a k l (omega (arith, row-places (length l) a room fit)))
-
-  pub row-handed : (a : ℕ) (l : List ℤ) (z u : ℕ → ℤ) → storeBy (s .filter) (columns s) (s .levels) ≤ length l →
+  pub row-handed : (a m : ℕ) (l : List ℤ) (z u : ℕ → ℤ) → storeBy (s .filter) (columns s) (s .levels) ≤ length l → s .width ≤ m →
       a ≡ pick (leb (s .width) widest) (rowPlaceOf (s .filter) (s .width) (s .y % 2 + s .drawn)) 0 → a + s .width ≤ filterOf (s .filter) .rows * s .width →
-      u ≡ fronted (length (midOf a (a + s .width - a) l)) (λ c. shown (s .stop) (joined (side (s .x) (length (midOf a (a + s .width - a) l)))
-      (halvesOf (side (s .x) (length (midOf a (a + s .width - a) l))) (at (midOf a (a + s .width - a) l))) c)) z →
+      u ≡ pick (leb (length (midOf a (a + s .width - a) l)) m) (fronted (length (midOf a (a + s .width - a) l))
+      (λ c. height16 (joined (side (s .x) (length (midOf a (a + s .width - a) l)))
+      (halvesOf (side (s .x) (length (midOf a (a + s .width - a) l))) (at (midOf a (a + s .width - a) l))) c)) z) z →
       u ≡ fronted (s .width) (heightRow s (at l)) z
-  row-handed a l z u room place fit made =
+  row-handed a m l z u room wide place fit made =
       let k = a + s .width - a in
       let same : k ≡ s .width = omega arith in
       let part : a + k ≤ length l = omega (arith, row-places (length l) a room fit) in
       let stands = did _ _ _ _ (le-leb (s .width) widest (counts-small s counts .0)) place in
-      drawn-row s a k l z u stands same part made
+      let fits-out = le-leb (length (midOf a k l)) m (omega (arith, length-mid a k l part)) in
+      drawn-row s a k l z u stands same part (did _ _ _ _ fits-out made)
 
 -- where a fresh reader begins
-pub fresh-at : (s t : Reader) (p : Spot) → Is (enter (s .filter) (columns s) (rows s) (s .levels) 0) p →
-    t ≡ movedTo s 0 (placeOf (s .filter) (rows s) 0 (spot (p .level) (p .set) (p .band))) →
-    t ≡ freshOver (s .filter) (s .stop) (s .spare) (columns s) (rows s) (s .levels)
-unfolding freshOver
-fresh-at s t p is e = e ∙ ap (λ q. movedTo s 0 (placeOf (s .filter) (rows s) 0 q)) (spot-of _ p is)
+pub fresh-at : (f : ℕ) (W H : Side) (L : ℕ) (s t : Reader) (p : Spot) → Is (enter f W H L 0) p → columns s ≡ W → rows s ≡ H → s .levels ≡ L →
+    s .filter ≡ f → t ≡ movedTo s 0 (placeOf (s .filter) (rows s) 0 (spot (p .level) (p .set) (p .band))) → t ≡ fresh f W H L
+unfolding fresh
+fresh-at f W H L s t p is ew eh el ef e =
+    e ∙ ap (λ q. movedTo s 0 (placeOf (s .filter) (rows s) 0 q)) (spot-of _ p is)
+    ∙ rw (← ew, ← eh, ← el, ← ef) refl

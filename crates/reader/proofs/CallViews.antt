@@ -2,7 +2,7 @@
 use mathlib.Core.Bool.{Bool, true, false}
 use mathlib.Core.Path.{_≡_, refl, sym, ap, subst, _∙_}
 use mathlib.Core.List.{List, [], _∷_}
-use Prim.Native.Nat.{ℕ, zero, suc, _+_, _-_, _*_, _≤_, _<_}
+use Prim.Native.Nat.{ℕ, suc, _-_, _*_, _≤_, _<_}
 use native.Mathlib.Decide.{decLt, decLe}
 use native.Mathlib.Omega.{arith}
 use lib.IntN.{ℤ}
@@ -26,42 +26,47 @@ use Rattle.reader_steps.specs.Asked.{asked}
 use Rattle.level.specs.Tried.{fits}
 use Rattle.reader_steps.specs.Places.{Spot, spot, Place, spotOf, nextUp, beyond, enter, Ready}
 use Rattle.reader.specs.State.{next, nextRow, nextLength, unfinished, rowDue, drawDue, wants, settles, feeds}
-use Rattle.filters.specs.Figures.{storeBy}
-use Rattle.reader.specs.Questions.{countsInside, countsFit, stopFits, storeFits, runFits, setUpQuestion, wantQuestion, feedQuestion, drawQuestion}
+use Rattle.reader.specs.Questions.{countsFit, storeFits, runFits, setUpQuestion, wantQuestion, feedQuestion, drawQuestion}
 use Rattle.reader.specs.Calls.{wantReply}
-use Rattle.reader.specs.Demand3.{onTop, said, heights, nothing, wantSays, feedAway, feedTurned, drawGives, drawSays}
+use Rattle.reader.specs.Demand3.{said, heights, nothing, wantSays, feedAway, feedTurned, drawGives, drawSays}
 use Rattle.reader_steps.proofs.Looks.{named-code}
 use Rattle.reader_steps.proofs.StepsLeft.{stepsLeft, tailAt, Ahead, height, row, ahead-is, left-row, left-height, left-done}
 
 -- ---- a set-up that passed
-pub record Limits (f base spare : ℕ) (W H : Side) (l : ℕ) : Type 0 where
+pub record Limits (f : ℕ) (W H : Side) (l : ℕ) : Type 0 where
   pub across : W .start ≤ maxOrigin
   pub down : H .start ≤ maxOrigin
   pub wide : within 1 maxWidth (W .length) ≡ true
   pub high : within 1 maxHeight (H .length) ≡ true
   pub known : isFilter f ≡ true
   pub deep : within 1 (filterOf f .levels) (suc l) ≡ true
-  pub stop : stopFits f (suc l) base spare ≡ true
 
-none-spare : (f L : ℕ) → stopFits f L 0 0 ≡ true
-unfolding stopFits
-none-spare f L = rw (le-leb 0 (filterOf f .levels - L) (omega arith), le-leb 0 (0 * (filterOf f .rows * maxWidth)) (omega arith)) refl
-
--- a base and a level together
-pub on-top : (b n : ℕ) → onTop b n ≡ b + n
-on-top zero n = omega arith
-on-top (suc b) n = refl
-
-pub limits : (f : ℕ) (W H : Side) (l n : ℕ) → W .start ≤ maxOrigin → H .start ≤ maxOrigin → setUpQuestion f W H (suc l) n ≡ 0 → Limits f 0 0 W H l
+pub limits : (f : ℕ) (W H : Side) (l n : ℕ) → W .start ≤ maxOrigin → H .start ≤ maxOrigin → setUpQuestion f W H (suc l) n ≡ 0 → Limits f W H l
 unfolding setUpQuestion
 limits f W H l n p q e =
     let a = asked-yes (within 1 maxWidth (W .length)) 1 _ e in
     let b = asked-yes (within 1 maxHeight (H .length)) 2 _ (a .1) in
     let k = asked-yes (isFilter f) 17 _ (b .1) in
     let c = asked-yes (within 1 (filterOf f .levels) (suc l)) 3 _ (k .1) in
-    record { across = p; down = q; wide = a .0; high = b .0; known = k .0; deep = c .0; stop = none-spare f (suc l) }
+    record { across = p; down = q; wide = a .0; high = b .0; known = k .0; deep = c .0 }
 
 module _ (f : ℕ) (W H : Side) (l : ℕ) where
+  -- a reader of that map, at a place
+  abbrev pub here : ℕ → Place → Bool → Reader
+  here d p e = record {
+    width = W .length;
+    height = H .length;
+    levels = suc l;
+    x = W .start;
+    y = H .start;
+    drawn = d;
+    level = p .level;
+    back = p .back;
+    band = p .band;
+    ended = e;
+    filter = f;
+  }
+
   abbrev pub at : ℕ → Place → Spot
   at d p = spotOf f H d p
 
@@ -97,29 +102,10 @@ module _ (f : ℕ) (W H : Side) (l : ℕ) where
       go due _ q (row k n c h ready asks e) =
           subst (View d p) (sym (left-row f W H l d (at d p) k n c due e)) (at-row k n c (record { due = due; below = h; ready = ready; asks = asks; is = q }))
 
-module _ (f base spare : ℕ) (W H : Side) (l : ℕ) where
-  -- a reader of that map, at a place
-  abbrev pub here : ℕ → Place → Bool → Reader
-  here d p e = record {
-    width = W .length;
-    height = H .length;
-    levels = suc l;
-    x = W .start;
-    y = H .start;
-    drawn = d;
-    level = p .level;
-    back = p .back;
-    band = p .band;
-    ended = e;
-    filter = f;
-    stop = base;
-    spare = spare;
-  }
-
-  module _ (lim : Limits f base spare W H l) (d : ℕ) (p : Place) (drawn-le : d ≤ H .length) (level-le : p .level ≤ suc l) (band-le : p .band ≤ 4)
+  module _ (lim : Limits f W H l) (d : ℕ) (p : Place) (drawn-le : d ≤ H .length) (level-le : p .level ≤ suc l) (band-le : p .band ≤ 4)
       (back-le : p .back ≤ 2 * ahead f - 1) where
     pub counts : (e : Bool) → countsFit (here d p e) ≡ true
-    unfolding countsFit countsInside
+    unfolding countsFit
     counts e = rw (
       lim .wide,
       lim .high,
@@ -131,26 +117,25 @@ module _ (f base spare : ℕ) (W H : Side) (l : ℕ) where
       le-leb (p .level) (suc l) level-le,
       le-leb (p .band) 4 band-le,
       le-leb (p .back) (2 * ahead f - 1) back-le,
-      lim .stop,
     ) refl
 
     -- ---- want
-    wants-are : (e : Bool) (t : List Step) → View f W H l d p t → wants (here d p e) ≡ wantSays base W e t
+    wants-are : (e : Bool) (t : List Step) → View d p t → wants (here d p e) ≡ wantSays W e t
     unfolding wants next nextRow nextLength unfinished wantSays
     wants-are true _ v = refl
     wants-are false _ (at-end h) = rw (le-ltb d (H .length) h) refl
     wants-are false _ (at-height due q) = rw (lt-ltb d (H .length) due, q) refl
     wants-are false _ (at-row k n c o) =
         let z : suc k - 1 ≡ k = omega arith in
-        rw (on-top base (suc k)) (rw (lt-ltb d (H .length) (o .due), o .is, lt-ltb 0 (suc k) (omega arith), named-code c, z) refl)
+        rw (lt-ltb d (H .length) (o .due), o .is, lt-ltb 0 (suc k) (omega arith), named-code c, z) refl
 
-    pub want-says : (e : Bool) (t : List Step) → View f W H l d p t →
-        said (λ v. v) (wantReply (here d p e) (wantQuestion (here d p e))) ≡ gives (wantSays base W e t)
+    pub want-says : (e : Bool) (t : List Step) → View d p t →
+        said (λ v. v) (wantReply (here d p e) (wantQuestion (here d p e))) ≡ gives (wantSays W e t)
     unfolding wantReply wantQuestion
     want-says e t v = rw (counts e) (ap gives (wants-are e t v))
 
     -- ---- feed
-    row-due : (k i : ℕ) (c : Band) → d < H .length → nextOf f W H l d p ≡ spot (suc k) i (code c) → rowDue (here d p false) ≡ true
+    row-due : (k i : ℕ) (c : Band) → d < H .length → nextOf d p ≡ spot (suc k) i (code c) → rowDue (here d p false) ≡ true
     unfolding rowDue unfinished next
     row-due k i c due q = rw (lt-ltb d (H .length) due, q, lt-ltb 0 (suc k) (omega arith)) refl
 
@@ -158,20 +143,20 @@ module _ (f base spare : ℕ) (W H : Side) (l : ℕ) where
     unfolding rowDue unfinished
     no-row-end h = rw (le-ltb d (H .length) h) refl
 
-    no-row-height : d < H .length → nextOf f W H l d p ≡ spot 0 0 4 → rowDue (here d p false) ≡ false
+    no-row-height : d < H .length → nextOf d p ≡ spot 0 0 4 → rowDue (here d p false) ≡ false
     unfolding rowDue unfinished next
     no-row-height due q = rw (lt-ltb d (H .length) due, q) refl
 
-    length-is : (k i : ℕ) (c : Band) → nextOf f W H l d p ≡ spot (suc k) i (code c) → nextLength (here d p false) ≡ bandColumns W (suc k) c
+    length-is : (k i : ℕ) (c : Band) → nextOf d p ≡ spot (suc k) i (code c) → nextLength (here d p false) ≡ bandColumns W (suc k) c
     unfolding nextLength next
     length-is k i c q = rw (q, named-code c) refl
 
-    level-is : (k i : ℕ) (c : Band) → nextOf f W H l d p ≡ spot (suc k) i (code c) → next (here d p false) .level ≡ suc k
+    level-is : (k i : ℕ) (c : Band) → nextOf d p ≡ spot (suc k) i (code c) → next (here d p false) .level ≡ suc k
     unfolding next
     level-is k i c q = rw q refl
 
     -- ---- draw
-    draw-due : d < H .length → nextOf f W H l d p ≡ spot 0 0 4 → drawDue (here d p false) ≡ true
+    draw-due : d < H .length → nextOf d p ≡ spot 0 0 4 → drawDue (here d p false) ≡ true
     unfolding drawDue unfinished next
     draw-due due q = rw (lt-ltb d (H .length) due, q) refl
 
@@ -179,31 +164,30 @@ module _ (f base spare : ℕ) (W H : Side) (l : ℕ) where
     unfolding drawDue unfinished
     no-draw-end h = rw (le-ltb d (H .length) h) refl
 
-    no-draw-row : (k i : ℕ) (c : Band) → d < H .length → nextOf f W H l d p ≡ spot (suc k) i (code c) → drawDue (here d p false) ≡ false
+    no-draw-row : (k i : ℕ) (c : Band) → d < H .length → nextOf d p ≡ spot (suc k) i (code c) → drawDue (here d p false) ≡ false
     unfolding drawDue unfinished next
     no-draw-row k i c due q = rw (lt-ltb d (H .length) due, q) (ne-eqb (suc k) 0 (λ z. omega arith))
 
     -- ---- a feed that is lent a store of n numbers: turned away by a question before 14, or not
     module _ (n : ℕ) where
       abbrev Room : Bool
-      Room = storeFits (spare + storeBy f W (suc l)) n
+      Room = storeFits f W (suc l) n
 
       feed-short : (e : Bool) (t : List Step) (x : ℕ → ℤ) (a : Area) → Room ≡ false →
-          (feedTurned f base W (spare + storeBy f W (suc l)) e t n a ≡ 5) × (feedQuestion (here d p e) n x (a .size) (a .numbers) ≡ 5)
+          (feedTurned f W (suc l) e t n a ≡ 5) × (feedQuestion (here d p e) n x (a .size) (a .numbers) ≡ 5)
       unfolding feedQuestion feedTurned
       feed-short e t x a off = (rw off refl, rw (counts e, off) refl)
 
-      feed-asked : Room ≡ true → (e : Bool) (t : List Step) (x : ℕ → ℤ) (a : Area) → View f W H l d p t →
-          feedQuestion (here d p e) n x (a .size) (a .numbers) ≡ pick (eqb (feedAway f base W e t a) 0) (ask (fits (feeds (here d p e) (a .numbers) x)) 14 0)
-          (feedAway f base W e t a)
+      feed-asked : Room ≡ true → (e : Bool) (t : List Step) (x : ℕ → ℤ) (a : Area) → View d p t →
+          feedQuestion (here d p e) n x (a .size) (a .numbers) ≡ pick (eqb (feedAway f W e t a) 0) (ask (fits (feeds (here d p e) (a .numbers) x)) 14 0)
+          (feedAway f W e t a)
       unfolding feedQuestion feedAway
       feed-asked room true t x a v = rw (counts true, room) refl
       feed-asked room false _ x a (at-end h) = rw (counts false, room, no-row-end h) refl
       feed-asked room false _ x a (at-height due q) = rw (counts false, room, no-row-height due q) refl
       feed-asked room false _ x a (at-row k u c o) =
-          rw (on-top base (suc k)) (rw (counts false, room, row-due k u c (o .due) (o .is), length-is k u c (o .is), level-is k u c (o .is))
-          (go (eqb (a .size) (bandColumns W (suc k) c)) (runFits f (base + suc k) (a .size) (a .numbers))
-          (ask (fits (feeds (here d p false) (a .numbers) x)) 14 0)))
+          rw (counts false, room, row-due k u c (o .due) (o .is), length-is k u c (o .is), level-is k u c (o .is))
+          (go (eqb (a .size) (bandColumns W (suc k) c)) (runFits f (suc k) (a .size) (a .numbers)) (ask (fits (feeds (here d p false) (a .numbers) x)) 14 0))
         where
           go : (t₁ t₂ : Bool) (r : ℕ) → ask t₁ 13 (ask t₂ 7 r) ≡ pick (eqb (ask t₁ 13 (ask t₂ 7 0)) 0) r (ask t₁ 13 (ask t₂ 7 0))
           go true true r = refl
@@ -211,22 +195,19 @@ module _ (f base spare : ℕ) (W H : Side) (l : ℕ) where
           go false t₂ r = refl
 
       pub data FeedView (e : Bool) (t : List Step) (x : ℕ → ℤ) (a : Area) : Type 0 where
-        feed-away : (q : ℕ) → feedTurned f base W (spare + storeBy f W (suc l)) e t n a ≡ q → eqb q 0 ≡ false → eqb q 14 ≡ false →
+        feed-away : (q : ℕ) → feedTurned f W (suc l) e t n a ≡ q → eqb q 0 ≡ false → eqb q 14 ≡ false →
             feedQuestion (here d p e) n x (a .size) (a .numbers) ≡ q → FeedView e t x a
-        feed-onward : (k u : ℕ) (c : Band) → e ≡ false → Due f W H l d p k u c →
-            t ≡ feed (nameOf f W H l k u c) ∷ stepsLeft f W H l d (beyond f W H (suc l) k u (code c)) → a .size ≡ bandColumns W (suc k) c →
-            runFits f (base + suc k) (a .size) (a .numbers) ≡ true →
-            feedTurned f base W (spare + storeBy f W (suc l)) e t n a ≡ 0 → feedQuestion (here d p e) n x (a .size) (a .numbers) ≡ ask
-            (fits (feeds (here d p e) (a .numbers) x)) 14 0 →
+        feed-onward : (k u : ℕ) (c : Band) → e ≡ false → Due d p k u c →
+            t ≡ feed (nameOf k u c) ∷ stepsLeft f W H l d (beyond f W H (suc l) k u (code c)) → a .size ≡ bandColumns W (suc k) c →
+            runFits f (suc k) (a .size) (a .numbers) ≡ true →
+            feedTurned f W (suc l) e t n a ≡ 0 → feedQuestion (here d p e) n x (a .size) (a .numbers) ≡ ask (fits (feeds (here d p e) (a .numbers) x)) 14 0 →
             FeedView e t x a
 
-      turned-is : Room ≡ true → (e : Bool) (t : List Step) (a : Area) (q : ℕ) → feedAway f base W e t a ≡ q → feedTurned f base W
-          (spare + storeBy f W (suc l)) e t n a ≡ q
+      turned-is : Room ≡ true → (e : Bool) (t : List Step) (a : Area) (q : ℕ) → feedAway f W e t a ≡ q → feedTurned f W (suc l) e t n a ≡ q
       unfolding feedTurned
       turned-is room e t a q w = rw room w
 
-      asked-away : Room ≡ true → (e : Bool) (t : List Step) (x : ℕ → ℤ) (a : Area) (q : ℕ) → View f W H l d p t → feedAway f base W e t a ≡ q → eqb q 0 ≡
-          false →
+      asked-away : Room ≡ true → (e : Bool) (t : List Step) (x : ℕ → ℤ) (a : Area) (q : ℕ) → View d p t → feedAway f W e t a ≡ q → eqb q 0 ≡ false →
           eqb q 14 ≡ false → FeedView e t x a
       asked-away room e t x a q v w g h = feed-away q (turned-is room e t a q w) g h (feed-asked room e t x a v
           ∙ ap (λ i. pick (eqb i 0) (ask (fits (feeds (here d p e) (a .numbers) x)) 14 0) i) w ∙ go (eqb q 0) g)
@@ -234,24 +215,24 @@ module _ (f base spare : ℕ) (W H : Side) (l : ℕ) where
           go : (s : Bool) → s ≡ false → pick s (ask (fits (feeds (here d p e) (a .numbers) x)) 14 0) q ≡ q
           go s z = rw z refl
 
-      long-view : Room ≡ true → (e : Bool) (t : List Step) (x : ℕ → ℤ) (a : Area) → View f W H l d p t → FeedView e t x a
+      long-view : Room ≡ true → (e : Bool) (t : List Step) (x : ℕ → ℤ) (a : Area) → View d p t → FeedView e t x a
       unfolding feedAway
       long-view room true t x a v = asked-away room true t x a 9 v refl refl refl
       long-view room false _ x a (at-end h) = asked-away room false [] x a 8 (at-end h) refl refl refl
       long-view room false _ x a (at-height due q) = asked-away room false _ x a 8 (at-height due q) refl refl refl
-      long-view room false _ x a (at-row k u c o) = go (eqb (a .size) (bandColumns W (suc k) c)) refl (runFits f (base + suc k) (a .size) (a .numbers)) refl
+      long-view room false _ x a (at-row k u c o) = go (eqb (a .size) (bandColumns W (suc k) c)) refl (runFits f (suc k) (a .size) (a .numbers)) refl
         where
           steps : List Step
-          steps = feed (nameOf f W H l k u c) ∷ stepsLeft f W H l d (beyond f W H (suc l) k u (code c))
+          steps = feed (nameOf k u c) ∷ stepsLeft f W H l d (beyond f W H (suc l) k u (code c))
 
-          go : (t₁ : Bool) → eqb (a .size) (bandColumns W (suc k) c) ≡ t₁ → (t₂ : Bool) → runFits f (base + suc k) (a .size) (a .numbers) ≡ t₂ →
+          go : (t₁ : Bool) → eqb (a .size) (bandColumns W (suc k) c) ≡ t₁ → (t₂ : Bool) → runFits f (suc k) (a .size) (a .numbers) ≡ t₂ →
               FeedView false steps x a
           go false y t₂ z = asked-away room false _ x a 13 (at-row k u c o) (rw y refl) refl refl
-          go true y false z = asked-away room false _ x a 7 (at-row k u c o) (rw (on-top base (suc k)) (rw (y, z) refl)) refl refl
-          go true y true z = feed-onward k u c refl o refl (eqb-true _ _ y) z (turned-is room false steps a 0 (rw (on-top base (suc k)) (rw (y, z) refl)))
-              (feed-asked room false _ x a (at-row k u c o) ∙ rw (on-top base (suc k)) (rw (y, z) refl))
+          go true y false z = asked-away room false _ x a 7 (at-row k u c o) (rw (y, z) refl) refl refl
+          go true y true z = feed-onward k u c refl o refl (eqb-true _ _ y) z (turned-is room false steps a 0 (rw (y, z) refl))
+              (feed-asked room false _ x a (at-row k u c o) ∙ rw (y, z) refl)
 
-      pub feed-view : (e : Bool) (t : List Step) (x : ℕ → ℤ) (a : Area) → View f W H l d p t → FeedView e t x a
+      pub feed-view : (e : Bool) (t : List Step) (x : ℕ → ℤ) (a : Area) → View d p t → FeedView e t x a
       feed-view e t x a v = go Room refl
         where
           go : (b : Bool) → Room ≡ b → FeedView e t x a
@@ -260,15 +241,15 @@ module _ (f base spare : ℕ) (W H : Side) (l : ℕ) where
 
       -- ---- a draw: turned away, with no row to give, or with one
       pub data DrawView (e : Bool) (t : List Step) (x : ℕ → ℤ) (a : Area) : Type 0 where
-        draw-away : (q : ℕ) → eqb q 0 ≡ false → eqb q 14 ≡ false → drawSays W (spare + storeBy f W (suc l)) e t n (a .size) ≡ refused q →
+        draw-away : (q : ℕ) → eqb q 0 ≡ false → eqb q 14 ≡ false → drawSays f W (suc l) e t n (a .size) ≡ refused q →
             drawQuestion (here d p e) n x (a .size) ≡ q → DrawView e t x a
-        draw-idle : e ≡ false → drawDue (here d p e) ≡ false → drawSays W (spare + storeBy f W (suc l)) e t n (a .size) ≡ gives nothing →
+        draw-idle : e ≡ false → drawDue (here d p e) ≡ false → drawSays f W (suc l) e t n (a .size) ≡ gives nothing →
             drawQuestion (here d p e) n x (a .size) ≡ 0 → DrawView e t x a
-        draw-onward : e ≡ false → d < H .length → nextOf f W H l d p ≡ spot 0 0 4 → t ≡ draw d ∷ stepsLeft f W H l (suc d) (enter f W H (suc l) (suc d)) →
-            drawDue (here d p e) ≡ true → drawSays W (spare + storeBy f W (suc l)) e t n (a .size) ≡ gives (heights (W .length)) →
+        draw-onward : e ≡ false → d < H .length → nextOf d p ≡ spot 0 0 4 → t ≡ draw d ∷ stepsLeft f W H l (suc d) (enter f W H (suc l) (suc d)) →
+            drawDue (here d p e) ≡ true → drawSays f W (suc l) e t n (a .size) ≡ gives (heights (W .length)) →
             drawQuestion (here d p e) n x (a .size) ≡ ask (fits (settles (here d p e) x)) 14 0 → DrawView e t x a
 
-      drawn-long : Room ≡ true → (e : Bool) (t : List Step) (x : ℕ → ℤ) (a : Area) → View f W H l d p t → DrawView e t x a
+      drawn-long : Room ≡ true → (e : Bool) (t : List Step) (x : ℕ → ℤ) (a : Area) → View d p t → DrawView e t x a
       unfolding drawQuestion drawSays drawGives
       drawn-long room true t x a v = draw-away 9 refl refl (rw room refl) (rw (counts true, room) refl)
       drawn-long room false _ x a (at-end h) = draw-idle refl (no-draw-end h) (rw room refl) (rw (counts false, room, no-draw-end h) refl)
@@ -285,7 +266,7 @@ module _ (f base spare : ℕ) (W H : Side) (l : ℕ) where
       unfolding drawQuestion drawSays
       draw-short off e t x a = draw-away 5 refl refl (rw off refl) (rw (counts e, off) refl)
 
-      pub draw-view : (e : Bool) (t : List Step) (x : ℕ → ℤ) (a : Area) → View f W H l d p t → DrawView e t x a
+      pub draw-view : (e : Bool) (t : List Step) (x : ℕ → ℤ) (a : Area) → View d p t → DrawView e t x a
       draw-view e t x a v = go Room refl
         where
           go : (b : Bool) → Room ≡ b → DrawView e t x a

@@ -165,7 +165,7 @@ code-same c e z = sym (named-code c) ∙ ap named z ∙ named-code e
 not-both : true ≡ false → ⊥
 not-both z = subst T z tt
 
-module _ (f base : ℕ) (W H : Side) (l : ℕ) (P : Rows) where
+module _ (f : ℕ) (W H : Side) (l : ℕ) (P : Rows) where
   -- the bands of level k + 1
   abbrev pub B : ℕ → Band → Grid
   B k = bandsAt f W H P (suc l) k
@@ -176,14 +176,14 @@ module _ (f base : ℕ) (W H : Side) (l : ℕ) (P : Rows) where
 
   -- every set fits
   abbrev pub Fits : Type 0
-  Fits = (k : ℕ) → Live k → (n : ℕ) → n ≤ lastSet (sideAt k H) → SetFits f base W H P (suc l) k n
+  Fits = (k : ℕ) → Live k → (n : ℕ) → n ≤ lastSet (sideAt k H) → SetFits f W H P (suc l) k n
 
   abbrev pub LeavesAt : ℕ → ℕ → (ℕ → ℤ) → Type 0
-  LeavesAt k n m = M f .Leaves (base + k) (sideAt k W) (sideAt k H) (B k) n m
+  LeavesAt k n m = M f .Leaves k (sideAt k W) (sideAt k H) (B k) n m
 
   -- what of the set before set n is still needed
   abbrev pub Before : ℕ → ℕ → (ℕ → ℤ) → Type 0
-  Before k n m = M f .Before (base + k) (sideAt k W) (sideAt k H) (B k) n m
+  Before k n m = M f .Before k (sideAt k W) (sideAt k H) (B k) n m
 
   -- the row of band c of set n is there, if there is one
   abbrev pub Got : ℕ → ℕ → (ℕ → ℤ) → Band → Type 0
@@ -201,10 +201,10 @@ module _ (f base : ℕ) (W H : Side) (l : ℕ) (P : Rows) where
 
   -- ---- memories that agree hold the same
   leaves-same : (k n : ℕ) (m m′ : ℕ → ℤ) → SameMem f (sideAt k W) m m′ → LeavesAt k n m → LeavesAt k n m′
-  leaves-same k n m m′ e s = laws f .leaves-reads (base + k) (sideAt k W) (sideAt k H) (B k) n m m′ e s
+  leaves-same k n m m′ e s = laws f .leaves-reads k (sideAt k W) (sideAt k H) (B k) n m m′ e s
 
   before-same : (k n : ℕ) (m m′ : ℕ → ℤ) → SameMem f (sideAt k W) m m′ → Before k n m → Before k n m′
-  before-same k n m m′ e s = laws f .before-reads (base + k) (sideAt k W) (sideAt k H) (B k) n m m′ e s
+  before-same k n m m′ e s = laws f .before-reads k (sideAt k W) (sideAt k H) (B k) n m m′ e s
 
   got-same : (k n : ℕ) (c : Band) (m m′ : ℕ → ℤ) → SameMem f (sideAt k W) m m′ → Got k n m c → Got k n m′ c
   got-same k n c m m′ e s = laws f .got-reads (sideAt k W) (sideAt k H) (B k) n c m m′ e s
@@ -266,7 +266,7 @@ module _ (f base : ℕ) (W H : Side) (l : ℕ) (P : Rows) where
         before = λ j h e. elim (ℕ-discrete j k) [
           | yes z ↦ here-before k n j (behind (stretchAt f W k) x y) z
               (before-same k n y _ (λ i _. here f W k x y past i)
-              (laws f .feed-before (base + k) (sideAt k W) (sideAt k H) (B k) n c v (mem f W k x) (before-here k n (code c) x inside s)))
+              (laws f .feed-before k (sideAt k W) (sideAt k H) (B k) n c v (mem f W k x) (before-here k n (code c) x inside s)))
           | no z ↦ before-same j _ _ _ (finer f W k x y past j (omega (arith, z))) (s .before j h e)
         ];
         got = λ j h e b kept less. let z : j ≡ k = omega arith in
@@ -365,7 +365,7 @@ module _ (f base : ℕ) (W H : Side) (l : ℕ) (P : Rows) where
 
         there-row : (i : ℕ) → i < next (sideAt k W) .length → backOf f .made (next (sideAt k W)) (next (sideAt k H) .start) r (mem f W (suc k) x) i
             ≡ levelBack (filterOf f) wrap32 (sideAt (suc k) W) (sideAt (suc k) H) (B (suc k)) r i
-        there-row = set-made f (base + suc k) (sideAt (suc k) W) (sideAt (suc k) H) (B (suc k)) (needed f H (suc k) n (suc (suc k))) (mem f W (suc k) x)
+        there-row = set-made f (suc k) (sideAt (suc k) W) (sideAt (suc k) H) (B (suc k)) (needed f H (suc k) n (suc (suc k))) (mem f W (suc k) x)
             (s .below (le-leb (firstSet (sideAt k H) lo) n g) (suc k) on (omega arith) .0) r (low-there g) row-is
 
     worked-of : (y : ℕ → ℤ) → LeavesAt k n y × ((j : ℕ) → backOf f .stretch (sideAt k W) ≤ j → y j ≡ m j) → Worked k n (behind (stretchAt f W k) x y)
@@ -375,12 +375,11 @@ module _ (f base : ℕ) (W H : Side) (l : ℕ) (P : Rows) where
       before = λ j h e. before-same j _ _ _ (finer f W k x y (q .1) j (omega arith)) (s .before j h (omega arith));
     }
 
-    work-made : Outcome (SetFits f base W H P (suc l) k n) (Worked k n) (workedAt f base W H (suc l) k n x)
+    work-made : Outcome (SetFits f W H P (suc l) k n) (Worked k n) (workedAt f W H (suc l) k n x)
     unfolding workedAt hasSet backOf
     work-made = rw (live .1, le-leb n (lastSet (sideAt k H)) there)
         (onto-outcome _ _ _ _ (behind (stretchAt f W k) x) _
-        (subst (λ a. SetFitsBy (filterOf f) a (backOf f .fits (base + k)) (backOf f .back (base + k) (sideAt k W) (sideAt k H) (B k)) (sideAt k W)
-        (sideAt k H) (B k) n)
+        (subst (λ a. SetFitsBy (filterOf f) a (backOf f .fits k) (backOf f .back k (sideAt k W) (sideAt k H) (B k)) (sideAt k W) (sideAt k H) (B k) n)
         (sym (back-ahead f)))
         worked-of (go (ℕ-discrete k l)))
       where
@@ -388,14 +387,12 @@ module _ (f base : ℕ) (W H : Side) (l : ℕ) (P : Rows) where
         some = cells-are (sideAt k W) (sideAt k H) (live .1) .1
 
         go : Dec (k ≡ l) → Outcome
-            (SetFitsBy (filterOf f) (backOf f .ahead) (backOf f .fits (base + k)) (backOf f .back (base + k) (sideAt k W) (sideAt k H) (B k)) (sideAt k W)
-            (sideAt k H) (B k) n)
+            (SetFitsBy (filterOf f) (backOf f .ahead) (backOf f .fits k) (backOf f .back k (sideAt k W) (sideAt k H) (B k)) (sideAt k W) (sideAt k H) (B k) n)
             (λ y. LeavesAt k n y × ((j : ℕ) → backOf f .stretch (sideAt k W) ≤ j → y j ≡ m j))
-            (backOf f .work (eqb (suc k) (suc l)) (base + k) (sideAt k W) (sideAt k H) n m)
-        go (yes e) = rw (eq-eqb (suc k) (suc l) (omega arith))
-            (laws f .work-last (base + k) (sideAt k W) (sideAt k H) (B k) n m some there (before-here k n 4 x live s)
+            (backOf f .work (eqb (suc k) (suc l)) k (sideAt k W) (sideAt k H) n m)
+        go (yes e) = rw (eq-eqb (suc k) (suc l) (omega arith)) (laws f .work-last k (sideAt k W) (sideAt k H) (B k) n m some there (before-here k n 4 x live s)
             (λ c. got-kept c (rw (eq-eqb (suc k) (suc l) (omega arith)) (all-kept c))))
-        go (no e) = rw (ne-eqb (suc k) (suc l) (λ z. e (omega arith))) (laws f .work-on (base + k) (sideAt k W) (sideAt k H) (B k) n m some there
+        go (no e) = rw (ne-eqb (suc k) (suc l) (λ z. e (omega arith))) (laws f .work-on k (sideAt k W) (sideAt k H) (B k) n m some there
             (before-here k n 4 x live s) (λ c d. got-kept c (other-kept c d (eqb (suc k) (suc l)))) (low-row (omega (arith, e, live .0))))
 
   -- no band is before HL at a level that is not the last
@@ -477,7 +474,7 @@ module _ (f base : ℕ) (W H : Side) (l : ℕ) (P : Rows) where
   down-begun : (k n r : ℕ) (x : ℕ → ℤ) → Live k → taking H k r ≡ n → opens (ahead f) (sideAt k H) r ≡ true → Down k n r x →
       Begun k (setsBefore (ahead f) (sideAt k H) r) x
   down-begun k n zero x live t o s = rw (before-zero (ahead f) (sideAt k H)) (record {
-    own = laws f .before-first (base + k) (sideAt k W) (sideAt k H) (B k) (mem f W k x);
+    own = laws f .before-first k (sideAt k W) (sideAt k H) (B k) (mem f W k x);
     before = λ j h e. subst (λ i. Before j i (mem f W j x)) (sym (up j e)) (s .before j h e);
     done = λ q e. absurd (omega arith);
   })
@@ -488,8 +485,7 @@ module _ (f base : ℕ) (W H : Side) (l : ℕ) (P : Rows) where
           ∙ ap (λ i. waitsAt f H k i (suc j)) (unfold waiting firstRow in t)
   down-begun k n (suc q) x live t o s = rw (before-suc (ahead f) (sideAt k H) q) (record {
     own = subst (λ i. Before k i (mem f W k x)) (sym (omega arith))
-        (laws f .before-next (base + k) (sideAt k W) (sideAt k H) (B k) (setOf (ahead f) S q) (mem f W k x)
-        (omega (arith, opened, set-there (ahead f) S (suc q)))
+        (laws f .before-next k (sideAt k W) (sideAt k H) (B k) (setOf (ahead f) S q) (mem f W k x) (omega (arith, opened, set-there (ahead f) S (suc q)))
         (subst (λ i. LeavesAt k i (mem f W k x)) from-q (s .done q refl k live (omega arith))));
     before = λ j h e. subst (λ i. Before j i (mem f W j x)) (sym (up j e)) (s .before j h e);
     done = λ p e u j h b.
@@ -603,7 +599,7 @@ module _ (f base : ℕ) (W H : Side) (l : ℕ) (P : Rows) where
   next-begun : (k n : ℕ) (z : ℕ → ℤ) → makes f (sideAt k H) n ≡ false → Worked k n z → Begun k (suc n) z
   unfolding waiting
   next-begun k n z e s = record {
-    own = laws f .before-next (base + k) (sideAt k W) (sideAt k H) (B k) n (mem f W k z)
+    own = laws f .before-next k (sideAt k W) (sideAt k H) (B k) n (mem f W k z)
         (omega (arith, makes-not f (sideAt k H) n e, set-there (ahead f) (sideAt k H) (firstRow f (sideAt k H) n))) (s .leaves);
     before = λ j h q. subst (λ i. Before j i (mem f W j z)) (up j q) (s .before j h q);
     done = λ q y t j h b. let w : q ≡ n = omega arith in
@@ -673,7 +669,7 @@ module _ (f base : ℕ) (W H : Side) (l : ℕ) (P : Rows) where
 
   -- ---- what is due there
   abbrev pub NextFits : ℕ → Spot → Type 0
-  NextFits d q = hasRow H (q .level) (numberAt d (q .level) (q .set)) ≡ true → SetsFit f base W H (suc l) P (q .level) (numberAt d (q .level) (q .set))
+  NextFits d q = hasRow H (q .level) (numberAt d (q .level) (q .set)) ≡ true → SetsFit f W H (suc l) P (q .level) (numberAt d (q .level) (q .set))
 
   -- it takes a row where the sets on the way do,
   next-has : (d lev n b : ℕ) → hasRow H lev n ≡ true →
@@ -715,7 +711,7 @@ module _ (f base : ℕ) (W H : Side) (l : ℕ) (P : Rows) where
 
   pub settle-holds : (d lev n b : ℕ) (x : ℕ → ℤ) → lev ≤ suc l → Ready f W H (suc l) d (spot lev n b) → Held lev n b x →
       Outcome (NextFits d (nextUp f W H (suc l) lev n b)) (HeldNext d (nextUp f W H (suc l) lev n b))
-      (settled f base W H (suc l) (nextUp f W H (suc l) lev n b .level) lev n x)
+      (settled f W H (suc l) (nextUp f W H (suc l) lev n b .level) lev n x)
   unfolding nextUp settled bandAt nextBand look firstCode
   settle-holds d zero n b x h r s = goes x (subst (λ i. Held 0 i 4 x) (top-is r) (record {
     below = s .below;
@@ -738,32 +734,31 @@ module _ (f base : ℕ) (W H : Side) (l : ℕ) (P : Rows) where
       live = (omega arith, r .cells k refl)
 
       -- the set is one of those that are due
-      due : those p (bandsFrom b) ≡ [] → NextFits d to → SetFits f base W H P (suc l) k n
+      due : those p (bandsFrom b) ≡ [] → NextFits d to → SetFits f W H P (suc l) k n
       due e fit =
           let z : firstCode (those p (bandsFrom b)) ≡ 4 = ap firstCode e in
-          subst (λ i. SetFits f base W H P (suc l) k i)
+          subst (λ i. SetFits f W H P (suc l) k i)
           (next-needs d k (waiting f H k n) 1 (omega arith) (ready-up f W H l d k n b (omega arith) r z) k (omega arith)
           ∙ makes-set k n (r .there k refl) (r .asks k refl z))
           (fit (next-has d k (waiting f H k n) 1 (unfold waiting in taking-has H k _)) .fit k (next-le k (waiting f H k n) 1) (omega arith) (live .1))
 
       on : those p (bandsFrom b) ≡ [] →
-          ((y : ℕ → ℤ) → Held k (waiting f H k n) 1 y → Outcome (NextFits d to) (HeldNext d to)
-          (settled f base W H (suc l) (to .level) k (waiting f H k n) y)) →
+          ((y : ℕ → ℤ) → Held k (waiting f H k n) 1 y → Outcome (NextFits d to) (HeldNext d to) (settled f W H (suc l) (to .level) k (waiting f H k n) y)) →
           Outcome (NextFits d to) (HeldNext d to)
-          (pick (ltb (to .level) (suc k)) (bind (workedAt f base W H (suc l) k n x) (settled f base W H (suc l) (to .level) k (waiting f H k n))) (passed x))
+          (pick (ltb (to .level) (suc k)) (bind (workedAt f W H (suc l) k n x) (settled f W H (suc l) (to .level) k (waiting f H k n))) (passed x))
       on e ih = rw (lt-ltb (to .level) (suc k) (omega (arith, next-le k (waiting f H k n) 1)))
-          (bind-outcome (workedAt f base W H (suc l) k n x) _
+          (bind-outcome (workedAt f W H (suc l) k n x) _
           (by-outcome _ _ _ _ _ (due e) (λ y q. up-holds k n y (omega arith) (r .there k refl) (r .asks k refl (ap firstCode e)) q)
           (work-made k n x live (r .there k refl) (holds-all k n b x e s))) ih)
 
       go : (xs : List Band) → those p (bandsFrom b) ≡ xs →
           (firstCode (those p (bandsFrom b)) ≡ 4 →
-          (y : ℕ → ℤ) → Held k (waiting f H k n) 1 y → Outcome (NextFits d to) (HeldNext d to) (settled f base W H (suc l) (to .level) k (waiting f H k n) y)) →
+          (y : ℕ → ℤ) → Held k (waiting f H k n) 1 y → Outcome (NextFits d to) (HeldNext d to) (settled f W H (suc l) (to .level) k (waiting f H k n) y)) →
           Outcome (NextFits d (pick (ltb (firstCode xs) 4) (spot (suc k) n (firstCode xs)) to))
           (HeldNext d (pick (ltb (firstCode xs) 4) (spot (suc k) n (firstCode xs)) to))
           (pick (ltb (pick (ltb (firstCode xs) 4) (spot (suc k) n (firstCode xs)) to .level) (suc k))
-          (bind (workedAt f base W H (suc l) k n x)
-          (settled f base W H (suc l) (pick (ltb (firstCode xs) 4) (spot (suc k) n (firstCode xs)) to .level) k (waiting f H k n))) (passed x))
+          (bind (workedAt f W H (suc l) k n x)
+          (settled f W H (suc l) (pick (ltb (firstCode xs) 4) (spot (suc k) n (firstCode xs)) to .level) k (waiting f H k n))) (passed x))
       go [] e ih = on e (ih (ap firstCode e))
       go (c ∷ cs) e ih = rw (lt-ltb (code c) 4 (code-lt c), le-ltb (suc k) (suc k) (omega arith)) (goes x (holds-up k n b x c cs e s))
 
@@ -773,7 +768,7 @@ module _ (f base : ℕ) (W H : Side) (l : ℕ) (P : Rows) where
 
   pub fed-holds : (d k n : ℕ) (c : Band) (v x : ℕ → ℤ) → k ≤ l → Ready f W H (suc l) d (spot (suc k) n (code c)) →
       ((i : ℕ) → i < count (across c) (sideAt k W) → v i ≡ B k c (setRow (sideAt k H) c n) i) → Held (suc k) n (code c) x →
-      Outcome (FeedDue f base W H (suc l) P k n (code c)) (FedHeld k n (code c)) (fedOn f base W H (suc l) (suc k) n (code c) v x)
+      Outcome (FeedDue f W H (suc l) P k n (code c)) (FedHeld k n (code c)) (fedOn f W H (suc l) (suc k) n (code c) v x)
   unfolding fedOn finished beyond
   fed-holds d k n c v x h r row s = go (lastOfSet W H (suc l) k n (code c)) refl
     where
@@ -784,9 +779,9 @@ module _ (f base : ℕ) (W H : Side) (l : ℕ) (P : Rows) where
       y = fedAt f W H k n (code c) v x
 
       go : (t : Bool) → lastOfSet W H (suc l) k n (code c) ≡ t →
-          Outcome (FeedDue f base W H (suc l) P k n (code c))
+          Outcome (FeedDue f W H (suc l) P k n (code c))
           (λ z. HeldAt (pick t (past f W H (suc l) k n) (spot (suc k) n (code c + 1))) z × (t ≡ true → Worked k n z))
-          (pick t (workedAt f base W H (suc l) k n y) (passed y))
+          (pick t (workedAt f W H (suc l) k n y) (passed y))
       go true e = by-outcome _ _ _ _ _ (λ due. due .own e) (λ z q. (past-holds k n z h (r .there k refl) q, λ _. q))
           (work-made k n y live (r .there k refl)
           (holds-all k n (code c + 1) y (last-none f W H l k n (code c) e) (feed-holds k n c v x live row s)))
@@ -809,21 +804,20 @@ module _ (f base : ℕ) (W H : Side) (l : ℕ) (P : Rows) where
     unfolding sideAt
     height-made c p =
         ap (λ (z : ℕ → ℤ). backOf f .made W (H .start) d z c) (sym (first-mem f W x))
-        ∙ set-made f (base + 0) W H (B 0) (needed f H 0 d 1) (mem f W 0 x) (top-leaves .0) d due top-set c p
+        ∙ set-made f 0 W H (B 0) (needed f H 0 d 1) (mem f W 0 x) (top-leaves .0) d due top-set c p
 
-    pub height-fit : (c : ℕ) → c < W .length → valueFits (filterOf f) base (partAt f W H P (suc l) 0 d c) ≡ true
+    pub height-fit : (c : ℕ) → c < W .length → valueFits (filterOf f) 0 (partAt f W H P (suc l) 0 d c) ≡ true
     unfolding sideAt
-    height-fit c p = subst (λ i. valueFits (filterOf f) i (partAt f W H P (suc l) 0 d c) ≡ true) (omega arith)
-        (set-fits f (base + 0) W H (B 0) (needed f H 0 d 1) (mem f W 0 x) (top-leaves .0) d due top-set c p)
+    height-fit = set-fits f 0 W H (B 0) (needed f H 0 d 1) (mem f W 0 x) (top-leaves .0) d due top-set
 
   -- ---- where every set fits, so does what is due
-  pub sets-fitting : Fits → (k n : ℕ) → SetsFit f base W H (suc l) P k n
+  pub sets-fitting : Fits → (k n : ℕ) → SetsFit f W H (suc l) P k n
   sets-fitting all k n = record {
     fit = λ j h i cells. all j (omega arith, cells) (needed f H k n (suc j))
         (omega (arith, needed-next f H k n j h, set-there (ahead f) (sideAt j H) (rowOf H j (needed f H k n j))));
   }
 
-  pub due-fitting : Fits → (d k n c : ℕ) → k ≤ l → Ready f W H (suc l) d (spot (suc k) n c) → FeedDue f base W H (suc l) P k n c
+  pub due-fitting : Fits → (d k n c : ℕ) → k ≤ l → Ready f W H (suc l) d (spot (suc k) n c) → FeedDue f W H (suc l) P k n c
   due-fitting all d k n c h r = record {
     own = λ _. all k (h, r .cells k refl) n (r .there k refl);
     above = λ _. sets-fitting all (suc k) n;
@@ -835,4 +829,4 @@ module _ (f base : ℕ) (W H : Side) (l : ℕ) (P : Rows) where
   sets-tested d b x s k live m h =
       let q = s .below (unfold hasRow in refl) k live (omega arith) in
       tested-next f (sideAt k W) (sideAt k H) (B k) (needed f H 0 d (suc k)) (q .1)
-      (set-has f (base + k) (sideAt k W) (sideAt k H) (B k) (needed f H 0 d (suc k)) (mem f W k x) (q .0)) m (omega arith)
+      (set-has f k (sideAt k W) (sideAt k H) (B k) (needed f H 0 d (suc k)) (mem f W k x) (q .0)) m (omega arith)

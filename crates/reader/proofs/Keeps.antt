@@ -1,7 +1,7 @@
 -- Each call keeps what the store holds: `set-up-holds`, `feed-keeps`, `draw-keeps`, for every state, store, run and area. Assumes nothing.
 use mathlib.Core.Bool.{Bool, true, false}
 use mathlib.Core.Path.{_≡_, refl, sym, ap, subst, _∙_}
-use Prim.Native.Nat.{ℕ, zero, suc, _+_, _-_, _*_, _≤_, _<_}
+use Prim.Native.Nat.{ℕ, zero, suc, _-_, _*_, _≤_, _<_}
 use native.Mathlib.Omega.{arith}
 use lib.IntN.{ℤ}
 use lib.Dec.{T, leb, eqb}
@@ -22,12 +22,10 @@ use Rattle.reader.specs.Rebuilt.{Rows, partAt}
 use Rattle.level.specs.Tried.{Tried, failed, passed, fits, memory}
 use Rattle.reader_steps.specs.Sets.{ahead, needed, waitsAt}
 use Rattle.reader_steps.specs.Places.{Spot, spot, Place, place, placeOf, spotFed, beyond, dive, enter, Ready}
-use Rattle.reader.specs.State.{columns, needs, next, nextRow, nextLength, settles, feeds, drawDue, fedReader, drawnReader, endedReader}
-use Rattle.reader.specs.Questions.{countsInside, countsFit, stopFits, storeFits, setUpQuestion, feedQuestion, drawQuestion}
+use Rattle.reader.specs.State.{columns, next, nextRow, nextLength, settles, feeds, drawDue, fedReader, drawnReader, endedReader}
+use Rattle.reader.specs.Questions.{countsFit, storeFits, setUpQuestion, feedQuestion, drawQuestion}
 use Rattle.lifting.specs.Halves.{fronted}
-use Rattle.filters.specs.Figures.{storeBy}
-use Rattle.reader.specs.Limited.{drawnAs}
-use Rattle.reader.specs.Calls.{freshOver, fresh, setUpReply, setUpStore, feedReply, feedStore, storeAfter, drawReply, drawStore, drawArea, heightRow}
+use Rattle.reader.specs.Calls.{fresh, setUpReply, setUpStore, feedReply, feedStore, storeAfter, drawReply, drawStore, drawArea, heightRow}
 use Rattle.reader.specs.Holds.{Holds, FeedDue, WantedFits, DrawnFits, IsWanted, SetUpHolds, FeedKeeps, DrawKeeps}
 use Rattle.reader_steps.proofs.Looks.{named-code}
 use Rattle.reader_steps.proofs.StepsLeft.{stepsLeft}
@@ -40,7 +38,7 @@ use Rattle.reader.proofs.CallViews.{draw-view}
 use Rattle.reader.proofs.Outcomes.{outcome-failed, outcome-passed, settles-outcome, feeds-outcome, row-out}
 
 -- ---- question 1, part by part
-pub record Inside (f base spare : ℕ) (W H : Side) (l d : ℕ) (p : Place) : Type 0 where
+pub record Inside (f : ℕ) (W H : Side) (l d : ℕ) (p : Place) : Type 0 where
   wide : within 1 maxWidth (W .length) ≡ true
   high : within 1 maxHeight (H .length) ≡ true
   known : isFilter f ≡ true
@@ -51,13 +49,11 @@ pub record Inside (f base spare : ℕ) (W H : Side) (l d : ℕ) (p : Place) : Ty
   level-le : p .level ≤ suc l
   band-le : p .band ≤ 4
   back-le : p .back ≤ 2 * ahead f - 1
-  stop : stopFits f (suc l) base spare ≡ true
 
-inside : (f base spare : ℕ) (W H : Side) (l d : ℕ) (p : Place) (e : Bool) → countsFit (here f base spare W H l d p e) ≡ true → Inside f base spare W H l d p
-unfolding countsFit countsInside
-inside f base spare W H l d p e all =
-    let v = both (countsInside (here f base spare W H l d p e)) _ all in
-    let a = both (within 1 maxWidth (W .length)) _ (v .0) in
+inside : (f : ℕ) (W H : Side) (l d : ℕ) (p : Place) (e : Bool) → countsFit (here f W H l d p e) ≡ true → Inside f W H l d p
+unfolding countsFit
+inside f W H l d p e h =
+    let a = both (within 1 maxWidth (W .length)) _ h in
     let c = both (within 1 maxHeight (H .length)) _ (a .1) in
     let k = both (isFilter f) _ (c .1) in
     let u = both (within 1 (filterOf f .levels) (suc l)) _ (k .1) in
@@ -77,7 +73,6 @@ inside f base spare W H l d p e all =
       level-le = leb-true _ _ (i .0);
       band-le = leb-true _ _ (j .0);
       back-le = leb-true _ _ (j .1);
-      stop = v .1;
     }
 
 -- a call that questions 1 and 5 do not turn away
@@ -137,21 +132,21 @@ drawn-fourteen s r t = go (eqb r 0) (drawDue s) (eqb r 14) refl
     go false u true h k = eqb-true r 14 h
     go false u false h k = absurd (let o : _≡_ {A = ℕ} 0 1 = cc in omega arith)
 
-module _ (f base spare : ℕ) (W H : Side) (l d : ℕ) (p : Place) (e : Bool) where
+module _ (f : ℕ) (W H : Side) (l d : ℕ) (p : Place) (e : Bool) where
   abbrev s : Reader
-  s = here f base spare W H l d p e
+  s = here f W H l d p e
 
   -- ---- the definition, and the laws' own form of it
-  held : (P : Rows) (x : ℕ → ℤ) → d < H .length → Holds P s x → HeldAt f base W H l P (at f W H l d p) x
+  held : (P : Rows) (x : ℕ → ℤ) → d < H .length → Holds P s x → HeldAt f W H l P (at f W H l d p) x
   held P x due h = record {
     below = λ u k i q. h .below due u k (record { inside = omega (arith, i .0); cells = i .1 }) q;
     before = λ k i q. h .before due k (record { inside = omega (arith, i .0); cells = i .1 }) q;
     got = λ k i q c kept less. h .got due k (record { inside = omega (arith, i .0); cells = i .1 }) q c kept less;
   }
 
-holds : (f base spare : ℕ) (W H : Side) (l d : ℕ) (p : Place) (e : Bool) (P : Rows) (x : ℕ → ℤ) → (d < H .length → Ready f W H (suc l) d (at f W H l d p)) →
-    (d < H .length → HeldAt f base W H l P (at f W H l d p) x) → Holds P (here f base spare W H l d p e) x
-holds f base spare W H l d p e P x ready h = record {
+holds : (f : ℕ) (W H : Side) (l d : ℕ) (p : Place) (e : Bool) (P : Rows) (x : ℕ → ℤ) → (d < H .length → Ready f W H (suc l) d (at f W H l d p)) →
+    (d < H .length → HeldAt f W H l P (at f W H l d p) x) → Holds P (here f W H l d p e) x
+holds f W H l d p e P x ready h = record {
   ready = ready;
   below = λ due u k i q. h due .below u k (omega (arith, i .inside), i .cells) q;
   before = λ due k i q. h due .before k (omega (arith, i .inside), i .cells) q;
@@ -159,17 +154,17 @@ holds f base spare W H l d p e P x ready h = record {
 }
 
 -- at a place kept as a state keeps it
-holds-at : (f base spare : ℕ) (W H : Side) (l d : ℕ) (q : Spot) (P : Rows) (x : ℕ → ℤ) → (d < H .length → Ready f W H (suc l) d q) →
-    (d < H .length → HeldAt f base W H l P q x) →
-    Holds P (here f base spare W H l d (placeOf f H d q) false) x
-holds-at f base spare W H l d q P x ready h =
-    holds f base spare W H l d (placeOf f H d q) false P x
+holds-at : (f : ℕ) (W H : Side) (l d : ℕ) (q : Spot) (P : Rows) (x : ℕ → ℤ) → (d < H .length → Ready f W H (suc l) d q) →
+    (d < H .length → HeldAt f W H l P q x) →
+    Holds P (here f W H l d (placeOf f H d q) false) x
+holds-at f W H l d q P x ready h =
+    holds f W H l d (placeOf f H d q) false P x
     (λ due. subst (Ready f W H (suc l) d) (sym (ready-back f W H (suc l) d q due (ready due) .0)) (ready due))
-    (λ due. subst (λ r. HeldAt f base W H l P r x) (sym (ready-back f W H (suc l) d q due (ready due) .0)) (h due))
+    (λ due. subst (λ r. HeldAt f W H l P r x) (sym (ready-back f W H (suc l) d q due (ready due) .0)) (h due))
 
-module _ (f base spare : ℕ) (W H : Side) (l d : ℕ) (p : Place) (e : Bool) (n : ℕ) (x : ℕ → ℤ) where
-  limits-of : Inside f base spare W H l d p → Limits f base spare W H l
-  limits-of i = record { across = i .across; down = i .down; wide = i .wide; high = i .high; known = i .known; deep = i .deep; stop = i .stop }
+module _ (f : ℕ) (W H : Side) (l d : ℕ) (p : Place) (e : Bool) (n : ℕ) (x : ℕ → ℤ) where
+  limits-of : Inside f W H l d p → Limits f W H l
+  limits-of i = record { across = i .across; down = i .down; wide = i .wide; high = i .high; known = i .known; deep = i .deep }
 
   -- ---- feed
   module _ (a : Area) where
@@ -177,7 +172,7 @@ module _ (f base spare : ℕ) (W H : Side) (l d : ℕ) (p : Place) (e : Bool) (n
     v = a .numbers
 
     abbrev q : ℕ
-    q = feedQuestion (s f base spare W H l d p e) n x (a .size) v
+    q = feedQuestion (s f W H l d p e) n x (a .size) v
 
     -- what a feed that passed, or gave 14, was asked
     pub record Onward : Type 0 where
@@ -186,117 +181,111 @@ module _ (f base spare : ℕ) (W H : Side) (l d : ℕ) (p : Place) (e : Bool) (n
       c : Band
       level-le : p .level ≤ suc l
       row : Due f W H l d p k u c
-      asks : q ≡ ask (fits (feeds (s f base spare W H l d p e) v x)) 14 0
+      asks : q ≡ ask (fits (feeds (s f W H l d p e) v x)) 14 0
 
     onward : (d < H .length → Ready f W H (suc l) d (at f W H l d p)) → (eqb q 0 ≡ false → eqb q 14 ≡ false → ⊥) → (q ≡ 1 → ⊥) → (q ≡ 5 → ⊥) → Onward
     unfolding feedQuestion
     onward ready never b g =
-        let t = two-yes (countsFit (s f base spare W H l d p e)) (storeFits (spare + storeBy f W (suc l)) n) _ q refl b g in
-        let i = inside f base spare W H l d p e (t .0) in
-        go i (feed-view f base spare W H l (limits-of i) d p (i .drawn-le) (i .level-le) (i .band-le) (i .back-le) n e (stepsLeft f W H l d (at f W H l d p))
-        x a
+        let t = two-yes (countsFit (s f W H l d p e)) (storeFits f W (suc l) n) _ q refl b g in
+        let i = inside f W H l d p e (t .0) in
+        go i (feed-view f W H l (limits-of i) d p (i .drawn-le) (i .level-le) (i .band-le) (i .back-le) n e (stepsLeft f W H l d (at f W H l d p)) x a
         (view f W H l d p (i .level-le) ready))
       where
-        go : (i : Inside f base spare W H l d p) {lim : Limits f base spare W H l} →
-            FeedView f base spare W H l lim d p (i .drawn-le) (i .level-le) (i .band-le) (i .back-le) n e (stepsLeft f W H l d (at f W H l d p)) x a → Onward
+        go : (i : Inside f W H l d p) {lim : Limits f W H l} →
+            FeedView f W H l lim d p (i .drawn-le) (i .level-le) (i .band-le) (i .back-le) n e (stepsLeft f W H l d (at f W H l d p)) x a → Onward
         go i (feed-away r _ z y at) = absurd (never (ap (λ j. eqb j 0) at ∙ z) (ap (λ j. eqb j 14) at ∙ y))
         go i (feed-onward k u c live o head long in-range _ at) = record { k = k; u = u; c = c; level-le = i .level-le; row = o; asks = at }
 
     -- the run is the row that is named
-    wanted-row : (P : Rows) (o : Onward) → IsWanted P (s f base spare W H l d p e) v → (i : ℕ) → i < bandColumns W (suc (o .k)) (o .c) →
+    wanted-row : (P : Rows) (o : Onward) → IsWanted P (s f W H l d p e) v → (i : ℕ) → i < bandColumns W (suc (o .k)) (o .c) →
         v i ≡ P (nameOf f W H l (o .k) (o .u) (o .c)) i
     unfolding next nextRow nextLength
     wanted-row P o h = let z : suc (o .k) - 1 ≡ o .k = omega arith in rw (o .row .is, named-code (o .c), z) at h
 
     -- and what is due is its
-    wanted-due : (P : Rows) (o : Onward) → WantedFits P (s f base spare W H l d p e) → FeedDue f base W H (suc l) P (o .k) (o .u) (code (o .c))
+    wanted-due : (P : Rows) (o : Onward) → WantedFits P (s f W H l d p e) → FeedDue f W H (suc l) P (o .k) (o .u) (code (o .c))
     unfolding next
     wanted-due P o due = let z : suc (o .k) - 1 ≡ o .k = omega arith in rw (o .row .is, z) at due
 
     -- the store and the reader that a passed feed leaves
-    store-is : (y : ℕ → ℤ) → feeds (s f base spare W H l d p e) v x ≡ passed y → feedStore (s f base spare W H l d p e) 0 v x ≡ y
+    store-is : (y : ℕ → ℤ) → feeds (s f W H l d p e) v x ≡ passed y → feedStore (s f W H l d p e) 0 v x ≡ y
     unfolding feedStore storeAfter memory
     store-is y z = ap (memory x) z
 
     abbrev to : Onward → Spot
     to o = beyond f W H (suc l) (o .k) (o .u) (code (o .c))
 
-    reader-is : (o : Onward) → fedReader (s f base spare W H l d p e) ≡ here f base spare W H l d (placeOf f H d (to o)) false
+    reader-is : (o : Onward) → fedReader (s f W H l d p e) ≡ here f W H l d (placeOf f H d (to o)) false
     unfolding fedReader next spotFed
     reader-is o = rw (o .row .is) refl
 
     -- a feed that gave neither 0 nor what its test says
-    no-mix : (u : Tried) (r : ℕ) → q ≡ r → q ≡ ask (fits (feeds (s f base spare W H l d p e) v x)) 14 0 → feeds (s f base spare W H l d p e) v x ≡ u → ask
-        (fits u) 14 0 ≡ r
+    no-mix : (u : Tried) (r : ℕ) → q ≡ r → q ≡ ask (fits (feeds (s f W H l d p e) v x)) 14 0 → feeds (s f W H l d p e) v x ≡ u → ask (fits u) 14 0 ≡ r
     no-mix u r z a h = sym (ap (λ w. ask (fits w) 14 0) h) ∙ sym a ∙ z
 
-    feed-at : FeedKeeps (s f base spare W H l d p e) v x (feedReply (s f base spare W H l d p e) q) (feedStore (s f base spare W H l d p e) q v x)
+    feed-at : FeedKeeps (s f W H l d p e) v x (feedReply (s f W H l d p e) q) (feedStore (s f W H l d p e) q v x)
     feed-at = record { passed = on; ended = stopped }
       where
-        outcome-of : (o : Onward) (P : Rows) → IsWanted P (s f base spare W H l d p e) v → Holds P (s f base spare W H l d p e) x → (u : Tried) → feeds
-            (s f base spare W H l d p e) v x ≡ u →
-            Outcome (FeedDue f base W H (suc l) P (o .k) (o .u) (code (o .c))) (HeldAt f base W H l P (to o)) u
-        outcome-of o P row h u z = subst (Outcome (FeedDue f base W H (suc l) P (o .k) (o .u) (code (o .c))) _) z
-            (feeds-outcome f base spare W H l d p (o .level-le) (h .ready (o .row .due)) P x (held f base spare W H l d p e P x (o .row .due) h) e (o .k)
-            (o .u) (o .c) (o .row) v
+        outcome-of : (o : Onward) (P : Rows) → IsWanted P (s f W H l d p e) v → Holds P (s f W H l d p e) x → (u : Tried) → feeds (s f W H l d p e) v x ≡ u →
+            Outcome (FeedDue f W H (suc l) P (o .k) (o .u) (code (o .c))) (HeldAt f W H l P (to o)) u
+        outcome-of o P row h u z = subst (Outcome (FeedDue f W H (suc l) P (o .k) (o .u) (code (o .c))) _) z
+            (feeds-outcome f W H l d p (o .level-le) (h .ready (o .row .due)) P x (held f W H l d p e P x (o .row .due) h) e (o .k) (o .u) (o .c) (o .row) v
             (wanted-row P o row))
 
-        tried : (o : Onward) → q ≡ 0 → (t : Reader) → t ≡ fedReader (s f base spare W H l d p e) → (P : Rows) → IsWanted P (s f base spare W H l d p e) v →
-            Holds P (s f base spare W H l d p e) x → (u : Tried) → feeds (s f base spare W H l d p e) v x ≡ u → Holds P t
-            (feedStore (s f base spare W H l d p e) q v x)
+        tried : (o : Onward) → q ≡ 0 → (t : Reader) → t ≡ fedReader (s f W H l d p e) → (P : Rows) → IsWanted P (s f W H l d p e) v →
+            Holds P (s f W H l d p e) x → (u : Tried) → feeds (s f W H l d p e) v x ≡ u → Holds P t (feedStore (s f W H l d p e) q v x)
         tried o z t same P row h failed g = absurd (omega (arith, no-mix failed 0 z (o .asks) g, ask-failed))
         tried o z t same P row h (passed y) g =
-            subst (λ r. Holds P r (feedStore (s f base spare W H l d p e) q v x)) (sym (same ∙ reader-is o))
-            (subst (Holds P _) (sym (ap (λ r. feedStore (s f base spare W H l d p e) r v x) z ∙ store-is y g))
-            (holds-at f base spare W H l d (to o) P y
+            subst (λ r. Holds P r (feedStore (s f W H l d p e) q v x)) (sym (same ∙ reader-is o))
+            (subst (Holds P _) (sym (ap (λ r. feedStore (s f W H l d p e) r v x) z ∙ store-is y g))
+            (holds-at f W H l d (to o) P y
             (λ due. ready-beyond f W H l d (o .k) (o .u) (code (o .c)) (omega (arith, o .row .below, o .level-le)) (o .row .ready))
             (λ _. outcome-passed y (outcome-of o P row h (passed y) g))))
 
-        on : (t : Reader) → feedReply (s f base spare W H l d p e) q ≡ gives t → (P : Rows) → IsWanted P (s f base spare W H l d p e) v →
-            Holds P (s f base spare W H l d p e) x → Holds P t (feedStore (s f base spare W H l d p e) q v x)
+        on : (t : Reader) → feedReply (s f W H l d p e) q ≡ gives t → (P : Rows) → IsWanted P (s f W H l d p e) v →
+            Holds P (s f W H l d p e) x → Holds P t (feedStore (s f W H l d p e) q v x)
         on t r P row h =
-            let k = feed-passed (s f base spare W H l d p e) q t r in
+            let k = feed-passed (s f W H l d p e) q t r in
             let o = onward (h .ready) (λ z _. subst T (sym (ap (λ j. eqb j 0) (k .0)) ∙ z) tt) (λ z. omega (arith, k .0)) (λ z. omega (arith, k .0)) in
-            tried o (k .0) t (k .1) P row h (feeds (s f base spare W H l d p e) v x) refl
+            tried o (k .0) t (k .1) P row h (feeds (s f W H l d p e) v x) refl
 
-        not-fit : (o : Onward) → q ≡ 14 → (P : Rows) → IsWanted P (s f base spare W H l d p e) v → Holds P (s f base spare W H l d p e) x →
-            WantedFits P (s f base spare W H l d p e) → (u : Tried) → feeds (s f base spare W H l d p e) v x ≡ u → ⊥
+        not-fit : (o : Onward) → q ≡ 14 → (P : Rows) → IsWanted P (s f W H l d p e) v → Holds P (s f W H l d p e) x →
+            WantedFits P (s f W H l d p e) → (u : Tried) → feeds (s f W H l d p e) v x ≡ u → ⊥
         not-fit o z P row h due failed g = outcome-failed (outcome-of o P row h failed g) (wanted-due P o due)
         not-fit o z P row h due (passed y) g = omega (arith, no-mix (passed y) 14 z (o .asks) g, ask-passed y)
 
-        stopped : (t : Reader) → feedReply (s f base spare W H l d p e) q ≡ impossible t → (P : Rows) → IsWanted P (s f base spare W H l d p e) v →
-            Holds P (s f base spare W H l d p e) x → WantedFits P (s f base spare W H l d p e) → ⊥
+        stopped : (t : Reader) → feedReply (s f W H l d p e) q ≡ impossible t → (P : Rows) → IsWanted P (s f W H l d p e) v →
+            Holds P (s f W H l d p e) x → WantedFits P (s f W H l d p e) → ⊥
         stopped t r P row h due =
-            let z = feed-fourteen (s f base spare W H l d p e) q t r in
+            let z = feed-fourteen (s f W H l d p e) q t r in
             let o = onward (h .ready) (λ _ y. subst T (sym (ap (λ j. eqb j 14) z) ∙ y) tt) (λ y. omega (arith, z)) (λ y. omega (arith, z)) in
-            not-fit o z P row h due (feeds (s f base spare W H l d p e) v x) refl
+            not-fit o z P row h due (feeds (s f W H l d p e) v x) refl
 
   -- ---- draw
   module _ (a : Area) where
     abbrev o₀ : ℕ
-    o₀ = drawQuestion (s f base spare W H l d p e) n x (a .size)
+    o₀ = drawQuestion (s f W H l d p e) n x (a .size)
 
     pub record Drawing : Type 0 where
       due : d < H .length
       broad : 0 < W .length
       level-le : p .level ≤ suc l
       at-height : nextOf f W H l d p ≡ spot 0 0 4
-      to-draw : drawDue (s f base spare W H l d p e) ≡ true
-      asks : o₀ ≡ ask (fits (settles (s f base spare W H l d p e) x)) 14 0
+      to-draw : drawDue (s f W H l d p e) ≡ true
+      asks : o₀ ≡ ask (fits (settles (s f W H l d p e) x)) 14 0
 
     -- what a draw was asked that gave a row, or 14
     drawing : (d < H .length → Ready f W H (suc l) d (at f W H l d p)) → (eqb o₀ 0 ≡ false → eqb o₀ 14 ≡ false → ⊥)
-        → (o₀ ≡ 1 → ⊥) → (o₀ ≡ 5 → ⊥) → (drawDue (s f base spare W H l d p e) ≡ false → o₀ ≡ 0 → ⊥) → Drawing
+        → (o₀ ≡ 1 → ⊥) → (o₀ ≡ 5 → ⊥) → (drawDue (s f W H l d p e) ≡ false → o₀ ≡ 0 → ⊥) → Drawing
     unfolding drawQuestion
     drawing ready never b g idle =
-        let t = two-yes (countsFit (s f base spare W H l d p e)) (storeFits (spare + storeBy f W (suc l)) n) _ o₀ refl b g in
-        let i = inside f base spare W H l d p e (t .0) in
-        go i (draw-view f base spare W H l (limits-of i) d p (i .drawn-le) (i .level-le) (i .band-le) (i .back-le) n e (stepsLeft f W H l d (at f W H l d p))
-        x a
+        let t = two-yes (countsFit (s f W H l d p e)) (storeFits f W (suc l) n) _ o₀ refl b g in
+        let i = inside f W H l d p e (t .0) in
+        go i (draw-view f W H l (limits-of i) d p (i .drawn-le) (i .level-le) (i .band-le) (i .back-le) n e (stepsLeft f W H l d (at f W H l d p)) x a
         (view f W H l d p (i .level-le) ready))
       where
-        go : (i : Inside f base spare W H l d p) {lim : Limits f base spare W H l} →
-            DrawView f base spare W H l lim d p (i .drawn-le) (i .level-le) (i .band-le) (i .back-le) n e (stepsLeft f W H l d (at f W H l d p)) x a → Drawing
+        go : (i : Inside f W H l d p) {lim : Limits f W H l} →
+            DrawView f W H l lim d p (i .drawn-le) (i .level-le) (i .band-le) (i .back-le) n e (stepsLeft f W H l d (at f W H l d p)) x a → Drawing
         go i (draw-away r z y _ at) = absurd (never (ap (λ j. eqb j 0) at ∙ z) (ap (λ j. eqb j 14) at ∙ y))
         go i (draw-idle live z _ at) = absurd (idle z at)
         go i (draw-onward live due at-height head to-draw _ at) =
@@ -304,70 +293,66 @@ module _ (f base spare : ℕ) (W H : Side) (l d : ℕ) (p : Place) (e : Bool) (n
             record { due = due; broad = broad; level-le = i .level-le; at-height = at-height; to-draw = to-draw; asks = at }
 
     -- the store, the area and the reader that a draw of a row leaves
-    drawn-store : (y : ℕ → ℤ) → drawDue (s f base spare W H l d p e) ≡ true → settles (s f base spare W H l d p e) x ≡ passed y → drawStore
-        (s f base spare W H l d p e) 0 x ≡ y
+    drawn-store : (y : ℕ → ℤ) → drawDue (s f W H l d p e) ≡ true → settles (s f W H l d p e) x ≡ passed y → drawStore (s f W H l d p e) 0 x ≡ y
     unfolding drawStore storeAfter memory
     drawn-store y u k = rw (u, k) refl
 
-    drawn-area : (y : ℕ → ℤ) → drawDue (s f base spare W H l d p e) ≡ true → settles (s f base spare W H l d p e) x ≡ passed y →
-        drawArea (s f base spare W H l d p e) 0 x (a .numbers) ≡ fronted (W .length) (heightRow (s f base spare W H l d p e) y) (a .numbers)
+    drawn-area : (y : ℕ → ℤ) → drawDue (s f W H l d p e) ≡ true → settles (s f W H l d p e) x ≡ passed y →
+        drawArea (s f W H l d p e) 0 x (a .numbers) ≡ fronted (W .length) (heightRow (s f W H l d p e) y) (a .numbers)
     unfolding drawArea memory
     drawn-area y u k = rw (u, k) refl
 
-    drawn-reader : drawnReader (s f base spare W H l d p e) ≡ here f base spare W H l (suc d) (placeOf f H (suc d) (enter f W H (suc l) (suc d))) false
+    drawn-reader : drawnReader (s f W H l d p e) ≡ here f W H l (suc d) (placeOf f H (suc d) (enter f W H (suc l) (suc d))) false
     unfolding drawnReader
     drawn-reader = refl
 
-    same-test : (u : Tried) (r : ℕ) → o₀ ≡ r → o₀ ≡ ask (fits (settles (s f base spare W H l d p e) x)) 14 0 → settles (s f base spare W H l d p e) x ≡ u →
-        ask (fits u) 14 0 ≡ r
+    same-test : (u : Tried) (r : ℕ) → o₀ ≡ r → o₀ ≡ ask (fits (settles (s f W H l d p e) x)) 14 0 → settles (s f W H l d p e) x ≡ u → ask (fits u) 14 0 ≡ r
     same-test u r z k h = sym (ap (λ w. ask (fits w) 14 0) h) ∙ sym k ∙ z
 
-    draw-at : DrawKeeps (s f base spare W H l d p e) x (drawReply (s f base spare W H l d p e) o₀) (drawStore (s f base spare W H l d p e) o₀ x)
-        (drawArea (s f base spare W H l d p e) o₀ x (a .numbers))
+    draw-at : DrawKeeps (s f W H l d p e) x (drawReply (s f W H l d p e) o₀) (drawStore (s f W H l d p e) o₀ x)
+        (drawArea (s f W H l d p e) o₀ x (a .numbers))
     draw-at = record { passed = on; ended = stopped }
       where
-        outcome-of : (o : Drawing) (P : Rows) → Holds P (s f base spare W H l d p e) x → (u : Tried) →
-            settles (s f base spare W H l d p e) x ≡ u → Outcome (NextFits f base W H l P d (spot 0 0 4)) (Held f base W H l P 0 d 4) u
-        outcome-of o P h u z = subst (Outcome (NextFits f base W H l P d (spot 0 0 4)) _) z
-            (settles-outcome f base spare W H l d p (o .level-le) (h .ready (o .due)) P x (held f base spare W H l d p e P x (o .due) h) e (spot 0 0 4)
-            (o .at-height))
+        outcome-of : (o : Drawing) (P : Rows) → Holds P (s f W H l d p e) x → (u : Tried) →
+            settles (s f W H l d p e) x ≡ u → Outcome (NextFits f W H l P d (spot 0 0 4)) (Held f W H l P 0 d 4) u
+        outcome-of o P h u z = subst (Outcome (NextFits f W H l P d (spot 0 0 4)) _) z
+            (settles-outcome f W H l d p (o .level-le) (h .ready (o .due)) P x (held f W H l d p e P x (o .due) h) e (spot 0 0 4) (o .at-height))
 
-        tried : (o : Drawing) → o₀ ≡ 0 → (t : Reader) → t ≡ drawnReader (s f base spare W H l d p e) → (P : Rows) →
-            Holds P (s f base spare W H l d p e) x → (u : Tried) → settles (s f base spare W H l d p e) x ≡ u →
-            Holds P t (drawStore (s f base spare W H l d p e) o₀ x)
-            × ((c : ℕ) → c < W .length → drawArea (s f base spare W H l d p e) o₀ x (a .numbers) c ≡ drawnAs base (partAt f W H P (suc l) 0 d c))
+        tried : (o : Drawing) → o₀ ≡ 0 → (t : Reader) → t ≡ drawnReader (s f W H l d p e) → (P : Rows) →
+            Holds P (s f W H l d p e) x → (u : Tried) → settles (s f W H l d p e) x ≡ u →
+            Holds P t (drawStore (s f W H l d p e) o₀ x)
+            × ((c : ℕ) → c < W .length → drawArea (s f W H l d p e) o₀ x (a .numbers) c ≡ partAt f W H P (suc l) 0 d c)
         tried o z t same P h failed k = absurd (omega (arith, same-test failed 0 z (o .asks) k, ask-failed))
         tried o z t same P h (passed y) k =
-            let is : Held f base W H l P 0 d 4 y = outcome-passed y (outcome-of o P h (passed y) k) in (
-              subst (λ r. Holds P r (drawStore (s f base spare W H l d p e) o₀ x)) (sym (same ∙ drawn-reader))
-                  (subst (Holds P _) (sym (ap (λ r. drawStore (s f base spare W H l d p e) r x) z ∙ drawn-store y (o .to-draw) k))
-                  (holds-at f base spare W H l (suc d) (enter f W H (suc l) (suc d)) P y (ready-enter f W H l (suc d))
-                  (λ _. enter-holds f base W H l P d 4 y is))),
-              λ c i. ap (λ r. drawArea (s f base spare W H l d p e) r x (a .numbers) c) z ∙ ap (λ b. b c) (drawn-area y (o .to-draw) k)
-                  ∙ row-out f base spare W H l d p e (o .due) (o .broad) P y is (a .numbers) c i,
+            let is : Held f W H l P 0 d 4 y = outcome-passed y (outcome-of o P h (passed y) k) in (
+              subst (λ r. Holds P r (drawStore (s f W H l d p e) o₀ x)) (sym (same ∙ drawn-reader))
+                  (subst (Holds P _) (sym (ap (λ r. drawStore (s f W H l d p e) r x) z ∙ drawn-store y (o .to-draw) k))
+                  (holds-at f W H l (suc d) (enter f W H (suc l) (suc d)) P y (ready-enter f W H l (suc d)) (λ _. enter-holds f W H l P d 4 y is))),
+              λ c i. ap (λ r. drawArea (s f W H l d p e) r x (a .numbers) c) z ∙ ap (λ b. b c) (drawn-area y (o .to-draw) k)
+                  ∙ row-out f W H l d p e (o .due) (o .broad) P y is (a .numbers) c i,
             )
 
-        on : (m : ℕ) (t : Reader) → drawReply (s f base spare W H l d p e) o₀ ≡ gives (aRow m t) → (P : Rows) →
-            Holds P (s f base spare W H l d p e) x → Holds P t (drawStore (s f base spare W H l d p e) o₀ x)
-            × ((c : ℕ) → c < W .length → drawArea (s f base spare W H l d p e) o₀ x (a .numbers) c ≡ drawnAs base (partAt f W H P (suc l) 0 d c))
+        on : (m : ℕ) (t : Reader) → drawReply (s f W H l d p e) o₀ ≡ gives (aRow m t) → (P : Rows) →
+            Holds P (s f W H l d p e) x → Holds P t (drawStore (s f W H l d p e) o₀ x)
+            × ((c : ℕ) → c < W .length → drawArea (s f W H l d p e) o₀ x (a .numbers) c ≡ partAt f W H P (suc l) 0 d c)
         on m t r P h =
-            let k = heights-only (s f base spare W H l d p e) o₀ m t r in
+            let k = heights-only (s f W H l d p e) o₀ m t r in
             let o = drawing (h .ready) (λ z _. subst T (sym (ap (λ j. eqb j 0) (k .0)) ∙ z) tt)
             (λ z. omega (arith, k .0)) (λ z. omega (arith, k .0)) (λ z _. k .2 z) in
-            tried o (k .0) t (k .1) P h (settles (s f base spare W H l d p e) x) refl
+            tried o (k .0) t (k .1) P h (settles (s f W H l d p e) x) refl
 
-        not-fit : (o : Drawing) → o₀ ≡ 14 → (P : Rows) → Holds P (s f base spare W H l d p e) x → DrawnFits P (s f base spare W H l d p e) →
-            (u : Tried) → settles (s f base spare W H l d p e) x ≡ u → ⊥
+        not-fit : (o : Drawing) → o₀ ≡ 14 → (P : Rows) → Holds P (s f W H l d p e) x → DrawnFits P (s f W H l d p e) →
+            (u : Tried) → settles (s f W H l d p e) x ≡ u → ⊥
         not-fit o z P h due failed k = outcome-failed (outcome-of o P h failed k) (λ _. due)
         not-fit o z P h due (passed y) k = omega (arith, same-test (passed y) 14 z (o .asks) k, ask-passed y)
 
-        stopped : (t : Reader) → drawReply (s f base spare W H l d p e) o₀ ≡ impossible t → (P : Rows) → Holds P (s f base spare W H l d p e) x →
-            DrawnFits P (s f base spare W H l d p e) → ⊥
+        stopped : (t : Reader) → drawReply (s f W H l d p e) o₀ ≡ impossible t → (P : Rows) → Holds P (s f W H l d p e) x →
+            DrawnFits P (s f W H l d p e) → ⊥
         stopped t r P h due =
-            let z = drawn-fourteen (s f base spare W H l d p e) o₀ t r in
+            let z = drawn-fourteen (s f W H l d p e) o₀ t r in
             let o = drawing (h .ready) (λ _ y. subst T (sym (ap (λ j. eqb j 14) z) ∙ y) tt)
             (λ y. omega (arith, z)) (λ y. omega (arith, z)) (λ _ y. omega (arith, z, y)) in
-            not-fit o z P h due (settles (s f base spare W H l d p e) x) refl
+            not-fit o z P h due (settles (s f W H l d p e) x) refl
 
 -- ---- every state: one of no levels passes no question 1
 abbrev at-levels : ℕ → Reader → Reader
@@ -383,29 +368,27 @@ at-levels L s = record {
   band = s .band;
   ended = s .ended;
   filter = s .filter;
-  stop = s .stop;
-  spare = s .spare;
 }
 
 no-levels : (s : Reader) → countsFit (at-levels 0 s) ≡ true → ⊥
-unfolding countsFit countsInside within
-no-levels s all =
-    let a = both (within 1 maxWidth (s .width)) _ (both (countsInside (at-levels 0 s)) _ all .0) in
+unfolding countsFit within
+no-levels s h =
+    let a = both (within 1 maxWidth (s .width)) _ h in
     let c = both (within 1 maxHeight (s .height)) _ (a .1) in
     let k = both (isFilter (s .filter)) _ (c .1) in
     subst T (sym (k .1)) tt
 
 pub feed-counts : (s : Reader) (n m : ℕ) (x v : ℕ → ℤ) → (feedQuestion s n x m v ≡ 1 → ⊥) → (feedQuestion s n x m v ≡ 5 → ⊥) → countsFit s ≡ true
 unfolding feedQuestion
-feed-counts s n m x v f g = two-yes (countsFit s) (storeFits (needs s) n) _ (feedQuestion s n x m v) refl f g .0
+feed-counts s n m x v f g = two-yes (countsFit s) (storeFits (s .filter) (columns s) (s .levels) n) _ (feedQuestion s n x m v) refl f g .0
 
 pub draw-counts : (s : Reader) (n m : ℕ) (x : ℕ → ℤ) → (drawQuestion s n x m ≡ 1 → ⊥) → (drawQuestion s n x m ≡ 5 → ⊥) → countsFit s ≡ true
 unfolding drawQuestion
-draw-counts s n m x f g = two-yes (countsFit s) (storeFits (needs s) n) _ (drawQuestion s n x m) refl f g .0
+draw-counts s n m x f g = two-yes (countsFit s) (storeFits (s .filter) (columns s) (s .levels) n) _ (drawQuestion s n x m) refl f g .0
 
 -- nothing is needed of the store of a fresh reader
 fresh-holds : (f : ℕ) (W H : Side) (L : ℕ) (P : Rows) (y : ℕ → ℤ) → Holds P (fresh f W H L) y
-unfolding freshOver
+unfolding fresh
 fresh-holds f W H zero P y = record {
   ready = λ _. unfold enter dive needed in record {
     top = unfold waitsAt in refl;
@@ -417,7 +400,7 @@ fresh-holds f W H zero P y = record {
   before = λ _ k i q. absurd (omega (arith, i .inside));
   got = λ _ k i q c kept less. absurd (omega (arith, i .inside));
 }
-fresh-holds f W H (suc l) P y = holds-at f 0 0 W H l 0 (enter f W H (suc l) 0) P y (ready-enter f W H l 0) (λ _. first-holds f 0 W H l P y)
+fresh-holds f W H (suc l) P y = holds-at f W H l 0 (enter f W H (suc l) 0) P y (ready-enter f W H l 0) (λ _. first-holds f W H l P y)
 
 ready-only : (f : ℕ) (W H : Side) (L q : ℕ) (s : Reader) → setUpReply f W H L q ≡ gives s → s ≡ fresh f W H L
 unfolding setUpReply
@@ -441,8 +424,7 @@ feed-keeps s n m x v = at (s .levels)
   where
     at : (L : ℕ) → (let u = at-levels L s in FeedKeeps u v x (feedReply u (feedQuestion u n x m v)) (feedStore u (feedQuestion u n x m v) v x))
     at (suc l) =
-        feed-at (s .filter) (s .stop) (s .spare) (side (s .x) (s .width)) (side (s .y) (s .height)) l (s .drawn) (place (s .level) (s .back) (s .band))
-        (s .ended) n x
+        feed-at (s .filter) (side (s .x) (s .width)) (side (s .y) (s .height)) l (s .drawn) (place (s .level) (s .back) (s .band)) (s .ended) n x
         (record { size = m; numbers = v })
     at zero =
         let u = at-levels 0 s in
@@ -461,8 +443,7 @@ draw-keeps s n m x z = at (s .levels)
     at : (L : ℕ) → (let u = at-levels L s in
         DrawKeeps u x (drawReply u (drawQuestion u n x m)) (drawStore u (drawQuestion u n x m) x) (drawArea u (drawQuestion u n x m) x z))
     at (suc l) =
-        draw-at (s .filter) (s .stop) (s .spare) (side (s .x) (s .width)) (side (s .y) (s .height)) l (s .drawn) (place (s .level) (s .back) (s .band))
-        (s .ended) n x
+        draw-at (s .filter) (side (s .x) (s .width)) (side (s .y) (s .height)) l (s .drawn) (place (s .level) (s .back) (s .band)) (s .ended) n x
         (record { size = m; numbers = z })
     at zero =
         let u = at-levels 0 s in

@@ -1,4 +1,3 @@
-pub mod LimitedLaws
 pub mod RangeLaws
 pub mod SetLaws
 pub mod BandLaws
@@ -16,14 +15,9 @@ pub mod CallViews
 pub mod Outcomes
 pub mod Keeps
 pub mod Reached
-pub mod BaseLaws
 pub mod SetSteps
 pub mod Rebuilt
 pub mod Demand3
 pub mod AnyPast
 pub mod Played
 pub mod Surplus
-pub mod LastLaws
-pub mod StopLaws
-pub mod SizeLaws
-pub mod ByLevels

@@ -1,21 +1,20 @@
 -- What the sets that wait, a feed and a draw come to, for rows that the store holds. Assumes nothing.
 use mathlib.Core.Bool.{Bool, true}
 use mathlib.Core.Path.{_≡_, refl, sym, ap, subst, _∙_}
-use Prim.Native.Nat.{ℕ, zero, suc, _-_, _≤_, _<_}
+use Prim.Native.Nat.{ℕ, suc, _-_, _≤_, _<_}
 use native.Mathlib.Omega.{arith}
 use lib.IntN.{ℤ}
 use lib.Dec.{eqb}
 use borrow.Author.Tests.{lt-ltb, eqb-true}
 use Rattle.lifting.specs.Grid.{Side, count}
 use Rattle.lifting.specs.Halves.{fronted}
-use Rattle.lifting.specs.Filter.{Filter}
 use Rattle.wavelet.specs.Limits.{maxSample}
 use Rattle.wavelet.specs.Bands.{Band, LL, HL, LH, HH, code, across}
 use Rattle.wavelet.specs.Order.{rowName, setRow}
-use Rattle.wavelet.specs.Maps.{valueFits}
 use Rattle.wavelet.proofs.MapTheorems.{height-fits}
 use Rattle.wavelet.specs.Levels.{sideAt}
 use Rattle.wavelet.specs.View.{bandColumns}
+use Rattle.areas.specs.Areas.{height16}
 use Rattle.areas.proofs.HeightLaws.{height-kept}
 use Rattle.filters.specs.Filters.{filterOf}
 use Rattle.reader_steps.specs.Asked.{keptAt}
@@ -26,7 +25,6 @@ use Rattle.reader.specs.Machine.{settled, fedOn}
 use Rattle.reader.specs.Holds.{FeedDue}
 use Rattle.reader.specs.State.{next, settles, feeds}
 use Rattle.reader.specs.Calls.{heightRow}
-use Rattle.reader.specs.Limited.{shown, drawnAs}
 use Rattle.level.proofs.TriedRows.{Outcome, stops, goes, bind-outcome}
 use Rattle.reader_steps.proofs.CellLaws.{asked-has}
 use Rattle.reader.proofs.Holds.{by-outcome, Held, HeldAt, HeldNext, NextFits, FedHeld, settle-holds, fed-holds, height-made, height-fit}
@@ -38,20 +36,14 @@ outcome-failed (stops n) = n
 pub outcome-passed : {N : Type 0} {P : (ℕ → ℤ) → Type 0} (y : ℕ → ℤ) → Outcome N P (passed y) → P y
 outcome-passed _ (goes _ p) = p
 
--- a value that fits is drawn as it is, or limited
-shown-is : (F : Filter) (b : ℕ) (v : ℤ) → valueFits F b v ≡ true → shown b v ≡ drawnAs b v
-unfolding maxSample
-shown-is F zero v h = let fit = height-fits F v .0 h in height-kept v (fit .0) (fit .1)
-shown-is F (suc b) v h = refl
-
 -- the height row that is drawn
-pub row-out : (f base spare : ℕ) (W H : Side) (l d : ℕ) (p : Place) (e : Bool) → d < H .length → 0 < W .length → (P : Rows) (y : ℕ → ℤ) → Held f base W H l P
-    0 d 4 y →
-    (z : ℕ → ℤ) (c : ℕ) → c < W .length → fronted (W .length) (heightRow (here f base spare W H l d p e) y) z c ≡ drawnAs base (partAt f W H P (suc l) 0 d c)
-unfolding fronted heightRow
-row-out f base spare W H l d p e due wide P y h z c b =
-    rw (lt-ltb c (W .length) b) (ap (shown base) (height-made f base W H l P d y due wide h c b)
-    ∙ shown-is (filterOf f) base (partAt f W H P (suc l) 0 d c) (height-fit f base W H l P d y due wide h c b))
+pub row-out : (f : ℕ) (W H : Side) (l d : ℕ) (p : Place) (e : Bool) → d < H .length → 0 < W .length → (P : Rows) (y : ℕ → ℤ) → Held f W H l P 0 d 4 y →
+    (z : ℕ → ℤ) (c : ℕ) → c < W .length → fronted (W .length) (heightRow (here f W H l d p e) y) z c ≡ partAt f W H P (suc l) 0 d c
+unfolding fronted heightRow maxSample
+row-out f W H l d p e due wide P y h z c b =
+    let g = partAt f W H P (suc l) 0 in
+    let fit = height-fits (filterOf f) (g d c) .0 (height-fit f W H l P d y due wide h c b) in
+    rw (lt-ltb c (W .length) b) (ap height16 (height-made f W H l P d y due wide h c b) ∙ height-kept (g d c) (fit .0) (fit .1))
 
 -- a row that is kept stands among the bands by its name
 pub kept-last : (k l : ℕ) (c : Band) → keptAt (eqb (suc k) (suc l)) c ≡ true → c ≡ LL → k ≡ l
@@ -70,38 +62,35 @@ band-named f W H l P k HL r h = refl
 band-named f W H l P k LH r h = refl
 band-named f W H l P k HH r h = refl
 
-module _ (f base spare : ℕ) (W H : Side) (l d : ℕ) (p : Place) (level-le : p .level ≤ suc l) (ready : Ready f W H (suc l) d (at f W H l d p)) (P : Rows)
-    (x : ℕ → ℤ)
-    (held : HeldAt f base W H l P (at f W H l d p) x) where
+module _ (f : ℕ) (W H : Side) (l d : ℕ) (p : Place) (level-le : p .level ≤ suc l) (ready : Ready f W H (suc l) d (at f W H l d p)) (P : Rows) (x : ℕ → ℤ)
+    (held : HeldAt f W H l P (at f W H l d p) x) where
   pub settles-outcome : (e : Bool) (q : Spot) → nextOf f W H l d p ≡ q →
-      Outcome (NextFits f base W H l P d q) (HeldNext f base W H l P d q) (settles (here f base spare W H l d p e) x)
+      Outcome (NextFits f W H l P d q) (HeldNext f W H l P d q) (settles (here f W H l d p e) x)
   unfolding settles next
   settles-outcome e q z =
-      subst (λ u. Outcome (NextFits f base W H l P d u) (HeldNext f base W H l P d u)
-      (settled f base W H (suc l) (nextOf f W H l d p .level) (p .level) (at f W H l d p .set) x)) z
-      (settle-holds f base W H l P d (p .level) (at f W H l d p .set) (p .band) x level-le ready held)
+      subst (λ u. Outcome (NextFits f W H l P d u) (HeldNext f W H l P d u)
+      (settled f W H (suc l) (nextOf f W H l d p .level) (p .level) (at f W H l d p .set) x)) z
+      (settle-holds f W H l P d (p .level) (at f W H l d p .set) (p .band) x level-le ready held)
 
   pub feeds-worked : (e : Bool) (k n : ℕ) (c : Band) → Due f W H l d p k n c → (v : ℕ → ℤ) →
       ((i : ℕ) → i < bandColumns W (suc k) c → v i ≡ P (nameOf f W H l k n c) i) →
-      Outcome (FeedDue f base W H (suc l) P k n (code c)) (FedHeld f base W H l P k n (code c)) (feeds (here f base spare W H l d p e) v x)
+      Outcome (FeedDue f W H (suc l) P k n (code c)) (FedHeld f W H l P k n (code c)) (feeds (here f W H l d p e) v x)
   unfolding feeds settles next bandColumns
   feeds-worked e k n c o v row =
       let z : suc k - 1 ≡ k = omega arith in
       let ask = asked-has (eqb (suc k) (suc l)) (sideAt k W) (sideAt k H) n c (o .asks) in
       let row′ : (i : ℕ) → i < count (across c) (sideAt k W) → v i ≡ P (nameOf f W H l k n c) i = rw z at row in
       let named = band-named f W H l P k c (setRow (sideAt k H) c n) (ask .0) in
-      let set = subst (λ q. Outcome (NextFits f base W H l P d q) (HeldNext f base W H l P d q)
-      (settled f base W H (suc l) (q .level) (p .level) (at f W H l d p .set) x)) (o .is)
-      (settle-holds f base W H l P d (p .level) (at f W H l d p .set) (p .band) x level-le ready held) in
-      subst (λ q. Outcome (FeedDue f base W H (suc l) P k n (code c)) (FedHeld f base W H l P k n (code c))
-      (bind (settled f base W H (suc l) (q .level) (p .level) (at f W H l d p .set) x) (fedOn f base W H (suc l) (q .level) (q .set) (q .band) v)))
-      (sym (o .is))
-      (bind-outcome (settled f base W H (suc l) (suc k) (p .level) (at f W H l d p .set) x) _
+      let set = subst (λ q. Outcome (NextFits f W H l P d q) (HeldNext f W H l P d q)
+      (settled f W H (suc l) (q .level) (p .level) (at f W H l d p .set) x)) (o .is)
+      (settle-holds f W H l P d (p .level) (at f W H l d p .set) (p .band) x level-le ready held) in
+      subst (λ q. Outcome (FeedDue f W H (suc l) P k n (code c)) (FedHeld f W H l P k n (code c))
+      (bind (settled f W H (suc l) (q .level) (p .level) (at f W H l d p .set) x) (fedOn f W H (suc l) (q .level) (q .set) (q .band) v))) (sym (o .is))
+      (bind-outcome (settled f W H (suc l) (suc k) (p .level) (at f W H l d p .set) x) _
       (by-outcome _ _ _ _ _ (λ due. due .above) (λ y h. h) set)
-      (λ y h. fed-holds f base W H l P d k n c v y (omega (arith, o .below)) (o .ready) (λ i b. row′ i b ∙ ap (λ (w : ℕ → ℤ). w i) (sym named)) h))
+      (λ y h. fed-holds f W H l P d k n c v y (omega (arith, o .below)) (o .ready) (λ i b. row′ i b ∙ ap (λ (w : ℕ → ℤ). w i) (sym named)) h))
 
   pub feeds-outcome : (e : Bool) (k n : ℕ) (c : Band) → Due f W H l d p k n c → (v : ℕ → ℤ) →
       ((i : ℕ) → i < bandColumns W (suc k) c → v i ≡ P (nameOf f W H l k n c) i) →
-      Outcome (FeedDue f base W H (suc l) P k n (code c)) (HeldAt f base W H l P (beyond f W H (suc l) k n (code c)))
-      (feeds (here f base spare W H l d p e) v x)
+      Outcome (FeedDue f W H (suc l) P k n (code c)) (HeldAt f W H l P (beyond f W H (suc l) k n (code c))) (feeds (here f W H l d p e) v x)
   feeds-outcome e k n c o v row = by-outcome _ _ _ _ _ (λ due. due) (λ y q. q .0) (feeds-worked e k n c o v row)

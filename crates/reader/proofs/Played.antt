@@ -29,7 +29,6 @@ use Rattle.calls.specs.Lists as lists
 use Rattle.calls.proofs.AllLaws.{all-append, In, first, later, in-left, in-right, all-in, in-all}
 use Rattle.calls.proofs.ListLaws.{ever-append, final-append, events-append, events-length}
 use Rattle.calls.proofs.QuestionLaws.{asked-yes}
-use Rattle.filters.specs.Figures.{storeBy}
 use Rattle.filters.specs.Filters.{filterOf, isFilter}
 use Rattle.filters.proofs.Filters.{filter-laws}
 use Rattle.reader.specs.Answers.{row, drawNow, done, ended}
@@ -129,27 +128,27 @@ row-in-range f W H L g m y e = let p = exists-parts W H L (y .level) (y .band) (
         map-band-range (filterOf f) (filter-laws f) W H g m k (y .band) (y .row) i (rw z at r) (rw z at p)
 
 -- a set-up that passed was lent a store that is long enough
-pub set-up-room : (f : ℕ) (W H : Side) (L n : ℕ) → setUpQuestion f W H L n ≡ 0 → storeFits (storeBy f W L) n ≡ true
+pub set-up-room : (f : ℕ) (W H : Side) (L n : ℕ) → setUpQuestion f W H L n ≡ 0 → storeFits f W L n ≡ true
 unfolding setUpQuestion
 set-up-room f W H L n e =
     let a = asked-yes (within 1 maxWidth (W .length)) 1 _ e in
     let b = asked-yes (within 1 maxHeight (H .length)) 2 _ (a .1) in
     let k = asked-yes (isFilter f) 17 _ (b .1) in
     let c = asked-yes (within 1 (filterOf f .levels) L) 3 _ (k .1) in
-    asked-yes (storeFits (storeBy f W L) n) 4 _ (c .1) .0
+    asked-yes (storeFits f W L n) 4 _ (c .1) .0
 
 module _ (f : ℕ) (W H : Side) (L n : ℕ) (across : W .start ≤ maxOrigin) (down : H .start ≤ maxOrigin) (ok : setUpQuestion f W H L n ≡ 0) (rows : RowName → Area)
     (sized : Sized W H L rows) (outs : ℕ → Area) (room : (i : ℕ) → W .length ≤ outs i .size) (x : ℕ → ℤ) where
   abbrev w₀ : World
-  w₀ = freshWorld f 0 0 W H L x
+  w₀ = freshWorld f W H L x
 
   abbrev T₀ : List Step
   T₀ = steps (ahead f) W H L
 
-  room-for : storeFits (storeBy f W L) n ≡ true
+  room-for : storeFits f W L n ≡ true
   room-for = set-up-room f W H L n ok
 
-  claim : (cs : List Call) → Demand3 f 0 0 W H L (events cs w₀) (λ c. event c (final cs w₀))
+  claim : (cs : List Call) → Demand3 f W H L (events cs w₀) (λ c. event c (final cs w₀))
   claim cs = demand-3 f W H L n across down ok x cs .claim
 
   -- all went on so far, and each row fed is the one of that name
@@ -195,10 +194,10 @@ module _ (f : ℕ) (W H : Side) (L n : ℕ) (across : W .start ≤ maxOrigin) (d
 
   said-done : (cs : List Call) → event want (final cs w₀) ≡ wanted (gives done) → left T₀ (events cs w₀) ≡ []
   said-done cs z =
-      let w : _≡_ {A = Event} (wanted (gives (wantSays 0 W (endedBy (events cs w₀)) (left T₀ (events cs w₀))))) (wanted (gives done)) = sym (claim cs .wants)
+      let w : _≡_ {A = Event} (wanted (gives (wantSays W (endedBy (events cs w₀)) (left T₀ (events cs w₀))))) (wanted (gives done)) = sym (claim cs .wants)
       ∙ z in
-      let v : wantSays 0 W (endedBy (events cs w₀)) (left T₀ (events cs w₀)) ≡ done = cc in
-      done-only 0 W _ _ v .1
+      let v : wantSays W (endedBy (events cs w₀)) (left T₀ (events cs w₀)) ≡ done = cc in
+      done-only W _ _ v .1
 
   -- a call that is refused leaves too few turns
   too-few : (m : ℕ) (cs : List Call) (c : Call) (ps : List Call) → length (left T₀ (events cs w₀)) ≡ suc m → goesOn (event c (final cs w₀)) ≡ false →
@@ -308,12 +307,12 @@ module _ (f : ℕ) (W H : Side) (L n : ℕ) (across : W .start ≤ maxOrigin) (d
     wanted-row : (a : Area) (y : RowName) (t : List Step) → left T₀ es ≡ step.feed y ∷ t → answering n rows a (event want w) ≡ feed n (rows y) ∷ []
     unfolding answering asWanted wantSays
     wanted-row a y t head =
-        ap (answering n rows a) (claim cs .wants ∙ ap₂ (λ u v. wanted (gives (wantSays 0 W u v))) (fair .live) head)
+        ap (answering n rows a) (claim cs .wants ∙ ap₂ (λ u v. wanted (gives (wantSays W u v))) (fair .live) head)
         ∙ ap (λ c. feed n (rows (rowName (y .level) c (y .row))) ∷ []) (named-code (y .band))
 
     wanted-draw : (a : Area) (r : ℕ) (t : List Step) → left T₀ es ≡ step.draw r ∷ t → answering n rows a (event want w) ≡ draw n a ∷ []
     unfolding answering asWanted wantSays
-    wanted-draw a r t head = ap (answering n rows a) (claim cs .wants ∙ ap₂ (λ u v. wanted (gives (wantSays 0 W u v))) (fair .live) head)
+    wanted-draw a r t head = ap (answering n rows a) (claim cs .wants ∙ ap₂ (λ u v. wanted (gives (wantSays W u v))) (fair .live) head)
 
     -- the turn as a call more
     played-on : (m : ℕ) (c : Call) → answering n rows (outs m) (event want w) ≡ c ∷ [] →
@@ -346,9 +345,9 @@ module _ (f : ℕ) (W H : Side) (L n : ℕ) (across : W .start ≤ maxOrigin) (d
         (bad (refused-in c v _ e r) (too-few m cs c _ len (ap goesOn e ∙ off) (played-length n rows outs m (demand.next c w))) no-g)
 
   turned-as : (cs : List Call) → Fair (events cs w₀) → (y : RowName) (t : List Step) → left T₀ (events cs w₀) ≡ step.feed y ∷ t → (q : ℕ) →
-      feedAway f 0 W false (step.feed y ∷ t) (rows y) ≡ q → feedTurned f 0 W (storeBy f W L) (endedBy (events cs w₀)) (left T₀ (events cs w₀)) n (rows y) ≡ q
+      feedAway f W false (step.feed y ∷ t) (rows y) ≡ q → feedTurned f W L (endedBy (events cs w₀)) (left T₀ (events cs w₀)) n (rows y) ≡ q
   unfolding feedTurned
-  turned-as cs fair y t head q e = rw room-for (ap₂ (λ u v. feedAway f 0 W u v (rows y)) (fair .live) head ∙ e)
+  turned-as cs fair y t head q e = rw room-for (ap₂ (λ u v. feedAway f W u v (rows y)) (fair .live) head ∙ e)
 
   -- ---- turn after turn
   turn : (m : ℕ) (cs : List Call) → length (left T₀ (events cs w₀)) ≡ suc m → Fair (events cs w₀) →
@@ -357,15 +356,15 @@ module _ (f : ℕ) (W H : Side) (L n : ℕ) (across : W .start ≤ maxOrigin) (d
   turn m cs len fair ih = go (left T₀ (events cs w₀)) refl
     where
       at-draw : (r : ℕ) (t : List Step) → left T₀ (events cs w₀) ≡ step.draw r ∷ t →
-          Draws W (storeBy f W L) (endedBy (events cs w₀)) (left T₀ (events cs w₀)) n (outs m) (event (draw n (outs m)) (final cs w₀)) →
+          Draws f W L (endedBy (events cs w₀)) (left T₀ (events cs w₀)) n (outs m) (event (draw n (outs m)) (final cs w₀)) →
           Verdict (cs ++ played n rows outs (suc m) (final cs w₀))
       at-draw r t head d = says (d .says)
         where
-          gave : drawSays W (storeBy f W L) (endedBy (events cs w₀)) (left T₀ (events cs w₀)) n (outs m .size) ≡ gives (heights (W .length))
-          gave = ap₂ (λ u v. drawSays W (storeBy f W L) u v n (outs m .size)) (fair .live) head
+          gave : drawSays f W L (endedBy (events cs w₀)) (left T₀ (events cs w₀)) n (outs m .size) ≡ gives (heights (W .length))
+          gave = ap₂ (λ u v. drawSays f W L u v n (outs m .size)) (fair .live) head
               ∙ (unfold drawSays drawGives in rw (room-for, le-leb (W .length) (outs m .size) (room m)) refl)
 
-          says : OneOf (d .answer) (drawSays W (storeBy f W L) (endedBy (events cs w₀)) (left T₀ (events cs w₀)) n (outs m .size)) (refused 14) →
+          says : OneOf (d .answer) (drawSays f W L (endedBy (events cs w₀)) (left T₀ (events cs w₀)) n (outs m .size)) (refused 14) →
               Verdict (cs ++ played n rows outs (suc m) (final cs w₀))
           says (this e) =
               let on = drawn-goes cs fair (outs m) (d .after) r t head in
@@ -425,9 +424,9 @@ module _ (f : ℕ) (W H : Side) (L n : ℕ) (across : W .start ≤ maxOrigin) (d
   -- what the fair end comes to
   done-then : Fair (events all w₀) → left T₀ (events all w₀) ≡ [] → event want (final all w₀) ≡ wanted (gives done)
   unfolding wantSays
-  done-then fair over = claim all .wants ∙ ap₂ (λ u v. wanted (gives (wantSays 0 W u v))) (fair .live) over
+  done-then fair over = claim all .wants ∙ ap₂ (λ u v. wanted (gives (wantSays W u v))) (fair .live) over
 
-  has-all : Fair (events all w₀) → left T₀ (events all w₀) ≡ [] → (g : Grid) → HasFed f 0 W H L g (events all w₀) → HasAll f W H L g rows
+  has-all : Fair (events all w₀) → left T₀ (events all w₀) ≡ [] → (g : Grid) → HasFed f W H L g (events all w₀) → HasAll f W H L g rows
   unfolding bandRowsOf
   has-all fair over g has = record { are = λ y e. at y (names-in y (fedRows T₀ (events all w₀)) (in-fed y e)) }
     where
@@ -460,9 +459,9 @@ module _ (f : ℕ) (W H : Side) (L n : ℕ) (across : W .start ≤ maxOrigin) (d
 module _ (f : ℕ) (W H : Side) (L n : ℕ) (across : W .start ≤ maxOrigin) (down : H .start ≤ maxOrigin) (ok : setUpQuestion f W H L n ≡ 0) (rows : RowName → Area)
     (outs : ℕ → Area) (room : (i : ℕ) → W .length ≤ outs i .size) (x : ℕ → ℤ) where
   abbrev turnsOf : List Call
-  turnsOf = played n rows outs (length (steps (ahead f) W H L)) (freshWorld f 0 0 W H L x)
+  turnsOf = played n rows outs (length (steps (ahead f) W H L)) (freshWorld f W H L x)
 
-  pub played-holds : Played f W H L rows (events turnsOf (freshWorld f 0 0 W H L x)) (λ c. event c (final turnsOf (freshWorld f 0 0 W H L x)))
+  pub played-holds : Played f W H L rows (events turnsOf (freshWorld f W H L x)) (λ c. event c (final turnsOf (freshWorld f W H L x)))
   played-holds = record {
     map-back = λ g m h. let sized : Sized W H L rows = record { size = λ y e. h .are y e .size } in
         handed-back f W H L n across down ok rows sized outs room x g m h (verdict f W H L n across down ok rows sized outs room x);

@@ -1,10 +1,7 @@
 -- The questions, one after another: what each no and each yes says. Assumes nothing.
-use mathlib.Core.Path.{_≡_, refl, sym, ap, ap₂, _∙_}
-use mathlib.Core.List.{List, [], _∷_}
+use mathlib.Core.Path.{_≡_, refl, sym, ap, _∙_}
 use mathlib.Core.Bool.{Bool, true, false, not}
-use Prim.Native.Nat.{ℕ, _+_, _*_, _≤_, _<_, _-_, _^_}
-use native.Mathlib.Nat.{mul-le-mul}
-use native.Mathlib.Decide.{decLe}
+use Prim.Native.Nat.{ℕ, _*_, _≤_, _<_, _-_}
 use native.Mathlib.Omega.{arith}
 use lib.IntN.{ℤ}
 use lib.Dec.{leb, ltb, eqb}
@@ -12,19 +9,19 @@ use borrow.Author.Tests.{le-leb, lt-leb, lt-ltb, le-ltb, eq-eqb, ne-eqb, leb-tru
 use Rattle.numbers.specs.Signal.{pick, both}
 use Rattle.numbers.proofs.Sweep.{both as halves}
 use Rattle.lifting.specs.Grid.{Side}
-use Rattle.wavelet.specs.Limits.{maxWidth, maxHeight, maxLevels, maxOrigin}
+use Rattle.wavelet.specs.Limits.{maxWidth, maxHeight, maxOrigin}
 use Rattle.wavelet.specs.Questions.{ask, within}
 use Rattle.wavelet.proofs.LimitLaws.{width-small, height-small, origin-small}
 use Rattle.wavelet.proofs.QuestionLaws.{within-true, within-yes}
 use Rattle.wavelet.proofs.StoreLaws.{store-most}
 use Rattle.filters.specs.Filters.{filterOf, isFilter}
 use Rattle.filters.specs.Figures.{storeBy, anyBy, streamable}
-use Rattle.filters.proofs.FigureLaws.{levels-most, row-few}
-use Rattle.calls.proofs.QuestionLaws.{asked-yes, asks-no, asks-yes}
+use Rattle.filters.proofs.FigureLaws.{levels-most}
+use Rattle.calls.proofs.QuestionLaws.{asked-yes}
 use Rattle.reader.proofs.StoreLaws.{length-is}
 use Rattle.reader.specs.declared.Reader.{Reader}
-use Rattle.reader.specs.State.{columns, rows, needs, next, nextLength, unfinished, rowDue, drawDue}
-use Rattle.reader.specs.Questions.{countsInside, countsFit, stopFits, storeFits, runFits, setUpQuestion, sizeQuestion, stopQuestion, levelQuestion}
+use Rattle.reader.specs.State.{columns, rows, next, nextLength, unfinished, rowDue, drawDue}
+use Rattle.reader.specs.Questions.{countsFit, storeFits, runFits, setUpQuestion}
 use Rattle.reader_steps.specs.Sets.{ahead}
 use Rattle.reader.specs.Inside.{Counts, Small, storeQuestion, rowQuestion}
 
@@ -36,62 +33,42 @@ asked f W L = pick (streamable f W L) (storeBy f W L) 0
 pub levels-asked : (f m L : ℕ) (t u : Bool) → m ≡ filterOf f .levels → t ≡ within 1 m L → t ≡ u → within 1 (filterOf f .levels) L ≡ u
 levels-asked f m L t u em et eu = ap (λ i. within 1 i L) (sym em) ∙ sym et ∙ eu
 
--- few numbers are spare
-pub spare-room : (f j : ℕ) → j ≤ filterOf f .levels → (filterOf f .rows * maxWidth ≤ 2 ^ 16) × (j * (filterOf f .rows * maxWidth) ≤ 2 ^ 32)
-unfolding maxLevels maxWidth
-spare-room f j h =
-    let b = row-few f maxWidth in
-    let a = mul-le-mul {n₁ = j} {m₁ = filterOf f .rows * maxWidth} {n₂ = 5} {m₂ = 8 * maxWidth} (omega (arith, h, levels-most f)) b in
-    (omega (arith, b), omega (arith, a))
-
-spare-small : (f L j e : ℕ) → j ≤ filterOf f .levels - L → e ≤ j * (filterOf f .rows * maxWidth) → e ≤ 2 ^ 32
-spare-small f L j e h p = omega (arith, p, spare-room f j (omega arith) .1)
-
--- the test of a stop, r rows being kept and m the filter's levels
-pub stop-no : (f L j e m : ℕ) → m ≡ filterOf f .levels → m - L < j → false ≡ stopFits f L j e
-unfolding stopFits
-stop-no f L j e m em h = rw (lt-leb j (filterOf f .levels - L) (omega (arith, em)))
-
-pub stop-yes : (f L j e m r : ℕ) → m ≡ filterOf f .levels → j ≤ m - L → r ≡ filterOf f .rows → leb e (j * (r * maxWidth)) ≡ stopFits f L j e
-unfolding stopFits
-stop-yes f L j e m r em h er = rw (le-leb j (filterOf f .levels - L) (omega (arith, em)), er) refl
-
 -- ---- question 1
 module _ (s : Reader) where
-  pub counts-1 : within 1 maxWidth (s .width) ≡ false → false ≡ countsInside s
-  unfolding countsInside
+  pub counts-1 : within 1 maxWidth (s .width) ≡ false → false ≡ countsFit s
+  unfolding countsFit
   counts-1 a = rw a
 
   module _ (one : within 1 maxWidth (s .width) ≡ true) where
-    pub counts-2 : within 1 maxHeight (s .height) ≡ false → false ≡ countsInside s
-    unfolding countsInside
+    pub counts-2 : within 1 maxHeight (s .height) ≡ false → false ≡ countsFit s
+    unfolding countsFit
     counts-2 b = rw (one, b)
 
     module _ (two : within 1 maxHeight (s .height) ≡ true) where
-      pub counts-f : isFilter (s .filter) ≡ false → false ≡ countsInside s
-      unfolding countsInside
+      pub counts-f : isFilter (s .filter) ≡ false → false ≡ countsFit s
+      unfolding countsFit
       counts-f b = rw (one, two, b)
 
-      pub counts-3 : isFilter (s .filter) ≡ true → within 1 (filterOf (s .filter) .levels) (s .levels) ≡ false → false ≡ countsInside s
-      unfolding countsInside
+      pub counts-3 : isFilter (s .filter) ≡ true → within 1 (filterOf (s .filter) .levels) (s .levels) ≡ false → false ≡ countsFit s
+      unfolding countsFit
       counts-3 k b = rw (one, two, k, b)
 
       module _ (known : isFilter (s .filter) ≡ true) (three : within 1 (filterOf (s .filter) .levels) (s .levels) ≡ true) where
-        pub counts-x : maxOrigin < s .x → false ≡ countsInside s
-        unfolding countsInside
+        pub counts-x : maxOrigin < s .x → false ≡ countsFit s
+        unfolding countsFit
         counts-x h = rw (one, two, known, three, lt-leb (s .x) maxOrigin h)
 
-        pub counts-y : s .x ≤ maxOrigin → maxOrigin < s .y → false ≡ countsInside s
-        unfolding countsInside
+        pub counts-y : s .x ≤ maxOrigin → maxOrigin < s .y → false ≡ countsFit s
+        unfolding countsFit
         counts-y g h = rw (one, two, known, three, le-leb (s .x) maxOrigin g, lt-leb (s .y) maxOrigin h)
 
         module _ (across : s .x ≤ maxOrigin) (down : s .y ≤ maxOrigin) where
-          pub counts-4 : s .height < s .drawn → false ≡ countsInside s
-          unfolding countsInside
+          pub counts-4 : s .height < s .drawn → false ≡ countsFit s
+          unfolding countsFit
           counts-4 h = rw (one, two, known, three, le-leb (s .x) maxOrigin across, le-leb (s .y) maxOrigin down, lt-leb (s .drawn) (s .height) h)
 
-          pub counts-5 : s .drawn ≤ s .height → s .levels < s .level → false ≡ countsInside s
-          unfolding countsInside
+          pub counts-5 : s .drawn ≤ s .height → s .levels < s .level → false ≡ countsFit s
+          unfolding countsFit
           counts-5 g h = rw (
             one,
             two,
@@ -103,8 +80,8 @@ module _ (s : Reader) where
             lt-leb (s .level) (s .levels) h,
           )
 
-          pub counts-6 : s .drawn ≤ s .height → s .level ≤ s .levels → 4 < s .band → false ≡ countsInside s
-          unfolding countsInside
+          pub counts-6 : s .drawn ≤ s .height → s .level ≤ s .levels → 4 < s .band → false ≡ countsFit s
+          unfolding countsFit
           counts-6 g h b = rw (
             one,
             two,
@@ -117,8 +94,8 @@ module _ (s : Reader) where
             lt-leb (s .band) 4 b,
           )
 
-          pub counts-7 : s .drawn ≤ s .height → s .level ≤ s .levels → s .band ≤ 4 → leb (s .back) (2 * ahead (s .filter) - 1) ≡ countsInside s
-          unfolding countsInside
+          pub counts-7 : s .drawn ≤ s .height → s .level ≤ s .levels → s .band ≤ 4 → leb (s .back) (2 * ahead (s .filter) - 1) ≡ countsFit s
+          unfolding countsFit
           counts-7 g h b = rw (
             one,
             two,
@@ -131,25 +108,9 @@ module _ (s : Reader) where
             le-leb (s .band) 4 b,
           )
 
-  pub inside-levels : countsInside s ≡ true → s .levels ≤ filterOf (s .filter) .levels
-  unfolding countsInside
-  inside-levels e =
-      let a = halves (within 1 maxWidth (s .width)) _ e in
-      let b = halves (within 1 maxHeight (s .height)) _ (a .1) in
-      let k = halves (isFilter (s .filter)) _ (b .1) in
-      within-true 1 (filterOf (s .filter) .levels) (s .levels) (halves (within 1 (filterOf (s .filter) .levels) (s .levels)) _ (k .1) .0) .1
-
-  -- the stop as well
-  pub counts-all : (t u : Bool) → countsInside s ≡ t → stopFits (s .filter) (s .levels) (s .stop) (s .spare) ≡ u → both t u ≡ countsFit s
-  unfolding countsFit
-  counts-all t u a b = ap₂ both (sym a) (sym b)
-
   pub counts-in : countsFit s ≡ true → Counts s
-  unfolding countsFit countsInside stopFits
-  counts-in all =
-      let z = halves (countsInside s) _ all in
-      let e = z .0 in
-      let y = halves (leb (s .stop) (filterOf (s .filter) .levels - s .levels)) _ (z .1) in
+  unfolding countsFit
+  counts-in e =
       let a = halves (within 1 maxWidth (s .width)) _ e in
       let b = halves (within 1 maxHeight (s .height)) _ (a .1) in
       let k = halves (isFilter (s .filter)) _ (b .1) in
@@ -171,13 +132,6 @@ module _ (s : Reader) where
         at = leb-true _ _ (g .0);
         next = leb-true _ _ (b′ .0);
         behind = leb-true _ _ (b′ .1);
-        stops = omega (
-          arith,
-          leb-true (s .stop) (filterOf (s .filter) .levels - s .levels) (y .0),
-          within-true 1 (filterOf (s .filter) .levels) (s .levels)
-              (c .0),
-        );
-        spares = spare-small (s .filter) (s .levels) (s .stop) (s .spare) (leb-true _ _ (y .0)) (leb-true _ _ (y .1));
       }
 
   pub counts-length : Counts s → (m : ℕ) → m ≡ asked (s .filter) (columns s) (s .levels) → m ≡ storeBy (s .filter) (columns s) (s .levels)
@@ -247,102 +201,6 @@ module _ (f : ℕ) (W H : Side) (L n : ℕ) where
       let d = asked-yes (leb (storeBy f W L) n) 4 _ (c .1) in
       (a .0, c .0, leb-true _ _ (d .0), b .0, k .0)
 
--- ---- 2, 3, 18 and 4
-module _ (f w h L : ℕ) where
-  pub size-2 : within 1 maxWidth w ≡ false → 2 ≡ sizeQuestion f w h L
-  unfolding sizeQuestion
-  size-2 a = rw a
-
-  module _ (one : within 1 maxWidth w ≡ true) where
-    pub size-3 : within 1 maxHeight h ≡ false → 3 ≡ sizeQuestion f w h L
-    unfolding sizeQuestion
-    size-3 b = rw (one, b)
-
-    module _ (two : within 1 maxHeight h ≡ true) where
-      pub size-18 : isFilter f ≡ false → 18 ≡ sizeQuestion f w h L
-      unfolding sizeQuestion
-      size-18 b = rw (one, two, b)
-
-      pub size-4 : isFilter f ≡ true → within 1 (filterOf f .levels) L ≡ false → 4 ≡ sizeQuestion f w h L
-      unfolding sizeQuestion
-      size-4 k b = rw (one, two, k, b)
-
-      pub size-0 : isFilter f ≡ true → within 1 (filterOf f .levels) L ≡ true → 0 ≡ sizeQuestion f w h L
-      unfolding sizeQuestion
-      size-0 k b = rw (one, two, k, b)
-
--- ---- a set-up with a stop j
-module _ (f : ℕ) (W H : Side) (L j n : ℕ) where
-  abbrev stopAsks : List (Bool × ℕ)
-  stopAsks = (within 1 maxWidth (W .length), 1) ∷ (within 1 maxHeight (H .length), 2) ∷ (isFilter f, 17) ∷ (within 1 (filterOf f .levels) L, 3) ∷ []
-
-  pub stop-sizes : (q : ℕ) → q ≡ sizeQuestion f (W .length) (H .length) L → (q ≡ 0 → ⊥) → q ≡ stopQuestion f W H L j n
-  unfolding sizeQuestion stopQuestion
-  stop-sizes q e away = e ∙ asks-no stopAsks _ (λ z. away (e ∙ z))
-
-  module _ (sizes : sizeQuestion f (W .length) (H .length) L ≡ 0) where
-    rest-is : ask (within 1 L j) 17 (ask (storeFits (storeBy f W L) n) 5 0) ≡ stopQuestion f W H L j n
-    unfolding sizeQuestion stopQuestion
-    rest-is = asks-yes stopAsks _ sizes
-
-    pub size-in : (within 1 maxWidth (W .length) ≡ true) × (within 1 maxHeight (H .length) ≡ true) × (isFilter f ≡ true)
-        × (within 1 (filterOf f .levels) L ≡ true)
-    unfolding sizeQuestion
-    size-in =
-        let a = asked-yes (within 1 maxWidth (W .length)) 1 _ sizes in
-        let b = asked-yes (within 1 maxHeight (H .length)) 2 _ (a .1) in
-        let k = asked-yes (isFilter f) 17 _ (b .1) in
-        (a .0, b .0, k .0, asked-yes (within 1 (filterOf f .levels) L) 3 _ (k .1) .0)
-
-    pub stop-17 : within 1 L j ≡ false → 17 ≡ stopQuestion f W H L j n
-    stop-17 h = (rw h) ∙ rest-is
-
-    module _ (stops : within 1 L j ≡ true) where
-      stop-length : (m : ℕ) → m ≡ asked f W L → m ≡ storeBy f W L
-      stop-length m e = e ∙ length-is f W L (size-in .2) (size-in .0) (size-in .3)
-
-      pub stop-5 : (m : ℕ) → m ≡ asked f W L → n < m → 5 ≡ stopQuestion f W H L j n
-      unfolding storeFits
-      stop-5 m e h = (rw (stops, lt-leb (storeBy f W L) n (omega (arith, stop-length m e)))) ∙ rest-is
-
-      pub stop-0 : (m : ℕ) → m ≡ asked f W L → m ≤ n → 0 ≡ stopQuestion f W H L j n
-      unfolding storeFits
-      stop-0 m e h = (rw (stops, le-leb (storeBy f W L) n (omega (arith, stop-length m e)))) ∙ rest-is
-
-  -- one that passes
-  pub stop-in : stopQuestion f W H L j n ≡ 0 →
-      (within 1 maxWidth (W .length) ≡ true) × (within 1 maxHeight (H .length) ≡ true) × (isFilter f ≡ true) × (within 1 (filterOf f .levels) L ≡ true)
-      × (within 1 L j ≡ true) × (storeBy f W L ≤ n)
-  unfolding stopQuestion storeFits
-  stop-in e =
-      let a = asked-yes (within 1 maxWidth (W .length)) 1 _ e in
-      let b = asked-yes (within 1 maxHeight (H .length)) 2 _ (a .1) in
-      let k = asked-yes (isFilter f) 17 _ (b .1) in
-      let c = asked-yes (within 1 (filterOf f .levels) L) 3 _ (k .1) in
-      let i = asked-yes (within 1 L j) 16 _ (c .1) in
-      let d = asked-yes (leb (storeBy f W L) n) 4 _ (i .1) in
-      (a .0, b .0, k .0, c .0, i .0, leb-true _ _ (d .0))
-
--- ---- the size of a level
-module _ (f w h L k : ℕ) where
-  abbrev sizeAsks : List (Bool × ℕ)
-  sizeAsks = (within 1 maxWidth w, 1) ∷ (within 1 maxHeight h, 2) ∷ (isFilter f, 17) ∷ (within 1 (filterOf f .levels) L, 3) ∷ []
-
-  pub level-sizes : (q : ℕ) → q ≡ sizeQuestion f w h L → (q ≡ 0 → ⊥) → q ≡ levelQuestion f w h L k
-  unfolding sizeQuestion levelQuestion
-  level-sizes q e away = e ∙ asks-no sizeAsks _ (λ z. away (e ∙ z))
-
-  module _ (sizes : sizeQuestion f w h L ≡ 0) where
-    one-is : ask (within 1 L k) 17 0 ≡ levelQuestion f w h L k
-    unfolding sizeQuestion levelQuestion
-    one-is = asks-yes sizeAsks _ sizes
-
-    pub level-17 : within 1 L k ≡ false → 17 ≡ levelQuestion f w h L k
-    level-17 e = (rw e) ∙ one-is
-
-    pub level-0 : within 1 L k ≡ true → 0 ≡ levelQuestion f w h L k
-    level-0 e = (rw e) ∙ one-is
-
 -- ---- questions 1, 5 and 9
 module _ (s : Reader) (n : ℕ) where
   pub store-1 : countsFit s ≡ false → 1 ≡ storeQuestion s n
@@ -350,11 +208,11 @@ module _ (s : Reader) (n : ℕ) where
   store-1 a = rw a
 
   module _ (one : countsFit s ≡ true) where
-    pub store-5 : storeFits (needs s) n ≡ false → 5 ≡ storeQuestion s n
+    pub store-5 : storeFits (s .filter) (columns s) (s .levels) n ≡ false → 5 ≡ storeQuestion s n
     unfolding storeQuestion
     store-5 h = rw (one, h)
 
-    module _ (two : storeFits (needs s) n ≡ true) where
+    module _ (two : storeFits (s .filter) (columns s) (s .levels) n ≡ true) where
       pub store-9 : s .ended ≡ true → 9 ≡ storeQuestion s n
       unfolding storeQuestion
       store-9 f = rw (one, two, f)
@@ -365,37 +223,24 @@ module _ (s : Reader) (n : ℕ) where
 
   -- question 5 by the most that a store needs, and by what this one needs
   module _ (counts : Counts s) where
-    pub store-any : both (leb (s .width) maxWidth) (leb (anyBy (s .filter) (s .width)) n) ≡ true → true ≡ storeFits
-        (storeBy (s .filter) (columns s) (s .levels)) n
+    pub store-any : both (leb (s .width) maxWidth) (leb (anyBy (s .filter) (s .width)) n) ≡ true → true ≡ storeFits (s .filter) (columns s) (s .levels) n
     unfolding storeFits
     store-any h =
         let room = leb-true (anyBy (s .filter) (s .width)) n (halves (leb (s .width) maxWidth) _ h .1) in
         let most = store-most (filterOf (s .filter) .rows) (columns s) (s .levels) (counts .few) in
         sym (le-leb (storeBy (s .filter) (columns s) (s .levels)) n (omega (arith, room, most)))
 
-    pub store-own : (m : ℕ) → m ≡ asked (s .filter) (columns s) (s .levels) → leb m n ≡ storeFits (storeBy (s .filter) (columns s) (s .levels)) n
+    pub store-own : (m : ℕ) → m ≡ asked (s .filter) (columns s) (s .levels) → leb m n ≡ storeFits (s .filter) (columns s) (s .levels) n
     unfolding storeFits
     store-own m e = ap (λ (i : ℕ). leb i n) (counts-length s counts m e)
 
-  -- the spare numbers first
-  pub store-less : n < s .spare → false ≡ storeFits (needs s) n
-  unfolding storeFits
-  store-less h = sym (lt-leb (needs s) n (omega arith))
-
-  pub store-past : s .spare ≤ n → storeFits (storeBy (s .filter) (columns s) (s .levels)) (n - s .spare) ≡ storeFits (needs s) n
-  unfolding storeFits
-  store-past h = elim (decLe (needs s) n) [
-    | yes p ↦ le-leb (storeBy (s .filter) (columns s) (s .levels)) (n - s .spare) (omega arith) ∙ sym (le-leb (needs s) n p)
-    | no p ↦ lt-leb (storeBy (s .filter) (columns s) (s .levels)) (n - s .spare) (omega arith) ∙ sym (lt-leb (needs s) n (omega arith))
-  ]
-
-  pub store-in : storeQuestion s n ≡ 0 → Counts s × (storeBy (s .filter) (columns s) (s .levels) ≤ n) × (s .ended ≡ false) × (needs s ≤ n)
+  pub store-in : storeQuestion s n ≡ 0 → Counts s × (storeBy (s .filter) (columns s) (s .levels) ≤ n) × (s .ended ≡ false)
   unfolding storeQuestion storeFits
-  store-in e = go (countsFit s) (leb (needs s) n) (s .ended) refl refl refl e
+  store-in e = go (countsFit s) (leb (storeBy (s .filter) (columns s) (s .levels)) n) (s .ended) refl refl refl e
     where
-      go : (a b c : Bool) → countsFit s ≡ a → leb (needs s) n ≡ b → s .ended ≡ c → ask a 1 (ask b 5 (ask (not c) 9 0)) ≡ 0 →
-          Counts s × (storeBy (s .filter) (columns s) (s .levels) ≤ n) × (s .ended ≡ false) × (needs s ≤ n)
-      go true true false ea eb ec e = let p = leb-true (needs s) n eb in (counts-in s ea, omega (arith, p), ec, p)
+      go : (a b c : Bool) → countsFit s ≡ a → leb (storeBy (s .filter) (columns s) (s .levels)) n ≡ b → s .ended ≡ c → ask a 1 (ask b 5 (ask (not c) 9 0)) ≡ 0 →
+          Counts s × (storeBy (s .filter) (columns s) (s .levels) ≤ n) × (s .ended ≡ false)
+      go true true false ea eb ec e = (counts-in s ea, leb-true _ _ eb, ec)
       go true true true ea eb ec e = absurd (omega arith)
       go true false c ea eb ec e = absurd (omega arith)
       go false b c ea eb ec e = absurd (omega arith)
@@ -417,11 +262,11 @@ module _ (s : Reader) (m : ℕ) (v : ℕ → ℤ) where
       row-13 e = rw (lt-ltb (s .drawn) (s .height) more, lt-ltb 0 (next s .level) some, ne-eqb m (nextLength s) e)
 
       module _ (long : m ≡ nextLength s) where
-        pub row-7 : runFits (s .filter) (s .stop + next s .level) m v ≡ false → 7 ≡ rowQuestion s m v
+        pub row-7 : runFits (s .filter) (next s .level) m v ≡ false → 7 ≡ rowQuestion s m v
         unfolding rowQuestion rowDue unfinished
         row-7 e = rw (lt-ltb (s .drawn) (s .height) more, lt-ltb 0 (next s .level) some, eq-eqb m (nextLength s) long, e)
 
-        pub row-0 : runFits (s .filter) (s .stop + next s .level) m v ≡ true → 0 ≡ rowQuestion s m v
+        pub row-0 : runFits (s .filter) (next s .level) m v ≡ true → 0 ≡ rowQuestion s m v
         unfolding rowQuestion rowDue unfinished
         row-0 e = rw (lt-ltb (s .drawn) (s .height) more, lt-ltb 0 (next s .level) some, eq-eqb m (nextLength s) long, e)
 
@@ -430,7 +275,7 @@ module _ (s : Reader) (m : ℕ) (v : ℕ → ℤ) where
   row-asked e = go (unfinished s) (ltb 0 (next s .level)) (eqb m (nextLength s)) refl refl e
     where
       go : (a b c : Bool) → ltb 0 (next s .level) ≡ b → eqb m (nextLength s) ≡ c →
-          ask (both a b) 8 (ask c 13 (ask (runFits (s .filter) (s .stop + next s .level) m v) 7 0)) ≡ 0 →
+          ask (both a b) 8 (ask c 13 (ask (runFits (s .filter) (next s .level) m v) 7 0)) ≡ 0 →
           (0 < next s .level) × (m ≡ nextLength s)
       go true true true eb ec e = (ltb-true _ _ eb, eqb-true _ _ ec)
       go true true false eb ec e = absurd (omega arith)

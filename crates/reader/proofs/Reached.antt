@@ -41,7 +41,6 @@ use Rattle.level.specs.Tried.{Tried, failed, passed, fits, memory}
 use Rattle.reader.specs.Holds.{FeedDue}
 use Rattle.reader.specs.State as state
 use Rattle.reader.specs.State.{settles, feeds, drawDue, fedReader, drawnReader, endedReader}
-use Rattle.reader.specs.Limited.{drawnAs}
 use Rattle.reader.specs.Questions.{runFits, feedQuestion, drawQuestion}
 use Rattle.reader.specs.Calls.{feedReply, feedStore, storeAfter, drawReply, drawStore, drawArea, heightRow}
 use Rattle.reader.specs.Demand3.{Call, want, feed, draw, Event, fed, drew, World, event, goesOn, leftBy, ends, FedRow, fedAs, fedBy, drawnBy, said}
@@ -103,7 +102,7 @@ beyond-le f W H l k n c h b = go (lastOfSet W H (suc l) k n c) (makes f (sideAt 
     go true false = begins-le f W H l k (suc n) h
     go false u = (omega arith, omega arith)
 
-module _ (f base spare : ℕ) (W H : Side) (l : ℕ) where
+module _ (f : ℕ) (W H : Side) (l : ℕ) where
   -- what is known of a row fed: it is a row of the plane, its run has its length and is in range
   pub record Good (fr : FedRow) : Type 0 where
     pub k : ℕ
@@ -112,16 +111,16 @@ module _ (f base spare : ℕ) (W H : Side) (l : ℕ) where
     pub kept : keptAt (eqb (suc k) (suc l)) (fr .row .band) ≡ true
     pub in-rows : fr .row .row < count (down (fr .row .band)) (sideAt k H)
     pub size : fr .run .size ≡ bandColumns W (fr .row .level) (fr .row .band)
-    pub range-of : (i : ℕ) → i < fr .run .size → natAbs (fr .run .numbers i) ≤ range (filterOf f) (base + fr .row .level)
+    pub range-of : (i : ℕ) → i < fr .run .size → natAbs (fr .run .numbers i) ≤ range (filterOf f) (fr .row .level)
 
   -- what holds of rows that have those fed
   pub record Agrees (P : Rows) (d : ℕ) (p : Place) (e : Bool) (x : ℕ → ℤ) (ds : List (ℕ → ℤ)) : Type 0 where
-    pub fit : (r c : ℕ) → r < d → c < W .length → valueFits (filterOf f) base (partAt f W H P (suc l) 0 r c) ≡ true
-    pub shows : (r c : ℕ) → r < d → c < W .length → getD ds r (λ _. pos 0) c ≡ drawnAs base (partAt f W H P (suc l) 0 r c)
-    pub has : (r : ℕ) → r < d → (k : ℕ) → Live f base W H l P k → (m : ℕ) → m ≤ needed f H 0 r (suc k)
+    pub fit : (r c : ℕ) → r < d → c < W .length → valueFits (filterOf f) 0 (partAt f W H P (suc l) 0 r c) ≡ true
+    pub shows : (r c : ℕ) → r < d → c < W .length → getD ds r (λ _. pos 0) c ≡ partAt f W H P (suc l) 0 r c
+    pub has : (r : ℕ) → r < d → (k : ℕ) → Live f W H l P k → (m : ℕ) → m ≤ needed f H 0 r (suc k)
         → SetHasBy (filterOf f) (ahead f) (sideAt k W) (sideAt k H) (bandsAt f W H P (suc l) k) m
-    pub holds : e ≡ false → d < H .length → HeldAt f base W H l P (at f W H l d p) x
-    pub refuses : e ≡ true → Fits f base W H l P → ⊥
+    pub holds : e ≡ false → d < H .length → HeldAt f W H l P (at f W H l d p) x
+    pub refuses : e ≡ true → Fits f W H l P → ⊥
 
   pub record Kept (d : ℕ) (p : Place) (e : Bool) (x : ℕ → ℤ) (t : List Step) (fs : List FedRow) (ds : List (ℕ → ℤ)) : Type 0 where
     pub drawn-le : d ≤ H .length
@@ -135,9 +134,9 @@ module _ (f base spare : ℕ) (W H : Side) (l : ℕ) where
     pub names : e ≡ false → namesOf fs ++ bandRowsOf t ≡ bandRowsOf (steps (ahead f) W H (suc l))
     pub rows : (P : Rows) → All (HasFedRow W P) fs → Agrees P d p e x ds
 
-  module _ (lim : Limits f base spare W H l) where
+  module _ (lim : Limits f W H l) where
     abbrev pub world : ℕ → Place → Bool → (ℕ → ℤ) → World
-    world d p e x = record { reader = here f base spare W H l d p e; store = x }
+    world d p e x = record { reader = here f W H l d p e; store = x }
 
     wide : 0 < W .length
     wide = within-true 1 maxWidth (W .length) (lim .wide) .0
@@ -148,7 +147,7 @@ module _ (f base spare : ℕ) (W H : Side) (l : ℕ) where
 
     module _ (d : ℕ) (p : Place) (e : Bool) (x : ℕ → ℤ) (t : List Step) (fs : List FedRow) (ds : List (ℕ → ℤ)) (kept : Kept d p e x t fs ds) where
       abbrev s : Reader
-      s = here f base spare W H l d p e
+      s = here f W H l d p e
 
       viewed : View f W H l d p t
       viewed = subst (View f W H l d p) (kept .left) (view f W H l d p (kept .level-le) (kept .ready))
@@ -173,7 +172,7 @@ module _ (f base spare : ℕ) (W H : Side) (l : ℕ) where
         -- the row that is fed
         module _ (k u : ℕ) (c : Band) (live : e ≡ false) (o : Due f W H l d p k u c)
             (head : t ≡ step.feed (nameOf f W H l k u c) ∷ stepsLeft f W H l d (beyond f W H (suc l) k u (code c)))
-            (long : a .size ≡ bandColumns W (suc k) c) (in-range : runFits f (base + suc k) (a .size) (a .numbers) ≡ true) where
+            (long : a .size ≡ bandColumns W (suc k) c) (in-range : runFits f (suc k) (a .size) (a .numbers) ≡ true) where
           abbrev fr : FedRow
           fr = record { row = nameOf f W H l k u c; run = a }
 
@@ -200,10 +199,9 @@ module _ (f base spare : ℕ) (W H : Side) (l : ℕ) where
 
           -- what the feed comes to, for a grid that has the row too
           outcome-is : (P : Rows) → All (HasFedRow W P) (fs ++ (fr ∷ [])) →
-              Outcome (FeedDue f base W H (suc l) P k u (code c)) (HeldAt f base W H l P (beyond f W H (suc l) k u (code c))) (feeds s (a .numbers) x)
+              Outcome (FeedDue f W H (suc l) P k u (code c)) (HeldAt f W H l P (beyond f W H (suc l) k u (code c))) (feeds s (a .numbers) x)
           outcome-is P has =
-              feeds-outcome f base spare W H l d p (kept .level-le) (kept .ready (o .due)) P x (kept .rows P (all-left fs (fr ∷ []) has) .holds live (o .due))
-              e k u c o
+              feeds-outcome f W H l d p (kept .level-le) (kept .ready (o .due)) P x (kept .rows P (all-left fs (fr ∷ []) has) .holds live (o .due)) e k u c o
               (a .numbers) (all-last fs fr has)
 
           -- 14
@@ -228,8 +226,8 @@ module _ (f base spare : ℕ) (W H : Side) (l : ℕ) where
                   shows = old .shows;
                   has = old .has;
                   holds = λ z _. absurd (true≢false z);
-                  refuses = λ _ all. outcome-failed (subst (Outcome (FeedDue f base W H (suc l) P k u (code c)) _) z₁ (outcome-is P has))
-                      (due-fitting f base W H l P all d k u (code c) inside (o .ready));
+                  refuses = λ _ all. outcome-failed (subst (Outcome (FeedDue f W H (suc l) P k u (code c)) _) z₁ (outcome-is P has))
+                      (due-fitting f W H l P all d k u (code c) inside (o .ready));
                 };
           }
 
@@ -272,8 +270,8 @@ module _ (f base spare : ℕ) (W H : Side) (l : ℕ) where
                   fit = old .fit;
                   shows = old .shows;
                   has = old .has;
-                  holds = λ _ _. subst (λ r. HeldAt f base W H l P r y) (sym same-spot)
-                      (outcome-passed y (subst (Outcome (FeedDue f base W H (suc l) P k u (code c)) _) z₁ (outcome-is P has)));
+                  holds = λ _ _. subst (λ r. HeldAt f W H l P r y) (sym same-spot)
+                      (outcome-passed y (subst (Outcome (FeedDue f W H (suc l) P k u (code c)) _) z₁ (outcome-is P has)));
                   refuses = λ z. absurd (false≢true z);
                 };
           }
@@ -290,9 +288,9 @@ module _ (f base spare : ℕ) (W H : Side) (l : ℕ) where
               reached d stored false y (stepsLeft f W H l d to) (fs ++ (fr ∷ [])) ds (on-kept y z₁))
 
         feed-reached : FedTo (feedQuestion s n x (a .size) (a .numbers))
-        feed-reached = go (feed-view f base spare W H l lim d p (kept .drawn-le) (kept .level-le) (kept .band-le) (kept .back-le) n e t x a viewed)
+        feed-reached = go (feed-view f W H l lim d p (kept .drawn-le) (kept .level-le) (kept .band-le) (kept .back-le) n e t x a viewed)
           where
-            go : FeedView f base spare W H l lim d p (kept .drawn-le) (kept .level-le) (kept .band-le) (kept .back-le) n e t x a
+            go : FeedView f W H l lim d p (kept .drawn-le) (kept .level-le) (kept .band-le) (kept .back-le) n e t x a
                 → FedTo (feedQuestion s n x (a .size) (a .numbers))
             go (feed-away q _ z fr at) = subst FedTo (sym at) (fed-away q z fr)
             go (feed-onward k u c live o head long in-range _ at) = subst FedTo (sym at) (tried (feeds s (a .numbers) x) refl)
@@ -320,9 +318,8 @@ module _ (f base spare : ℕ) (W H : Side) (l : ℕ) where
 
         module _ (live : e ≡ false) (due : d < H .length) (at-height : nextOf f W H l d p ≡ spot 0 0 4)
             (head : t ≡ step.draw d ∷ stepsLeft f W H l (suc d) (enter f W H (suc l) (suc d))) (to-draw : drawDue s ≡ true) where
-          settles-is : (P : Rows) → All (HasFedRow W P) fs → Outcome (NextFits f base W H l P d (spot 0 0 4)) (Held f base W H l P 0 d 4) (settles s x)
-          settles-is P has = settles-outcome f base spare W H l d p (kept .level-le) (kept .ready due) P x (kept .rows P has .holds live due) e (spot 0 0 4)
-              at-height
+          settles-is : (P : Rows) → All (HasFedRow W P) fs → Outcome (NextFits f W H l P d (spot 0 0 4)) (Held f W H l P 0 d 4) (settles s x)
+          settles-is P has = settles-outcome f W H l d p (kept .level-le) (kept .ready due) P x (kept .rows P has .holds live due) e (spot 0 0 4) at-height
 
           -- 14
           abbrev zeros-drawn : ℕ → ℤ
@@ -346,8 +343,8 @@ module _ (f base spare : ℕ) (W H : Side) (l : ℕ) where
                   shows = old .shows;
                   has = old .has;
                   holds = λ z _. absurd (true≢false z);
-                  refuses = λ _ all. outcome-failed (subst (Outcome (NextFits f base W H l P d (spot 0 0 4)) _) z₁ (settles-is P has))
-                      (λ _. sets-fitting f base W H l P all 0 d);
+                  refuses = λ _ all. outcome-failed (subst (Outcome (NextFits f W H l P d (spot 0 0 4)) _) z₁ (settles-is P has))
+                      (λ _. sets-fitting f W H l P all 0 d);
                 };
           }
 
@@ -379,8 +376,8 @@ module _ (f base spare : ℕ) (W H : Side) (l : ℕ) where
               | no end ↦ left-done f W H l (suc d) _ (omega (arith, end)) ∙ sym (left-done f W H l (suc d) _ (omega (arith, end)))
             ]
 
-            out-is : (P : Rows) → Held f base W H l P 0 d 4 y → (c : ℕ) → c < W .length → out c ≡ drawnAs base (partAt f W H P (suc l) 0 d c)
-            out-is P h = row-out f base spare W H l d p e due wide P y h (a .numbers)
+            out-is : (P : Rows) → Held f W H l P 0 d 4 y → (c : ℕ) → c < W .length → out c ≡ partAt f W H P (suc l) 0 d c
+            out-is P h = row-out f W H l d p e due wide P y h (a .numbers)
 
             -- the rows drawn before, and it
             row-at : (g : Grid) → ((c : ℕ) → c < W .length → out c ≡ g d c) → ((r c : ℕ) → r < d → c < W .length → getD ds r (λ _. pos 0) c ≡ g r c) →
@@ -406,19 +403,19 @@ module _ (f base spare : ℕ) (W H : Side) (l : ℕ) where
               names = λ _. names-same ∙ kept .names live;
               rows = λ P has.
                   let old = kept .rows P has in
-                  let h : Held f base W H l P 0 d 4 y = outcome-passed y (subst (Outcome (NextFits f base W H l P d (spot 0 0 4)) _) made (settles-is P has)) in
+                  let h : Held f W H l P 0 d 4 y = outcome-passed y (subst (Outcome (NextFits f W H l P d (spot 0 0 4)) _) made (settles-is P has)) in
                   record {
                     fit = λ r c b q. elim (ℕ-discrete r d) [
-                      | yes z ↦ rw z (height-fit f base W H l P d y due wide h c q)
+                      | yes z ↦ rw z (height-fit f W H l P d y due wide h c q)
                       | no z ↦ old .fit r c (omega (arith, z)) q
                     ];
-                    shows = row-at (λ r c. drawnAs base (partAt f W H P (suc l) 0 r c)) (out-is P h) (old .shows);
+                    shows = row-at (partAt f W H P (suc l) 0) (out-is P h) (old .shows);
                     has = λ r b k live m q. elim (ℕ-discrete r d) [
-                      | yes z ↦ sets-tested f base W H l P d 4 y h k live m (subst (λ i. m ≤ needed f H 0 i (suc k)) z q)
+                      | yes z ↦ sets-tested f W H l P d 4 y h k live m (subst (λ i. m ≤ needed f H 0 i (suc k)) z q)
                       | no z ↦ old .has r (omega (arith, z)) k live m q
                     ];
-                    holds = λ _ more. subst (λ r. HeldAt f base W H l P r y)
-                        (sym (ready-back f W H (suc l) (suc d) into more (ready-enter f W H l (suc d) more) .0)) (enter-holds f base W H l P d 4 y h);
+                    holds = λ _ more. subst (λ r. HeldAt f W H l P r y)
+                        (sym (ready-back f W H (suc l) (suc d) into more (ready-enter f W H l (suc d) more) .0)) (enter-holds f W H l P d 4 y h);
                     refuses = λ z. absurd (false≢true z);
                   };
             }
@@ -432,10 +429,9 @@ module _ (f base spare : ℕ) (W H : Side) (l : ℕ) where
                 (reached (suc d) kept-as false y (stepsLeft f W H l (suc d) into) fs (ds ++ (out ∷ [])) given-kept)
 
         draw-reached : DrawnTo (drawQuestion s n x (a .size))
-        draw-reached = go (draw-view f base spare W H l lim d p (kept .drawn-le) (kept .level-le) (kept .band-le) (kept .back-le) n e t x a viewed)
+        draw-reached = go (draw-view f W H l lim d p (kept .drawn-le) (kept .level-le) (kept .band-le) (kept .back-le) n e t x a viewed)
           where
-            go : DrawView f base spare W H l lim d p (kept .drawn-le) (kept .level-le) (kept .band-le) (kept .back-le) n e t x a → DrawnTo
-                (drawQuestion s n x (a .size))
+            go : DrawView f W H l lim d p (kept .drawn-le) (kept .level-le) (kept .band-le) (kept .back-le) n e t x a → DrawnTo (drawQuestion s n x (a .size))
             go (draw-away q z fr _ at) = subst DrawnTo (sym at) (drawn-away q z fr)
             go (draw-idle live z _ at) = subst DrawnTo (sym at) (drawn-idle z)
             go (draw-onward live due at-height head to-draw _ at) = subst DrawnTo (sym at) (tried (settles s x) refl)

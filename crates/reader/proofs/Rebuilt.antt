@@ -18,8 +18,9 @@ use Rattle.lifting.specs.Line.{Half, lo, hi}
 use Rattle.lifting.specs.Grid.{Side, count}
 use Rattle.wavelet.specs.Limits.{range}
 use Rattle.wavelet.specs.Bands.{Grid, Band, LL, HL, LH, HH, code, across, down, subband, levelBack, levelHas}
+use Rattle.wavelet.specs.Maps.{IsMap}
 use Rattle.wavelet.specs.Order.{RowName, rowName, sameName, times}
-use Rattle.wavelet.proofs.Bridge.{range-small}
+use Rattle.wavelet.proofs.Bridge.{range-small, map-words, map-doubles, map-level-has}
 use Rattle.wavelet.specs.Levels.{next, sideAt, approximation, levelBand}
 use Rattle.wavelet.specs.View.{bandColumns}
 use Rattle.wavelet.proofs.LevelTheory.{OnCells, OnBands, Same, SameBands, level-back-fits, level-back-reads, level-has-reads, words-back-forward}
@@ -31,14 +32,13 @@ use Rattle.filters.proofs.Filters.{filter-laws}
 use Rattle.reader_steps.specs.Asked.{named}
 use Rattle.reader.specs.Rebuilt.{Rows, bandsBy, rebuilt, bandsAt, partAt}
 use Rattle.reader_steps.specs.Places.{hasCells}
-use Rattle.reader.specs.Demand3.{IsPart, FedRow}
+use Rattle.reader.specs.Demand3.{FedRow}
 use Rattle.reader_steps.proofs.Looks.{named-code}
 use Rattle.reader_steps.proofs.CellLaws.{Empty, wide, high, cells-not}
-use Rattle.reader.proofs.BaseLaws.{part-words, part-doubles, part-level-has}
 use Rattle.reader.proofs.Reached.{namesOf, Good}
 
 -- ---- the rows of a map
-module _ (f base : ℕ) (W H : Side) (g : Grid) (m : IsPart (filterOf f) base (W .length) (H .length) g) (l : ℕ) (few : base + suc l ≤ filterOf f .levels) where
+module _ (f : ℕ) (W H : Side) (g : Grid) (m : IsMap (W .length) (H .length) g) (l : ℕ) (few : suc l ≤ filterOf f .levels) where
   -- the rows of its plane, over words
   abbrev pub rowsOf : Rows
   rowsOf x i = levelBand (filterOf f) wrap32 W H g (x .level) (x .band) (x .row) i
@@ -54,12 +54,12 @@ module _ (f base : ℕ) (W H : Side) (g : Grid) (m : IsPart (filterOf f) base (W
   bands-same k a e LH r c p q = refl
   bands-same k a e HH r c p q = refl
 
-  level-same : (k : ℕ) (a : Grid) → base + suc k ≤ filterOf f .levels → Same (sideAt (suc k) W) (sideAt (suc k) H) a (part (suc k)) →
+  level-same : (k : ℕ) (a : Grid) → suc k ≤ filterOf f .levels → Same (sideAt (suc k) W) (sideAt (suc k) H) a (part (suc k)) →
       Same (sideAt k W) (sideAt k H) (levelBack (filterOf f) wrap32 (sideAt k W) (sideAt k H) (bandsBy rowsOf (suc k) a)) (part k)
   level-same k a h e r c p q =
       level-back-reads (filterOf f) (filter-laws f) wrap32 (sideAt k W) (sideAt k H) _ _ (bands-same k a e) r c p q
-      ∙ words-back-forward (filterOf f) (filter-laws f) (sideAt k W) (sideAt k H) (part k) (part-words f base W H g m k
-      (omega arith)) (part-doubles f base W H g m k h) r c p q
+      ∙ words-back-forward (filterOf f) (filter-laws f) (sideAt k W) (sideAt k H) (part k) (map-words (filterOf f) (filter-laws f) W H g m k
+      (omega arith)) (map-doubles (filterOf f) (filter-laws f) W H g m k h) r c p q
 
   back-same : (i k : ℕ) → k + i ≡ suc l → Same (sideAt k W) (sideAt k H) (rebuilt f W H rowsOf i k) (part k)
   unfolding rebuilt
@@ -72,7 +72,7 @@ module _ (f base : ℕ) (W H : Side) (g : Grid) (m : IsPart (filterOf f) base (W
   pub bands-have : (k : ℕ) → k ≤ l → levelHas (filterOf f) (sideAt k W) (sideAt k H) (bandsAt f W H rowsOf (suc l) k) ≡ true
   bands-have k h =
       level-has-reads (filterOf f) (filter-laws f) (sideAt k W) (sideAt k H) _ _ (bands-same k _ (back-same (suc l - suc k) (suc k) (omega arith)))
-      ∙ unfold levelBand in part-level-has f base W H g m k (omega arith)
+      ∙ unfold levelBand in map-level-has (filterOf f) (filter-laws f) W H g m k (omega arith)
 
 no-cell : (h : Half) (S : Side) → S .length ≡ 0 → (i : ℕ) → i < count h S → ⊥
 unfolding count
@@ -181,18 +181,17 @@ found f (g ∷ fs) (later i) h = go (sameName (f .row) (g .row)) h (found f fs i
 zero-fits : SFits w32 (pos 0)
 zero-fits = abs-fits (pos 0) 0 (omega arith) (omega arith)
 
-pub lookup-words : (f base spare : ℕ) (W H : Side) (l : ℕ) → base + suc l ≤ filterOf f .levels → (fs : List FedRow) → All (Good f base spare W H l) fs →
-    (x : RowName) (i : ℕ) →
+pub lookup-words : (f : ℕ) (W H : Side) (l : ℕ) → suc l ≤ filterOf f .levels → (fs : List FedRow) → All (Good f W H l) fs → (x : RowName) (i : ℕ) →
     i < bandColumns W (x .level) (x .band) →
     SFits w32 (lookup fs x i)
 unfolding lookup
-lookup-words f base spare W H l few [] all-none x i p = zero-fits
-lookup-words f base spare W H l few (u ∷ fs) (all-more g gs) x i p = go (sameName x (u .row)) refl (lookup-words f base spare W H l few fs gs x i p)
+lookup-words f W H l few [] all-none x i p = zero-fits
+lookup-words f W H l few (u ∷ fs) (all-more g gs) x i p = go (sameName x (u .row)) refl (lookup-words f W H l few fs gs x i p)
   where
     go : (t : Bool) → sameName x (u .row) ≡ t → SFits w32 (lookup fs x i) → SFits w32 (pick t (u .run .numbers) (lookup fs x) i)
     go true e ih =
         let z = same-name x (u .row) e in
         let q : i < u .run .size = rw (g .size) (subst (λ y. i < bandColumns W (y .level) (y .band)) z p) in
-        abs-fits _ (range (filterOf f) (base + u .row .level))
-        (range-small (filterOf f) (filter-laws f) (base + u .row .level) (omega (arith, g .level, g .inside))) (g .range-of i q)
+        abs-fits _ (range (filterOf f) (u .row .level))
+        (range-small (filterOf f) (filter-laws f) (u .row .level) (omega (arith, g .level, g .inside))) (g .range-of i q)
     go false e ih = ih

@@ -7,7 +7,7 @@
 use mathlib.Core.Path.{_≡_, refl}
 use mathlib.Core.Bool.{Bool, true, false, not}
 use mathlib.Core.Logic.{_↔_}
-use Prim.Native.Nat.{ℕ, _+_, _≤_, _<_}
+use Prim.Native.Nat.{ℕ, _≤_, _<_}
 use native.Mathlib.Omega.{arith}
 use lib.IntN.{ℤ, natAbs}
 use lib.Dec.{leb, eqb}
@@ -19,30 +19,16 @@ use Rattle.wavelet.specs.Questions.{within}
 use Rattle.wavelet.specs.Asks.{Width, Height, Known, Levels, needed, largest, ReaderSetUpAsks}
 use Rattle.wavelet.proofs.AskLaws.{went, passed, asked, shape-went, shape-passed, width-exactly, height-exactly}
 use Rattle.filters.specs.Filters.{filterOf, isFilter}
-use Rattle.filters.specs.Figures.{storeBy}
 use Rattle.filters.proofs.PlainFigures.{known-exactly, levels-exactly, store-exactly, range-is}
 use Rattle.level.specs.Tried.{fits}
 use Rattle.reader.specs.declared.Reader.{Reader}
-use Rattle.reader.specs.State.{columns, needs, next, nextLength, rowDue, feeds}
+use Rattle.reader.specs.State.{columns, next, nextLength, rowDue, feeds}
 use Rattle.reader.specs.Questions.{countsFit, storeFits, runFits, setUpQuestion, feedQuestion}
 use Rattle.reader.specs.Plain.{FeedAsks}
 
-pub store-fits-exactly : (f : ℕ) (W : Side) (L n : ℕ) → storeFits (storeBy f W L) n ≡ true ↔ needed f W L ≤ n
+pub store-fits-exactly : (f : ℕ) (W : Side) (L n : ℕ) → storeFits f W L n ≡ true ↔ needed f W L ≤ n
 unfolding storeFits
 store-fits-exactly f W L n = store-exactly f W L n
-
--- e numbers more
-needed-is : (f : ℕ) (W : Side) (L : ℕ) → needed f W L ≡ storeBy f W L
-needed-is f W L =
-    let a = store-exactly f W L (needed f W L) .1 (omega arith) in
-    let b = store-exactly f W L (storeBy f W L) .0 (le-leb (storeBy f W L) (storeBy f W L) (omega arith)) in
-    omega (arith, leb-true (storeBy f W L) (needed f W L) a, b)
-
-pub spare-fits-exactly : (f e : ℕ) (W : Side) (L n : ℕ) → storeFits (e + storeBy f W L) n ≡ true ↔ e + needed f W L ≤ n
-unfolding storeFits
-spare-fits-exactly f e W L n =
-    let z = needed-is f W L in
-    (λ h. omega (arith, z, leb-true (e + storeBy f W L) n h), λ h. le-leb (e + storeBy f W L) n (omega (arith, z)))
 
 module _ (f : ℕ) (W H : Side) (L n : ℕ) where
   pub set-up-asks : ReaderSetUpAsks f W H L n (setUpQuestion f W H L n)
@@ -52,7 +38,7 @@ module _ (f : ℕ) (W H : Side) (L n : ℕ) where
       (asked (within 1 maxHeight (H .length)) _ (height-exactly (H .length))
       (asked (isFilter f) _ (known-exactly f)
       (asked (within 1 (filterOf f .levels) L) _ (levels-exactly f L)
-      (asked (storeFits (storeBy f W L) n) _ (store-fits-exactly f W L n) refl))))
+      (asked (storeFits f W L n) _ (store-fits-exactly f W L n) refl))))
 
   pub set-up-passes : setUpQuestion f W H L n ≡ 0 ↔ Width (W .length) × Height (H .length) × Known f × Levels f L × (needed f W L ≤ n)
   set-up-passes = (
@@ -77,9 +63,9 @@ pub feed-asks : (s : Reader) (n : ℕ) (x : ℕ → ℤ) (m : ℕ) (v : ℕ → 
 unfolding feedQuestion
 feed-asks s n x m v =
     asked (countsFit s) _ (λ e. e, λ e. e)
-    (asked (storeFits (needs s) n) _ (spare-fits-exactly (s .filter) (s .spare) (columns s) (s .levels) n)
+    (asked (storeFits (s .filter) (columns s) (s .levels) n) _ (store-fits-exactly (s .filter) (columns s) (s .levels) n)
     (asked (not (s .ended)) _ (not-exactly (s .ended))
     (asked (rowDue s) _ (λ e. e, λ e. e)
     (asked (eqb m (nextLength s)) _ (eqb-true m (nextLength s), eq-eqb m (nextLength s))
-    (asked (runFits (s .filter) (s .stop + next s .level) m v) _ (run-exactly (s .filter) (s .stop + next s .level) m v)
+    (asked (runFits (s .filter) (next s .level) m v) _ (run-exactly (s .filter) (next s .level) m v)
     (asked (fits (feeds s v x)) _ (λ e. e, λ e. e) refl))))))

@@ -20,7 +20,7 @@ use Rattle.level.specs.Tried.{Tried, passed, bind, onto, memory}
 use Rattle.reader.specs.Store.{stretchAt, from, behind, zeroed, hasSet, fedAt, workedAt}
 use Rattle.reader_steps.specs.Places.{lastOfSet}
 use Rattle.reader.specs.Machine.{settled, finished, fedOn}
-use Rattle.reader.specs.State.{columns, rows, needs, spotNow, next, settles, feeds, drawDue}
+use Rattle.reader.specs.State.{columns, rows, spotNow, next, settles, feeds, drawDue}
 use Rattle.reader.specs.Questions.{setUpQuestion, feedQuestion, drawQuestion}
 use Rattle.reader.specs.Calls.{setUpStore, storeAfter, feedStore, drawStore}
 use Rattle.areas.proofs.AreaLaws.{front-rest}
@@ -35,7 +35,7 @@ use Rattle.reader.proofs.QuestionLaws.{counts-in}
 use Rattle.reader.proofs.Keeps.{feed-counts, draw-counts}
 
 -- ---- in the store
-module _ (f base : ℕ) (W H : Side) (L : ℕ) where
+module _ (f : ℕ) (W H : Side) (L : ℕ) where
   abbrev N : ℕ
   N = storeBy f W L
 
@@ -55,34 +55,34 @@ module _ (f base : ℕ) (W H : Side) (L : ℕ) where
             behind-past b x y j (omega arith) ∙ a .same (j - b) (omega arith) ∙ from-at b x (j - b) ∙ ap x back;
       })
 
-  worked-at-past : (k n : ℕ) (x : ℕ → ℤ) → k < L → Keeps N x (workedAt f base W H L k n x)
+  worked-at-past : (k n : ℕ) (x : ℕ → ℤ) → k < L → Keeps N x (workedAt f W H L k n x)
   unfolding workedAt
   worked-at-past k n x h = go (hasSet (sideAt k W) (sideAt k H) n)
     where
       go : (t : Bool) → Keeps N x (pick t
-          (onto (behind (stretchAt f W k) x) (backOf f .work (eqb (suc k) L) (base + k) (sideAt k W) (sideAt k H) n (from (stretchAt f W k) x))) (passed x))
-      go true = put-past k x _ h (back-worked f (base + k) (sideAt k W) (sideAt k H) (eqb (suc k) L) n (from (stretchAt f W k) x))
+          (onto (behind (stretchAt f W k) x) (backOf f .work (eqb (suc k) L) k (sideAt k W) (sideAt k H) n (from (stretchAt f W k) x))) (passed x))
+      go true = put-past k x _ h (back-worked f k (sideAt k W) (sideAt k H) (eqb (suc k) L) n (from (stretchAt f W k) x))
       go false = goes (kept-none N x)
 
-  settled-past : (to k n : ℕ) (x : ℕ → ℤ) → k ≤ L → Keeps N x (settled f base W H L to k n x)
+  settled-past : (to k n : ℕ) (x : ℕ → ℤ) → k ≤ L → Keeps N x (settled f W H L to k n x)
   unfolding settled
   settled-past to zero n x h = goes (kept-none N x)
   settled-past to (suc k) n x h = go (ltb to (suc k)) (λ y. settled-past to k (waiting f H k n) y (omega arith))
     where
-      go : (t : Bool) → ((y : ℕ → ℤ) → Keeps N y (settled f base W H L to k (waiting f H k n) y)) →
-          Keeps N x (pick t (bind (workedAt f base W H L k n x) (settled f base W H L to k (waiting f H k n))) (passed x))
+      go : (t : Bool) → ((y : ℕ → ℤ) → Keeps N y (settled f W H L to k (waiting f H k n) y)) →
+          Keeps N x (pick t (bind (workedAt f W H L k n x) (settled f W H L to k (waiting f H k n))) (passed x))
       go true ih = bound N x _ _ (worked-at-past k n x (omega arith)) ih
       go false ih = goes (kept-none N x)
 
-  finished-past : (k n c : ℕ) (x : ℕ → ℤ) → k < L → Keeps N x (finished f base W H L k n c x)
+  finished-past : (k n c : ℕ) (x : ℕ → ℤ) → k < L → Keeps N x (finished f W H L k n c x)
   unfolding finished
   finished-past k n c x h = go (lastOfSet W H L k n c)
     where
-      go : (t : Bool) → Keeps N x (pick t (workedAt f base W H L k n x) (passed x))
+      go : (t : Bool) → Keeps N x (pick t (workedAt f W H L k n x) (passed x))
       go true = worked-at-past k n x h
       go false = goes (kept-none N x)
 
-  fed-past : (k n c : ℕ) (v x : ℕ → ℤ) → k ≤ L → Keeps N x (fedOn f base W H L k n c v x)
+  fed-past : (k n c : ℕ) (v x : ℕ → ℤ) → k ≤ L → Keeps N x (fedOn f W H L k n c v x)
   unfolding fedOn
   fed-past zero n c v x h = goes (kept-none N x)
   fed-past (suc k) n c v x h =
@@ -94,31 +94,31 @@ module _ (f base : ℕ) (W H : Side) (L : ℕ) where
 module _ (s : Reader) (deep : s .level ≤ s .levels) where
   settles-past : (x : ℕ → ℤ) → Keeps (storeBy (s .filter) (columns s) (s .levels)) x (settles s x)
   unfolding settles
-  settles-past x = settled-past (s .filter) (s .stop) (columns s) (rows s) (s .levels) (next s .level) (s .level) (spotNow s .set) x deep
+  settles-past x = settled-past (s .filter) (columns s) (rows s) (s .levels) (next s .level) (s .level) (spotNow s .set) x deep
 
   feeds-past : (v x : ℕ → ℤ) → Keeps (storeBy (s .filter) (columns s) (s .levels)) x (feeds s v x)
   unfolding feeds
   feeds-past v x =
       bound (storeBy (s .filter) (columns s) (s .levels)) x (settles s x) _ (settles-past x)
-      (λ y. fed-past (s .filter) (s .stop) (columns s) (rows s) (s .levels) (next s .level) (next s .set) (next s .band) v y (omega (arith, near s .within)))
+      (λ y. fed-past (s .filter) (columns s) (rows s) (s .levels) (next s .level) (next s .set) (next s .band) v y (omega (arith, near s .within)))
 
 remembered : (n : ℕ) (x : ℕ → ℤ) (t : Tried) → Keeps n x t → (j : ℕ) → n ≤ j → memory x t j ≡ x j
 unfolding memory
 remembered n x _ stops j p = refl
 remembered n x _ (goes a) j p = a .same j p
 
-zeroed-past : (n : ℕ) (x : ℕ → ℤ) (j : ℕ) → n ≤ j → zeroed n x j ≡ x j
+zeroed-past : (f : ℕ) (W : Side) (L : ℕ) (x : ℕ → ℤ) (j : ℕ) → storeBy f W L ≤ j → zeroed f W L x j ≡ x j
 unfolding zeroed
-zeroed-past n x j p = front-rest n (λ _. pos 0) x j p
+zeroed-past f W L x j p = front-rest (storeBy f W L) (λ _. pos 0) x j p
 
 -- y is what stands there where the call passed
-after-past : (s : Reader) (q : ℕ) (y x : ℕ → ℤ) (j : ℕ) → needs s ≤ j → (q ≡ 0 → y j ≡ x j) → storeAfter s q y x j ≡ x j
+after-past : (s : Reader) (q : ℕ) (y x : ℕ → ℤ) (j : ℕ) → storeBy (s .filter) (columns s) (s .levels) ≤ j → (q ≡ 0 → y j ≡ x j) → storeAfter s q y x j ≡ x j
 unfolding storeAfter
 after-past s q y x j p yes′ = go (eqb q 0) refl (eqb q 14)
   where
-    go : (t : Bool) → eqb q 0 ≡ t → (u : Bool) → pick t y (pick u (zeroed (needs s) x) x) j ≡ x j
+    go : (t : Bool) → eqb q 0 ≡ t → (u : Bool) → pick t y (pick u (zeroed (s .filter) (columns s) (s .levels) x) x) j ≡ x j
     go true e u = yes′ (eqb-true q 0 e)
-    go false e true = zeroed-past (needs s) x j p
+    go false e true = zeroed-past (s .filter) (columns s) (s .levels) x j p
     go false e false = refl
 
 -- ---- the calls
@@ -126,12 +126,12 @@ pub set-up-surplus : (f : ℕ) (W H : Side) (L n : ℕ) (x : ℕ → ℤ) (j : �
 unfolding setUpStore
 set-up-surplus f W H L n x j p = go (eqb (setUpQuestion f W H L n) 0)
   where
-    go : (t : Bool) → pick t (zeroed (storeBy f W L) x) x j ≡ x j
-    go true = zeroed-past (storeBy f W L) x j p
+    go : (t : Bool) → pick t (zeroed f W L x) x j ≡ x j
+    go true = zeroed-past f W L x j p
     go false = refl
 
 -- a feed of m numbers v on a store of n numbers
-pub feed-surplus : (s : Reader) (n m : ℕ) (x v : ℕ → ℤ) (j : ℕ) → needs s ≤ j →
+pub feed-surplus : (s : Reader) (n m : ℕ) (x v : ℕ → ℤ) (j : ℕ) → storeBy (s .filter) (columns s) (s .levels) ≤ j →
     feedStore s (feedQuestion s n x m v) v x j ≡ x j
 unfolding feedStore
 feed-surplus s n m x v j p = after-past s (feedQuestion s n x m v) (memory x (feeds s v x)) x j p passes
@@ -139,10 +139,10 @@ feed-surplus s n m x v j p = after-past s (feedQuestion s n x m v) (memory x (fe
     passes : feedQuestion s n x m v ≡ 0 → memory x (feeds s v x) j ≡ x j
     passes e =
         let c = counts-in s (feed-counts s n m x v (λ z. omega (arith, e, z)) (λ z. omega (arith, e, z))) in
-        remembered (storeBy (s .filter) (columns s) (s .levels)) x (feeds s v x) (feeds-past s (c .at) v x) j (omega arith)
+        remembered (storeBy (s .filter) (columns s) (s .levels)) x (feeds s v x) (feeds-past s (c .at) v x) j p
 
 -- a draw into an area of m heights
-pub draw-surplus : (s : Reader) (n m : ℕ) (x : ℕ → ℤ) (j : ℕ) → needs s ≤ j →
+pub draw-surplus : (s : Reader) (n m : ℕ) (x : ℕ → ℤ) (j : ℕ) → storeBy (s .filter) (columns s) (s .levels) ≤ j →
     drawStore s (drawQuestion s n x m) x j ≡ x j
 unfolding drawStore
 draw-surplus s n m x j p = after-past s (drawQuestion s n x m) (pick (drawDue s) (memory x (settles s x)) x) x j p passes
@@ -153,5 +153,5 @@ draw-surplus s n m x j p = after-past s (drawQuestion s n x m) (pick (drawDue s)
         go : (t : Bool) → pick t (memory x (settles s x)) x j ≡ x j
         go true =
             let c = counts-in s (draw-counts s n m x (λ z. omega (arith, e, z)) (λ z. omega (arith, e, z))) in
-            remembered (storeBy (s .filter) (columns s) (s .levels)) x (settles s x) (settles-past s (c .at) x) j (omega arith)
+            remembered (storeBy (s .filter) (columns s) (s .levels)) x (settles s x) (settles-past s (c .at) x) j p
         go false = refl

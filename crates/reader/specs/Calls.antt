@@ -1,5 +1,4 @@
--- What each call answers of a reader with levels to work out, and what stands in each lent area afterwards. q is the number of the question that turns the
--- call away, 0 if none does.
+-- What each call answers, and what stands in each lent area afterwards. q is the number of the question that turns the call away, 0 if none does.
 use mathlib.Core.Bool.{false}
 use Prim.Native.Nat.{ℕ}
 use lib.IntN.{ℤ}
@@ -8,19 +7,18 @@ use Rattle.numbers.specs.Signal.{pick}
 use Rattle.lifting.specs.Halves.{fronted}
 use Rattle.lifting.specs.Grid.{Side}
 use Rattle.reader.specs.declared.Reader.{Reader}
+use Rattle.areas.specs.Areas.{height16}
 use Rattle.level.specs.Tried.{memory}
-use Rattle.filters.specs.Figures.{storeBy}
 use Rattle.synthesis.specs.Back.{backOf}
-use Rattle.reader.specs.Limited.{shown}
 use Rattle.reader.specs.Store.{zeroed}
 use Rattle.reader.specs.Answers.{Reply, gives, refused, impossible, Want, Handed, aRow, nothing}
 use Rattle.reader_steps.specs.Places.{placeOf, enter}
-use Rattle.reader.specs.State.{columns, needs, wants, settles, feeds, drawDue, fedReader, drawnReader, endedReader}
+use Rattle.reader.specs.State.{columns, wants, settles, feeds, drawDue, fedReader, drawnReader, endedReader}
 
 -- ---- set-up
--- a fresh reader of the filter f, of the columns W and the rows H of level b of a map, at L levels, with e spare numbers: nothing drawn, and row 0 begins
-unfoldable pub freshOver : ℕ → ℕ → ℕ → Side → Side → ℕ → Reader
-freshOver f b e W H L = record {
+-- a fresh reader of the filter f: nothing drawn, and row 0 begins
+unfoldable pub fresh : ℕ → Side → Side → ℕ → Reader
+fresh f W H L = record {
   width = W .length;
   height = H .length;
   levels = L;
@@ -32,20 +30,14 @@ freshOver f b e W H L = record {
   band = enter f W H L 0 .band;
   ended = false;
   filter = f;
-  stop = b;
-  spare = e;
 }
-
--- of a whole map
-abbrev pub fresh : ℕ → Side → Side → ℕ → Reader
-fresh f W H L = freshOver f 0 0 W H L
 
 unfoldable pub setUpReply : ℕ → Side → Side → ℕ → ℕ → Reply Reader
 setUpReply f W H L q = pick (eqb q 0) (gives (fresh f W H L)) (refused q)
 
 -- "whose needed part set-up zeroes"
 unfoldable pub setUpStore : ℕ → Side → ℕ → ℕ → (ℕ → ℤ) → ℕ → ℤ
-setUpStore f W L q x = pick (eqb q 0) (zeroed (storeBy f W L) x) x
+setUpStore f W L q x = pick (eqb q 0) (zeroed f W L x) x
 
 -- ---- want
 unfoldable pub wantReply : Reader → ℕ → Reply Want
@@ -57,7 +49,7 @@ feedReply s q = pick (eqb q 0) (gives (fedReader s)) (pick (eqb q 14) (impossibl
 
 -- y where the call passes, zeroed where it gives 14, as it was where another question turns it away
 unfoldable pub storeAfter : Reader → ℕ → (ℕ → ℤ) → (ℕ → ℤ) → ℕ → ℤ
-storeAfter s q y x = pick (eqb q 0) y (pick (eqb q 14) (zeroed (needs s) x) x)
+storeAfter s q y x = pick (eqb q 0) y (pick (eqb q 14) (zeroed (s .filter) (columns s) (s .levels) x) x)
 
 unfoldable pub feedStore : Reader → ℕ → (ℕ → ℤ) → (ℕ → ℤ) → ℕ → ℤ
 feedStore s q v x = storeAfter s q (memory x (feeds s v x)) x
@@ -74,7 +66,7 @@ drawStore s q x = storeAfter s q (pick (drawDue s) (memory x (settles s x)) x) x
 
 -- the height row that stands in the store x: row d of level 1
 unfoldable pub heightRow : Reader → (ℕ → ℤ) → ℕ → ℤ
-heightRow s x c = shown (s .stop) (backOf (s .filter) .made (columns s) (s .y) (s .drawn) x c)
+heightRow s x c = height16 (backOf (s .filter) .made (columns s) (s .y) (s .drawn) x c)
 
 -- the output area z afterwards
 unfoldable pub drawArea : Reader → ℕ → (ℕ → ℤ) → (ℕ → ℤ) → ℕ → ℤ

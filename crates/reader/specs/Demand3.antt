@@ -1,23 +1,18 @@
 -- Demand 3 for the reader: document 01, "The lists of demand 3". One claim about a whole list of calls on a fresh reader and its line store.
 -- "The words below go by the calls' arguments and answers, by nothing in the state.": what was fed, what was drawn and how far the steps are gone are functions
 -- of the list of events alone.
--- It is stated over a base level b, for Q-6: the columns W, the rows H and the L levels are those of level b of a map, rows are named by their levels from
--- there
--- on, and e numbers of the store are spare. A base of 0, with nothing spare, is the whole map of document 01.
 use mathlib.Core.Path.{_≡_}
 use mathlib.Core.Logic.{_↔_}
 use mathlib.Core.Bool.{Bool, true, false}
 use mathlib.Core.List.{List, [], _∷_, _++_}
-use Prim.Native.Nat.{ℕ, zero, suc, _+_, _-_, _≤_, _<_}
-use lib.IntN.{ℤ, pos, natAbs}
+use Prim.Native.Nat.{ℕ, suc, _+_, _-_, _≤_, _<_}
+use lib.IntN.{ℤ, pos}
 use lib.ListN.{length, getD}
 use lib.Dec.{leb, eqb}
 use Rattle.numbers.specs.Signal.{pick, both}
 use Rattle.numbers.specs.Word.{whole}
 use Rattle.lifting.specs.Grid.{Side}
-use Rattle.lifting.specs.Filter.{Filter}
 use Rattle.filters.specs.Filters.{filterOf}
-use Rattle.wavelet.specs.Limits.{range}
 use Rattle.wavelet.specs.Bands.{Grid, code, down}
 use Rattle.wavelet.specs.Maps.{IsMap}
 use Rattle.wavelet.specs.Levels.{sideAt, levelBand}
@@ -34,18 +29,8 @@ use Rattle.reader_steps.specs.Sets.{ahead, hasRow}
 use Rattle.reader.specs.Rebuilt.{Rows, SetFits, SetsFit}
 use Rattle.reader.specs.Answers.{Want, row, drawNow, done, ended, Handed, aRow}
 use Rattle.reader.specs.Answers as answer
-use Rattle.filters.specs.Figures.{storeBy}
-use Rattle.reader.specs.Limited.{drawnAs}
-use Rattle.reader.specs.Store.{zeroed}
-use Rattle.reader.specs.Questions.{runFits, storeFits}
-use Rattle.reader.specs.Reading.{countsFit, wantQuestion, feedQuestion, drawQuestion}
-use Rattle.reader.specs.Reading.{wantReply, feedReply, feedStore, drawReply, drawStore, drawArea}
-use Rattle.reader.specs.Calls.{freshOver}
-
--- b and n together; a base of 0 leaves n as it is
-abbrev pub onTop : ℕ → ℕ → ℕ
-onTop zero n = n
-onTop (suc b) n = suc b + n
+use Rattle.reader.specs.Questions.{runFits, storeFits, countsFit, wantQuestion, feedQuestion, drawQuestion}
+use Rattle.reader.specs.Calls.{fresh, setUpStore, wantReply, feedReply, feedStore, drawReply, drawStore, drawArea}
 
 -- ---- calls, and what is seen of them
 -- a call with its arguments; the number is the length of the line store that it is lent, in each call its own, long enough or not. A want is lent none.
@@ -126,8 +111,8 @@ abbrev pub final : List Call → World → World
 final = lists.final next
 
 -- "Fresh means the state and line store of a set-up that passed": of the filter f, the columns W and the rows H at L levels, on a store in which x stood
-abbrev pub freshWorld : ℕ → ℕ → ℕ → Side → Side → ℕ → (ℕ → ℤ) → World
-freshWorld f b e W H L x = record { reader = freshOver f b e W H L; store = zeroed (onTop e (storeBy f W L)) x }
+abbrev pub freshWorld : ℕ → Side → Side → ℕ → (ℕ → ℤ) → World
+freshWorld f W H L x = record { reader = fresh f W H L; store = setUpStore f W L 0 x }
 
 -- ---- how far the steps are gone
 -- one step on: a feed that passed, a draw that gave a row
@@ -195,11 +180,6 @@ abbrev pub drawnRows : List Event → List (ℕ → ℤ)
 drawnRows = gathered drawnBy
 
 -- ---- "A map has them if it fits the set-up, in H too, and its plane at the set-up's levels has them as these rows."
--- a low-low part of level b: a map, or numbers in that level's range
-abbrev pub IsPart : Filter → ℕ → ℕ → ℕ → Grid → Type 0
-IsPart F zero W H g = IsMap W H g
-IsPart F (suc b) W H g = (r c : ℕ) → r < H → c < W → natAbs (g r c) ≤ range F (suc b)
-
 -- a run a is band row x of a map g: its length, and the whole numbers of the filter's transform
 pub record IsRow (f : ℕ) (W H : Side) (g : Grid) (x : RowName) (a : Area) : Type 0 where
   pub size : a .size ≡ bandColumns W (x .level) (x .band)
@@ -208,42 +188,42 @@ pub record IsRow (f : ℕ) (W H : Side) (g : Grid) (x : RowName) (a : Area) : Ty
 abbrev pub HasRow : ℕ → Side → Side → Grid → FedRow → Type 0
 HasRow f W H g u = IsRow f W H g (u .row) (u .run)
 
-pub record HasFed (f b : ℕ) (W H : Side) (L : ℕ) (g : Grid) (es : List Event) : Type 0 where
-  pub map : IsPart (filterOf f) b (W .length) (H .length) g
+pub record HasFed (f : ℕ) (W H : Side) (L : ℕ) (g : Grid) (es : List Event) : Type 0 where
+  pub map : IsMap (W .length) (H .length) g
   pub rows : All (HasRow f W H g) (fedRows (steps (ahead f) W H L) es)
 
--- the rows ys are the first rows of the map; with a base, limited: Q-6, "each value limited to 0 to 65,535"
-pub record FirstRows (b : ℕ) (W : Side) (g : Grid) (ys : List (ℕ → ℤ)) : Type 0 where
-  pub are : (r c : ℕ) → r < length ys → c < W .length → getD ys r (λ _. pos 0) c ≡ drawnAs b (g r c)
+-- the rows ys are the first rows of the map
+pub record FirstRows (W : Side) (g : Grid) (ys : List (ℕ → ℤ)) : Type 0 where
+  pub are : (r c : ℕ) → r < length ys → c < W .length → getD ys r (λ _. pos 0) c ≡ g r c
 
 -- they are all the rows of a map that has the rows fed
-pub record AllDrawn (f b : ℕ) (W H : Side) (L : ℕ) (es : List Event) : Type 0 where
+pub record AllDrawn (f : ℕ) (W H : Side) (L : ℕ) (es : List Event) : Type 0 where
   pub map : Grid
-  pub has : HasFed f b W H L map es
+  pub has : HasFed f W H L map es
   pub all : length (drawnRows es) ≡ H .length
-  pub first : FirstRows b W map (drawnRows es)
+  pub first : FirstRows W map (drawnRows es)
 
 -- ---- the next call, with these steps left; e: 14 was given
 -- "The want is the next step, Done after the last, Ended after 14."
-unfoldable pub wantSays : ℕ → Side → Bool → List Step → Want
-wantSays b W true t = ended
-wantSays b W false [] = done
-wantSays b W false (step.feed x ∷ t) = row (onTop b (x .level)) (code (x .band)) (x .row) (bandColumns W (x .level) (x .band))
-wantSays b W false (step.draw r ∷ t) = drawNow
+unfoldable pub wantSays : Side → Bool → List Step → Want
+wantSays W true t = ended
+wantSays W false [] = done
+wantSays W false (step.feed x ∷ t) = row (x .level) (code (x .band)) (x .row) (bandColumns W (x .level) (x .band))
+wantSays W false (step.draw r ∷ t) = drawNow
 
 -- the number of the question after 5 and before 14 that turns a feed away: 9, 8, 13, 7, or 0
-unfoldable pub feedAway : ℕ → ℕ → Side → Bool → List Step → Area → ℕ
-feedAway f b W true t a = 9
-feedAway f b W false [] a = 8
-feedAway f b W false (step.draw r ∷ t) a = 8
-feedAway f b W false (step.feed x ∷ t) a =
+unfoldable pub feedAway : ℕ → Side → Bool → List Step → Area → ℕ
+feedAway f W true t a = 9
+feedAway f W false [] a = 8
+feedAway f W false (step.draw r ∷ t) a = 8
+feedAway f W false (step.feed x ∷ t) a =
     ask (eqb (a .size) (bandColumns W (x .level) (x .band))) 13
-    (ask (runFits f (onTop b (x .level)) (a .size) (a .numbers)) 7
+    (ask (runFits f (x .level) (a .size) (a .numbers)) 7
     0)
 
--- lent a store of n numbers, where m are needed: 5, or that
-unfoldable pub feedTurned : ℕ → ℕ → Side → ℕ → Bool → List Step → ℕ → Area → ℕ
-feedTurned f b W m e t n a = ask (storeFits m n) 5 (feedAway f b W e t a)
+-- lent a store of n numbers: 5, or that
+unfoldable pub feedTurned : ℕ → Side → ℕ → Bool → List Step → ℕ → Area → ℕ
+feedTurned f W L e t n a = ask (storeFits f W L n) 5 (feedAway f W e t a)
 
 -- what a draw into an area of m heights gives, unless it gives 5 or 14: 9, 12, a row or Nothing
 unfoldable pub drawGives : Side → Bool → List Step → ℕ → Reply Given
@@ -252,9 +232,9 @@ drawGives W false [] m = gives nothing
 drawGives W false (step.feed x ∷ t) m = gives nothing
 drawGives W false (step.draw r ∷ t) m = pick (leb (W .length) m) (gives (heights (W .length))) (refused 12)
 
--- lent a store of n numbers, where k are needed: 5, or that
-unfoldable pub drawSays : Side → ℕ → Bool → List Step → ℕ → ℕ → Reply Given
-drawSays W k e t n m = pick (storeFits k n) (drawGives W e t m) (refused 5)
+-- lent a store of n numbers: 5, or that
+unfoldable pub drawSays : ℕ → Side → ℕ → Bool → List Step → ℕ → ℕ → Reply Given
+drawSays f W L e t n m = pick (storeFits f W L n) (drawGives W e t m) (refused 5)
 
 -- one of two answers
 pub data OneOf {A : Type 0} (x : A) (a b : A) : Type 0 where
@@ -267,17 +247,16 @@ written (gives (heights n)) = n
 written (gives nothing) = 0
 written (refused q) = 0
 
--- what is seen of a draw into a, lent a store of n numbers, where k are needed: its answer, or 14 in place of a row; the area past what was written is as it
--- was
-pub record Draws (W : Side) (k : ℕ) (e : Bool) (t : List Step) (n : ℕ) (a : Area) (seen : Event) : Type 0 where
+-- what is seen of a draw into a, lent a store of n numbers: its answer, or 14 in place of a row; the area past what was written is as it was
+pub record Draws (f : ℕ) (W : Side) (L : ℕ) (e : Bool) (t : List Step) (n : ℕ) (a : Area) (seen : Event) : Type 0 where
   pub answer : Reply Given
   pub after : Area
   pub is : seen ≡ drew a answer after
   pub size : after .size ≡ a .size
   pub untouched : (i : ℕ) → written answer ≤ i → after .numbers i ≡ a .numbers i
-  pub says : OneOf answer (drawSays W k e t n (a .size)) (refused 14)
+  pub says : OneOf answer (drawSays f W L e t n (a .size)) (refused 14)
   -- 14 only where a row would be given
-  pub possible : answer ≡ refused 14 → drawSays W k e t n (a .size) ≡ gives (heights (W .length))
+  pub possible : answer ≡ refused 14 → drawSays f W L e t n (a .size) ≡ gives (heights (W .length))
 
 -- ---- "A set completed by a fed row is worked out in that feed", one without a fed row of its own in the next call that goes on
 -- band rows by their names that have those fed
@@ -296,9 +275,9 @@ goesOnSet H x (step.draw r ∷ t) = false
 
 -- A feed of row x, with the steps t after it. Its own set fits if x is the last of it; and the sets of the levels above, which made what its set takes, if it
 -- takes a row.
-pub record FeedFits (f b : ℕ) (W H : Side) (L : ℕ) (P : Rows) (x : RowName) (t : List Step) : Type 0 where
-  pub own : goesOnSet H x t ≡ false → SetFits f b W H P L (x .level - 1) (setNumber H x)
-  pub above : hasRow H (x .level) (setNumber H x) ≡ true → SetsFit f b W H L P (x .level) (setNumber H x)
+pub record FeedFits (f : ℕ) (W H : Side) (L : ℕ) (P : Rows) (x : RowName) (t : List Step) : Type 0 where
+  pub own : goesOnSet H x t ≡ false → SetFits f W H P L (x .level - 1) (setNumber H x)
+  pub above : hasRow H (x .level) (setNumber H x) ≡ true → SetsFit f W H L P (x .level) (setNumber H x)
 
 -- a feed of the run a as row x goes on, with the steps t after it
 pub record FeedGoes (f : ℕ) (W H : Side) (L : ℕ) (es : List Event) (then : Call → Event) (n : ℕ) (a : Area) (x : RowName) (t : List Step) : Type 0 where
@@ -306,40 +285,40 @@ pub record FeedGoes (f : ℕ) (W H : Side) (L : ℕ) (es : List Event) (then : C
   pub passes : then (feed n a) ≡ fed a (gives tt)
 
 -- ---- the claim, of the events es of any list of calls; `then` is what would be seen of a further call
-pub record Demand3 (f b spare : ℕ) (W H : Side) (L : ℕ) (es : List Event) (then : Call → Event) : Type 0 where
+pub record Demand3 (f : ℕ) (W H : Side) (L : ℕ) (es : List Event) (then : Call → Event) : Type 0 where
   -- "one list of steps: each band row to feed, once, and each height row to draw, once"
   pub rows-once : (x : RowName) → times x (bandRowsOf (steps (ahead f) W H L)) ≡ pick (bandRowExists W H L (x .level) (x .band) (x .row)) 1 0
   pub heights-once : heightRowsOf (steps (ahead f) W H L) ≡ inTurn (H .length) (λ r. r ∷ [])
   -- the want
-  pub wants : then want ≡ wanted (gives (wantSays b W (endedBy es) (left (steps (ahead f) W H L) es)))
+  pub wants : then want ≡ wanted (gives (wantSays W (endedBy es) (left (steps (ahead f) W H L) es)))
   -- "A feed of the length that the want names goes one step on or gives 7 or 14"; any other is turned away. Each call is lent a store of n numbers.
-  pub feeds-turned : (n : ℕ) (a : Area) (q : ℕ) → feedTurned f b W (onTop spare (storeBy f W L)) (endedBy es) (left (steps (ahead f) W H L) es) n a ≡ suc q →
+  pub feeds-turned : (n : ℕ) (a : Area) (q : ℕ) → feedTurned f W L (endedBy es) (left (steps (ahead f) W H L) es) n a ≡ suc q →
       then (feed n a) ≡ fed a (refused (suc q))
-  pub feeds-on : (n : ℕ) (a : Area) → feedTurned f b W (onTop spare (storeBy f W L)) (endedBy es) (left (steps (ahead f) W H L) es) n a ≡ 0 →
+  pub feeds-on : (n : ℕ) (a : Area) → feedTurned f W L (endedBy es) (left (steps (ahead f) W H L) es) n a ≡ 0 →
       OneOf (then (feed n a)) (fed a (gives tt)) (fed a (refused 14))
   -- "a draw at Draw goes one step on or gives 12 or 14; no other call goes on"
-  pub draws : (n : ℕ) (a : Area) → Draws W (onTop spare (storeBy f W L)) (endedBy es) (left (steps (ahead f) W H L) es) n a (then (draw n a))
+  pub draws : (n : ℕ) (a : Area) → Draws f W L (endedBy es) (left (steps (ahead f) W H L) es) n a (then (draw n a))
   -- the heights drawn are the first of every map that has the rows fed
-  pub first : (g : Grid) → HasFed f b W H L g es → FirstRows b W g (drawnRows es)
+  pub first : (g : Grid) → HasFed f W H L g es → FirstRows W g (drawnRows es)
   -- "14 comes only if no map has them."
-  pub impossible : endedBy es ≡ true → (g : Grid) → HasFed f b W H L g es → ⊥
+  pub impossible : endedBy es ≡ true → (g : Grid) → HasFed f W H L g es → ⊥
   -- a call that goes on has worked out what is due, and it fits: 14 comes no later
   pub feed-works : (n : ℕ) (a : Area) (x : RowName) (t : List Step) → FeedGoes f W H L es then n a x t →
       (P : Rows) → All (HasFedRow W P) (fedRows (steps (ahead f) W H L) es ++ (record { row = x; run = a } ∷ [])) →
-      FeedFits f b W H L P x t
-  pub draw-works : (n : ℕ) (a z : Area) → then (draw n a) ≡ drew a (gives (heights (W .length))) z →
-      (P : Rows) → All (HasFedRow W P) (fedRows (steps (ahead f) W H L) es) → SetsFit f b W H L P 0 (length (drawnRows es))
+      FeedFits f W H L P x t
+  pub draw-works : (n : ℕ) (a b : Area) → then (draw n a) ≡ drew a (gives (heights (W .length))) b →
+      (P : Rows) → All (HasFedRow W P) (fedRows (steps (ahead f) W H L) es) → SetsFit f W H L P 0 (length (drawnRows es))
   -- and in a call that gives 14 something due then does not fit: 14 comes no earlier. Document 02, Q-8: a row "counts as made, and is asked 14, with the set
   -- that brings the last value that it or any row above it needs."
   pub feed-ends : (n : ℕ) (a : Area) (x : RowName) (t : List Step) → left (steps (ahead f) W H L) es ≡ step.feed x ∷ t → then (feed n a) ≡ fed a (refused 14) →
       (P : Rows) → All (HasFedRow W P) (fedRows (steps (ahead f) W H L) es ++ (record { row = x; run = a } ∷ [])) →
-      FeedFits f b W H L P x t → ⊥
-  pub draw-ends : (n : ℕ) (a z : Area) → then (draw n a) ≡ drew a (refused 14) z →
-      (P : Rows) → All (HasFedRow W P) (fedRows (steps (ahead f) W H L) es) → SetsFit f b W H L P 0 (length (drawnRows es)) → ⊥
+      FeedFits f W H L P x t → ⊥
+  pub draw-ends : (n : ℕ) (a b : Area) → then (draw n a) ≡ drew a (refused 14) b →
+      (P : Rows) → All (HasFedRow W P) (fedRows (steps (ahead f) W H L) es) → SetsFit f W H L P 0 (length (drawnRows es)) → ⊥
   -- it says Done exactly when the heights drawn are all of such a map
-  pub finished : then want ≡ wanted (gives done) ↔ AllDrawn f b W H L es
+  pub finished : then want ≡ wanted (gives done) ↔ AllDrawn f W H L es
 
 -- of a list of calls on a fresh reader: "a state reached by calls always passes" question 1, and the claim
-pub record OfCalls (f b spare : ℕ) (W H : Side) (L : ℕ) (x : ℕ → ℤ) (cs : List Call) : Type 0 where
-  pub in-range : countsFit (final cs (freshWorld f b spare W H L x) .reader) ≡ true
-  pub claim : Demand3 f b spare W H L (events cs (freshWorld f b spare W H L x)) (λ c. event c (final cs (freshWorld f b spare W H L x)))
+pub record OfCalls (f : ℕ) (W H : Side) (L : ℕ) (x : ℕ → ℤ) (cs : List Call) : Type 0 where
+  pub in-range : countsFit (final cs (freshWorld f W H L x) .reader) ≡ true
+  pub claim : Demand3 f W H L (events cs (freshWorld f W H L x)) (λ c. event c (final cs (freshWorld f W H L x)))

@@ -1,7 +1,7 @@
 -- What the private functions of the reader require and ensure of each other. No public contract cites it.
 use mathlib.Core.Path.{_≡_}
 use mathlib.Core.Bool.{Bool, true, not}
-use Prim.Native.Nat.{ℕ, suc, _+_, _-_, _*_, _≤_, _<_, _^_}
+use Prim.Native.Nat.{ℕ, suc, _-_, _*_, _≤_, _<_, _^_}
 use lib.IntN.{ℤ}
 use lib.Dec.{eqb}
 use Rattle.wavelet.specs.Limits.{maxWidth, maxHeight, maxLevels, maxOrigin}
@@ -17,7 +17,7 @@ use Rattle.reader_steps.specs.Sets.{ahead, needed}
 use Rattle.reader.specs.Store.{stretchAt}
 use Rattle.reader_steps.specs.Places.{lastOfSet}
 use Rattle.reader_steps.specs.Places as machine
-use Rattle.reader.specs.State.{columns, rows, needs, spotNow, next, nextLength, rowDue}
+use Rattle.reader.specs.State.{columns, rows, spotNow, next, nextLength, rowDue}
 use Rattle.reader.specs.Questions.{countsFit, storeFits, runFits}
 
 -- ---- a reader and its places
@@ -34,8 +34,6 @@ pub record Counts (s : Reader) : Type 0 where
   pub at : s .level ≤ s .levels
   pub next : s .band ≤ 4
   pub behind : s .back ≤ 2 * ahead (s .filter) - 1
-  pub stops : s .stop + s .levels ≤ filterOf (s .filter) .levels
-  pub spares : s .spare ≤ 2 ^ 32
 
 -- a map's columns and rows while row d is waited for: sizes so small that no place in memory overflows
 abbrev pub Small : Side → Side → ℕ → Type 0
@@ -81,7 +79,7 @@ Completing s n t = t ≡ lastOfSet (columns s) (rows s) (s .levels) (n .spot .le
 
 -- the questions of a feed or a draw that the state and the store's length answer, and those of a feed that the run answers
 unfoldable pub storeQuestion : Reader → ℕ → ℕ
-storeQuestion s n = ask (countsFit s) 1 (ask (storeFits (needs s) n) 5 (ask (not (s .ended)) 9 0))
+storeQuestion s n = ask (countsFit s) 1 (ask (storeFits (s .filter) (columns s) (s .levels) n) 5 (ask (not (s .ended)) 9 0))
 
 unfoldable pub rowQuestion : Reader → ℕ → (ℕ → ℤ) → ℕ
-rowQuestion s m v = ask (rowDue s) 8 (ask (eqb m (nextLength s)) 13 (ask (runFits (s .filter) (s .stop + next s .level) m v) 7 0))
+rowQuestion s m v = ask (rowDue s) 8 (ask (eqb m (nextLength s)) 13 (ask (runFits (s .filter) (next s .level) m v) 7 0))

@@ -1,13 +1,9 @@
-pub mod Limited
 pub mod Store
 pub mod Machine
 pub mod Answers
 pub mod State
 pub mod Questions
 pub mod Calls
-pub mod Last
-pub mod Reading
-pub mod Stops
 pub mod Inside
 pub mod Rebuilt
 pub mod Holds

@@ -3,7 +3,8 @@
 use Prim.Native.Nat.{ℕ}
 use lib.IntN.{ℤ}
 use Rattle.lifting.specs.Halves.{fronted}
-use Rattle.reader.specs.State.{needs}
+use Rattle.filters.specs.Figures.{storeBy}
+use Rattle.reader.specs.State.{columns}
 use Rattle.reader.specs.Demand3.{Call, Event, World, event, next}
 
 pub record Lent : Type 0 where
@@ -11,7 +12,7 @@ pub record Lent : Type 0 where
   pub past : ℕ → ℤ
 
 abbrev pub found : (ℕ → ℤ) → World → World
-found p w = record { reader = w .reader; store = fronted (needs (w .reader)) (w .store) p }
+found p w = record { reader = w .reader; store = fronted (storeBy (w .reader .filter) (columns (w .reader)) (w .reader .levels)) (w .store) p }
 
 unfoldable pub lentEvent : Lent → World → Event
 lentEvent d w = event (d .call) (found (d .past) w)

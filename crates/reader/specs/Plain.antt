@@ -1,7 +1,7 @@
 -- Which answers a feed gives: document 01, questions 1, 5, 9, 8, 13, 7 and 14 in their order, 5 and 7 in plain numbers (wavelet's Asks).
 use mathlib.Core.Path.{_≡_}
 use mathlib.Core.Bool.{true, false}
-use Prim.Native.Nat.{ℕ, _+_, _≤_, _<_}
+use Prim.Native.Nat.{ℕ, _≤_, _<_}
 use lib.IntN.{ℤ, natAbs}
 use Rattle.wavelet.specs.Asks.{Asks, Passes, needed, largest}
 use Rattle.level.specs.Tried.{fits}
@@ -13,10 +13,10 @@ use Rattle.reader.specs.Questions.{countsFit}
 abbrev pub FeedAsks : Reader → ℕ → (ℕ → ℤ) → ℕ → (ℕ → ℤ) → ℕ → Type 0
 FeedAsks s n x m v =
     Asks 1 (countsFit s ≡ true)
-    (Asks 5 (s .spare + needed (s .filter) (columns s) (s .levels) ≤ n)
+    (Asks 5 (needed (s .filter) (columns s) (s .levels) ≤ n)
     (Asks 9 (s .ended ≡ false)
     (Asks 8 (rowDue s ≡ true)
     (Asks 13 (m ≡ nextLength s)
-    (Asks 7 ((i : ℕ) → i < m → natAbs (v i) ≤ largest (s .filter) (s .stop + next s .level))
+    (Asks 7 ((i : ℕ) → i < m → natAbs (v i) ≤ largest (s .filter) (next s .level))
     (Asks 14 (fits (feeds s v x) ≡ true)
     Passes))))))

@@ -56,7 +56,7 @@ pub data Refusal : List Event → Type 0 where
 -- every height of the map g was handed back, in order, and then Done is said
 pub record Back (W H : Side) (g : Grid) (es : List Event) (then : Call → Event) : Type 0 where
   pub all : length (drawnRows es) ≡ H .length
-  pub heights : FirstRows 0 W g (drawnRows es)
+  pub heights : FirstRows W g (drawnRows es)
   pub says : then want ≡ wanted (gives done)
 
 -- 7 or 14 was given, and then Done is not said

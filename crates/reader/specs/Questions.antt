@@ -1,8 +1,7 @@
--- The gate questions of each call, in the order of document 01 and, for 18 and 17, of document 02, Q-8 and Q-6. "The first no gives its number, and nothing
--- changes." 0: no
+-- The gate questions of each call, in the order of document 01 and, for 18, of document 02, Q-8. "The first no gives its number, and nothing changes." 0: no
 -- question says no. f is the number of the filter: levels, look-ahead, rows and range are its own.
 use mathlib.Core.Bool.{Bool, not}
-use Prim.Native.Nat.{ℕ, _+_, _-_, _*_}
+use Prim.Native.Nat.{ℕ, _-_, _*_}
 use lib.IntN.{ℤ, natAbs}
 use lib.Dec.{leb, eqb}
 use Rattle.numbers.specs.Signal.{pick, both}
@@ -15,16 +14,11 @@ use Rattle.filters.specs.Figures.{storeBy}
 use Rattle.reader.specs.declared.Reader.{Reader}
 use Rattle.level.specs.Tried.{fits}
 use Rattle.reader_steps.specs.Sets.{ahead}
-use Rattle.reader.specs.State.{needs, next, nextLength, rowDue, drawDue, settles, feeds}
+use Rattle.reader.specs.State.{columns, next, nextLength, rowDue, drawDue, settles, feeds}
 
--- the numbers of a stop: the levels up to it and those to work out are the filter's; a level that is left out is no wider than a map, so without a stop
--- nothing is spare
-unfoldable pub stopFits : ℕ → ℕ → ℕ → ℕ → Bool
-stopFits f levels stop spare = both (leb stop (filterOf f .levels - levels)) (leb spare (stop * (filterOf f .rows * maxWidth)))
-
--- question 1: "Is every count in the state inside its range?", of a reader with levels to work out: sizes, origin and place,
-unfoldable pub countsInside : Reader → Bool
-countsInside s =
+-- question 1: "Is every count in the state inside its range?"
+unfoldable pub countsFit : Reader → Bool
+countsFit s =
     both (within 1 maxWidth (s .width))
     (both (within 1 maxHeight (s .height))
     (both (isFilter (s .filter))
@@ -36,13 +30,9 @@ countsInside s =
     (both (leb (s .band) 4)
     (leb (s .back) (2 * ahead (s .filter) - 1))))))))))
 
--- and the stop
-unfoldable pub countsFit : Reader → Bool
-countsFit s = both (countsInside s) (stopFits (s .filter) (s .levels) (s .stop) (s .spare))
-
--- question 5: is a line store of n numbers long enough, where m are needed?
-unfoldable pub storeFits : ℕ → ℕ → Bool
-storeFits m n = leb m n
+-- question 5: is a line store of n numbers long enough?
+unfoldable pub storeFits : ℕ → Side → ℕ → ℕ → Bool
+storeFits f W L n = leb (storeBy f W L) n
 
 -- question 7: "Is each coefficient in its level's range?", of n numbers v for level k
 unfoldable pub runFits : ℕ → ℕ → ℕ → (ℕ → ℤ) → Bool
@@ -55,37 +45,7 @@ setUpQuestion f W H L n =
     (ask (within 1 maxHeight (H .length)) 3
     (ask (isFilter f) 18
     (ask (within 1 (filterOf f .levels) L) 4
-    (ask (storeFits (storeBy f W L) n) 5
-    0))))
-
--- 2, 3, 18 and 4 of a map
-unfoldable pub sizeQuestion : ℕ → ℕ → ℕ → ℕ → ℕ
-sizeQuestion f w h L =
-    ask (within 1 maxWidth w) 2
-    (ask (within 1 maxHeight h) 3
-    (ask (isFilter f) 18
-    (ask (within 1 (filterOf f .levels) L) 4
-    0)))
-
--- with a stop j: "Refused: 17, after 4, if j is not 1 to L." (Q-6)
-unfoldable pub stopQuestion : ℕ → Side → Side → ℕ → ℕ → ℕ → ℕ
-stopQuestion f W H L j n =
-    ask (within 1 maxWidth (W .length)) 2
-    (ask (within 1 maxHeight (H .length)) 3
-    (ask (isFilter f) 18
-    (ask (within 1 (filterOf f .levels) L) 4
-    (ask (within 1 L j) 17
-    (ask (storeFits (storeBy f W L) n) 5
-    0)))))
-
--- the size of level k
-unfoldable pub levelQuestion : ℕ → ℕ → ℕ → ℕ → ℕ → ℕ
-levelQuestion f w h L k =
-    ask (within 1 maxWidth w) 2
-    (ask (within 1 maxHeight h) 3
-    (ask (isFilter f) 18
-    (ask (within 1 (filterOf f .levels) L) 4
-    (ask (within 1 L k) 17
+    (ask (storeFits f W L n) 5
     0))))
 
 unfoldable pub wantQuestion : Reader → ℕ
@@ -95,11 +55,11 @@ wantQuestion s = ask (countsFit s) 1 0
 unfoldable pub feedQuestion : Reader → ℕ → (ℕ → ℤ) → ℕ → (ℕ → ℤ) → ℕ
 feedQuestion s n x m v =
     ask (countsFit s) 1
-    (ask (storeFits (needs s) n) 5
+    (ask (storeFits (s .filter) (columns s) (s .levels) n) 5
     (ask (not (s .ended)) 9
     (ask (rowDue s) 8
     (ask (eqb m (nextLength s)) 13
-    (ask (runFits (s .filter) (s .stop + next s .level) m v) 7
+    (ask (runFits (s .filter) (next s .level) m v) 7
     (ask (fits (feeds s v x)) 14
     0))))))
 
@@ -107,7 +67,7 @@ feedQuestion s n x m v =
 unfoldable pub drawQuestion : Reader → ℕ → (ℕ → ℤ) → ℕ → ℕ
 drawQuestion s n x m =
     ask (countsFit s) 1
-    (ask (storeFits (needs s) n) 5
+    (ask (storeFits (s .filter) (columns s) (s .levels) n) 5
     (ask (not (s .ended)) 9
     (pick (drawDue s)
     (ask (leb (s .width) m) 12

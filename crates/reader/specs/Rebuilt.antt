@@ -1,7 +1,7 @@
 -- The way back from band rows by their names, P: the bands of each level, and the low-low parts that the filter f makes of them, over 32-bit words.
 use mathlib.Core.Path.{_≡_}
 use mathlib.Core.Bool.{true}
-use Prim.Native.Nat.{ℕ, zero, suc, _+_, _-_, _≤_, _<_}
+use Prim.Native.Nat.{ℕ, zero, suc, _-_, _≤_, _<_}
 use lib.IntN.{ℤ}
 use Rattle.numbers.specs.Word.{wrap32}
 use Rattle.lifting.specs.Grid.{Side}
@@ -38,11 +38,10 @@ module _ (f : ℕ) (W H : Side) (P : Rows) where
   abbrev pub partAt : ℕ → ℕ → Grid
   partAt L k = levelBack (filterOf f) wrap32 (sideAt k W) (sideAt k H) (bandsAt L k)
 
--- set n of level k + 1 fits: the rows that it makes fit, as low-low values of level b + k, and no number that it halves is odd
-module _ (f b : ℕ) (W H : Side) (P : Rows) where
+  -- set n of level k + 1 fits: the rows that it makes fit, and no number that it halves is odd
   abbrev pub SetFits : ℕ → ℕ → ℕ → Type 0
-  SetFits L k n = SetFitsBy (filterOf f) (ahead f) (valueFits (filterOf f) (b + k)) (partAt f W H P L k) (sideAt k W) (sideAt k H) (bandsAt f W H P L k) n
+  SetFits L k n = SetFitsBy (filterOf f) (ahead f) (valueFits (filterOf f) k) (partAt L k) (sideAt k W) (sideAt k H) (bandsAt L k) n
 
 -- The sets of the levels above level k that number n of level k (level 0: a height row) needs fit, up to the last of each.
-pub record SetsFit (f b : ℕ) (W H : Side) (L : ℕ) (P : Rows) (k n : ℕ) : Type 0 where
-  pub fit : (j : ℕ) → k ≤ j → j < L → hasCells (sideAt j W) (sideAt j H) ≡ true → SetFits f b W H P L j (needed f H k n (suc j))
+pub record SetsFit (f : ℕ) (W H : Side) (L : ℕ) (P : Rows) (k n : ℕ) : Type 0 where
+  pub fit : (j : ℕ) → k ≤ j → j < L → hasCells (sideAt j W) (sideAt j H) ≡ true → SetFits f W H P L j (needed f H k n (suc j))

@@ -1,6 +1,6 @@
 -- What a reader's state says: the row that it wants, and what a feed or a draw makes of the store x.
 use mathlib.Core.Bool.{Bool, true, false}
-use Prim.Native.Nat.{ℕ, suc, _+_, _-_}
+use Prim.Native.Nat.{ℕ, suc, _-_}
 use lib.IntN.{ℤ}
 use lib.Dec.{ltb, eqb}
 use Rattle.numbers.specs.Signal.{pick, both}
@@ -14,18 +14,13 @@ use Rattle.reader.specs.Answers.{Want, row, drawNow, done, ended}
 use Rattle.level.specs.Tried.{Tried, bind}
 use Rattle.reader_steps.specs.Places.{Spot, Place, place, spotOf, placeOf, nextUp, spotFed, enter}
 use Rattle.reader.specs.Machine.{settled, fedOn}
-use Rattle.filters.specs.Figures.{storeBy}
 
--- the columns and rows that it reads: its map's, with a stop those of the map's low-low part there (document 02, Q-6)
+-- its map's columns and rows
 abbrev pub columns : Reader → Side
 columns s = side (s .x) (s .width)
 
 abbrev pub rows : Reader → Side
 rows s = side (s .y) (s .height)
-
--- how many numbers its line store needs: those of its levels, and those of the levels that a stop leaves out
-abbrev pub needs : Reader → ℕ
-needs s = s .spare + storeBy (s .filter) (columns s) (s .levels)
 
 module _ (s : Reader) where
   -- where it is: the set of `level` that is collected is `back` before the last that row `drawn` needs
@@ -53,22 +48,21 @@ module _ (s : Reader) where
   unfoldable pub drawDue : Bool
   drawDue = both unfinished (eqb (next .level) 0)
 
-  -- "It names the band row it wants, or says Draw when a height row can be drawn, or Done when all are drawn, or Ended after 14." Its levels are counted from
-  -- the stop, the map's are named
+  -- "It names the band row it wants, or says Draw when a height row can be drawn, or Done when all are drawn, or Ended after 14."
   unfoldable pub wants : Want
   wants =
       pick (s .ended) ended
       (pick unfinished
-      (pick (ltb 0 (next .level)) (row (s .stop + next .level) (next .band) nextRow nextLength) drawNow)
+      (pick (ltb 0 (next .level)) (row (next .level) (next .band) nextRow nextLength) drawNow)
       done)
 
   -- the sets that wait, worked out
   unfoldable pub settles : (ℕ → ℤ) → Tried
-  settles x = settled (s .filter) (s .stop) (columns s) (rows s) (s .levels) (next .level) (spotNow .level) (spotNow .set) x
+  settles x = settled (s .filter) (columns s) (rows s) (s .levels) (next .level) (spotNow .level) (spotNow .set) x
 
   -- "ahead of that call's own work": then the run v is fed
   unfoldable pub feeds : (ℕ → ℤ) → (ℕ → ℤ) → Tried
-  feeds v x = bind (settles x) (fedOn (s .filter) (s .stop) (columns s) (rows s) (s .levels) (next .level) (next .set) (next .band) v)
+  feeds v x = bind (settles x) (fedOn (s .filter) (columns s) (rows s) (s .levels) (next .level) (next .set) (next .band) v)
 
   -- ---- the reader after it
   abbrev pub movedTo : ℕ → Place → Reader
@@ -84,8 +78,6 @@ module _ (s : Reader) where
     band = p .band;
     ended = false;
     filter = s .filter;
-    stop = s .stop;
-    spare = s .spare;
   }
 
   unfoldable pub fedReader : Reader
@@ -112,6 +104,4 @@ module _ (s : Reader) where
     band = s .band;
     ended = true;
     filter = s .filter;
-    stop = s .stop;
-    spare = s .spare;
   }

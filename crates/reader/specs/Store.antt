@@ -10,6 +10,7 @@ use Rattle.lifting.specs.Grid.{Side}
 use Rattle.wavelet.specs.Levels.{sideAt}
 use Rattle.wavelet.specs.Order.{lastSet}
 use Rattle.level.specs.Tried.{Tried, passed, onto}
+use Rattle.filters.specs.Figures.{storeBy}
 use Rattle.synthesis.specs.Back.{backOf}
 use Rattle.reader_steps.specs.Asked.{named}
 use Rattle.reader_steps.specs.Places.{hasCells}
@@ -26,9 +27,9 @@ from a x j = x (a + j)
 unfoldable pub behind : ℕ → (ℕ → ℤ) → (ℕ → ℤ) → ℕ → ℤ
 behind a x y j = pick (ltb j a) (x j) (y (j - a))
 
--- the needed part, the first n numbers, zeroed
-unfoldable pub zeroed : ℕ → (ℕ → ℤ) → ℕ → ℤ
-zeroed n x = fronted n (λ _. pos 0) x
+-- the needed part zeroed
+unfoldable pub zeroed : ℕ → Side → ℕ → (ℕ → ℤ) → ℕ → ℤ
+zeroed f W L x = fronted (storeBy f W L) (λ _. pos 0) x
 
 -- ---- at level k + 1, which splits the columns sideAt k W and the rows sideAt k H
 -- the row with band code c of set n fed
@@ -40,9 +41,8 @@ fedAt f W H k n c v x =
 unfoldable pub hasSet : Side → Side → ℕ → Bool
 hasSet W H n = both (hasCells W H) (leb n (lastSet H))
 
--- its rows are low-low values of level k of the columns W and the rows H, which are those of level b of a map: so of level b + k
-unfoldable pub workedAt : ℕ → ℕ → Side → Side → ℕ → ℕ → ℕ → (ℕ → ℤ) → Tried
-workedAt f b W H L k n x =
+unfoldable pub workedAt : ℕ → Side → Side → ℕ → ℕ → ℕ → (ℕ → ℤ) → Tried
+workedAt f W H L k n x =
     pick (hasSet (sideAt k W) (sideAt k H) n)
-    (onto (behind (stretchAt f W k) x) (backOf f .work (eqb (suc k) L) (b + k) (sideAt k W) (sideAt k H) n (from (stretchAt f W k) x)))
+    (onto (behind (stretchAt f W k) x) (backOf f .work (eqb (suc k) L) k (sideAt k W) (sideAt k H) n (from (stretchAt f W k) x)))
     (passed x)

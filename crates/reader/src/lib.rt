@@ -1,13 +1,11 @@
 // The row-by-row reader: band rows in, in the order that it wants them, height rows out. A state of numbers by value; the line store is the caller's.
-mod last;
-mod limited;
 mod questions;
 mod sets;
 mod steps;
-pub mod stops;
 mod walk;
 
 use areas::copies;
+use areas::height_rows;
 use synthesis::back;
 use walk::Next;
 use walk::Spot;
@@ -15,7 +13,6 @@ use wavelet::shape::Shape;
 ghost use mathlib.Core.Path.{_≡_};
 ghost use mathlib.Core.Bool.{false};
 ghost use Prim.Native.Nat.{_<_, _≤_};
-ghost use Rattle.lifting.specs.Grid.{side};
 ghost use lib.ListN.{length};
 ghost use Rattle.numbers.specs.Signal.{at};
 ghost use Rattle.wavelet.specs.Limits.{maxWidth, maxHeight, maxLevels, maxOrigin};
@@ -27,19 +24,15 @@ ghost use Rattle.reader_steps.specs.Places.{spot, placeOf};
 ghost use Rattle.filters.specs.Figures.{storeBy};
 ghost use Rattle.reader.specs.Store.{zeroed};
 ghost use Rattle.reader.specs.Inside.{Counts, Small, Due};
-ghost use Rattle.reader.specs.State.{columns, rows, needs, wants, movedTo, drawnReader, endedReader};
-ghost use Rattle.reader.specs.Questions.{setUpQuestion, stopQuestion, wantQuestion, feedQuestion, drawQuestion};
+ghost use Rattle.reader.specs.State.{columns, rows, wants, movedTo, drawnReader, endedReader};
+ghost use Rattle.reader.specs.Questions.{setUpQuestion, wantQuestion, feedQuestion, drawQuestion};
 ghost use Rattle.reader.specs.Holds.{SetUpHolds, FeedKeeps, DrawKeeps};
 ghost use Rattle.reader.specs.Answers.{gives, ofSetUp, ofWanted, ofFed, ofDrawn};
-ghost use Rattle.reader.specs.Stops.{stopReply};
-ghost use Rattle.reader.specs.Reading as all;
-ghost use Rattle.reader.specs.Calls.{freshOver, setUpReply, setUpStore, wantReply, feedReply, feedStore, drawReply, drawStore, drawArea, heightRow};
+ghost use Rattle.reader.specs.Calls.{setUpReply, setUpStore, wantReply, feedReply, feedStore, drawReply, drawStore, drawArea, heightRow};
 
 // The counts of a reader; docs/STATE.md gives their ranges. Its map starts at (x, y). `drawn` height rows are drawn; rows of `level` are collected (0: a height
 // row can be drawn), and `band` is the code of the first band that may be next. They are rows of the set that is `back` before the last of its level that row
 // `drawn` needs. `filter` is the number of the filter, which says what each level does.
-// With a `stop` (document 02, Q-6; 0: none) it reads the low-low part of that level of a map: size, origin and levels are the low-low part's, a level is
-// counted from the stop, and `spare` are the numbers that the map's line store has beside its own. No levels: its rows are fed and drawn one after another.
 pub struct Reader {
     pub width: usize,
     pub height: usize,
@@ -52,8 +45,6 @@ pub struct Reader {
     pub band: usize,
     pub ended: bool,
     pub filter: usize,
-    pub stop: usize,
-    pub spare: usize,
 }
 
 pub enum SetUp {
@@ -96,9 +87,6 @@ impl Reader {
     pub const MAX_LEVELS_NINE_SEVEN: usize = 4;
 
     pub const MAX_ORIGIN: usize = 65535;
-
-    // no line store needs more numbers
-    pub const MAX_SPARE: usize = 131136;
 
     // A contract that names a constant follows an edit of it, so each is pinned to the definition's number.
     pub fn max_width() -> usize
@@ -163,28 +151,11 @@ impl Reader {
         }
         let n = filters::store_length(filter, map.width, x, map.levels);
         copies::clear(store, n);
-        SetUp::Ready(Reader::begun(filter, map.levels, x, map.width, y, map.height, 0, 0))
-    }
-
-    // The fresh reader of these columns and rows at so many levels.
-    fn begun(
-        filter: usize,
-        levels: usize,
-        x: usize,
-        width: usize,
-        y: usize,
-        height: usize,
-        stop: usize,
-        spare: usize,
-    ) -> Reader
-        requires { ⌜ Small (side x width) (side y height) 0 × (levels ≤ maxLevels) ⌝ }
-        ensures { λ r. ⌜ r ≡ freshOver filter stop spare (side x width) (side y height) levels ⌝ }
-    {
-        let p = walk::dive_from(filter, levels, 0, x, width, y, height, 0, 0);
+        let p = walk::dive_from(filter, map.levels, 0, x, map.width, y, map.height, 0, 0);
         let s = Reader {
-            width,
-            height,
-            levels,
+            width: map.width,
+            height: map.height,
+            levels: map.levels,
             x,
             y,
             drawn: 0,
@@ -193,54 +164,12 @@ impl Reader {
             band: 0,
             ended: false,
             filter,
-            stop,
-            spare,
         };
-        s.moved(0, p)
-    }
-
-    // A fresh reader of the low-low part of level `stop`; the needed part of the line store, the whole map's, is zeroed. The questions are 2, 3, 18, 4, 17, 5.
-    pub fn set_up_at(map: Shape, stop: usize, store: &mut [i32]) -> SetUp
-        ensures answer { λ r. ⌜ ofSetUp r ≡
-            stopReply (map .filter) (shape.columns map) (shape.rows map) (map .levels) stop
-            (stopQuestion (map .filter) (shape.columns map) (shape.rows map) (map .levels) stop (length (now (store .entry)))) ⌝ }
-        ensures kept { λ _. ⌜ at (now (store .exit)) ≡
-            setUpStore (map .filter) (shape.columns map) (map .levels)
-            (stopQuestion (map .filter) (shape.columns map) (shape.rows map) (map .levels) stop (length (now (store .entry)))) (at (now (store .entry))) ⌝ }
-    {
-        let x = map.x as usize;
-        let y = map.y as usize;
-        let filter = map.filter as usize;
-        let q = questions::stop_question(
-            filter,
-            map.width,
-            map.height,
-            map.levels,
-            x,
-            y,
-            stop,
-            store.len(),
-        );
-        if q != 0 {
-            return SetUp::Refused(q);
-        }
-        let n = filters::store_length(filter, map.width, x, map.levels);
-        copies::clear(store, n);
-        SetUp::Ready(stops::reader_at(filter, map.levels, x, map.width, y, map.height, stop, n))
+        SetUp::Ready(s.moved(0, p))
     }
 
     // The band row wanted, or Draw, Done or Ended. Question 1 is asked.
     pub fn want(self) -> Wanted
-        ensures answer { λ r. ⌜ ofWanted r ≡ all.wantReply self (all.wantQuestion self) ⌝ }
-    {
-        if self.levels == 0 {
-            return last::want(self);
-        }
-        self.want_row()
-    }
-
-    // The same with levels to work out.
-    fn want_row(self) -> Wanted
         ensures answer { λ r. ⌜ ofWanted r ≡ wantReply self (wantQuestion self) ⌝ }
     {
         if !questions::counts_fit(self) {
@@ -272,15 +201,14 @@ impl Reader {
 
     // What is wanted, n being the row wanted if there is one.
     fn told(self, n: Next) -> Wanted
-        requires { ⌜ Due self n × (self .ended ≡ false) × (self .drawn < self .height) × Counts self ⌝ }
+        requires { ⌜ Due self n × (self .ended ≡ false) × (self .drawn < self .height) ⌝ }
         ensures { λ r. ⌜ ofWanted r ≡ gives (wants self) ⌝ }
     {
-        let level = self.stop + n.spot.level;
         if n.spot.level == 0 {
             return Wanted::Draw;
         }
         Wanted::Row(
-            level,
+            n.spot.level,
             n.spot.band,
             steps::row_number(self, n),
             steps::row_length(self, n),
@@ -289,22 +217,6 @@ impl Reader {
 
     // The row wanted is fed. The questions are 1, 5, 9, 8, 13, 7 and 14.
     pub fn feed(self, store: &mut [i32], run: &[i32]) -> Fed
-        ensures answer { λ r. ⌜ ofFed r ≡
-            all.feedReply self
-            (all.feedQuestion self (length (now (store .entry))) (at (now (store .entry))) (length (now (run .entry))) (at (now (run .entry)))) ⌝ }
-        ensures kept { λ _. ⌜ at (now (store .exit)) ≡
-            all.feedStore self
-            (all.feedQuestion self (length (now (store .entry))) (at (now (store .entry))) (length (now (run .entry))) (at (now (run .entry))))
-            (at (now (run .entry))) (at (now (store .entry))) ⌝ }
-    {
-        if self.levels == 0 {
-            return last::feed(self, store, run);
-        }
-        self.feed_set(store, run)
-    }
-
-    // The same with levels to work out: a row of a set.
-    fn feed_set(self, store: &mut [i32], run: &[i32]) -> Fed
         ensures answer { λ r. ⌜ ofFed r ≡
             feedReply self
             (feedQuestion self (length (now (store .entry))) (at (now (store .entry))) (length (now (run .entry))) (at (now (run .entry)))) ⌝ }
@@ -332,23 +244,6 @@ impl Reader {
 
     // A height row is drawn, if one can be. The questions are 1, 5, 9 and, with a row to give, 12 and 14.
     pub fn draw(self, store: &mut [i32], out: &mut [u16]) -> Drawn
-        ensures answer { λ r. ⌜ ofDrawn r ≡
-            all.drawReply self (all.drawQuestion self (length (now (store .entry))) (at (now (store .entry))) (length (now (out .entry)))) ⌝ }
-        ensures kept { λ _. ⌜ at (now (store .exit)) ≡
-            all.drawStore self (all.drawQuestion self (length (now (store .entry))) (at (now (store .entry))) (length (now (out .entry))))
-            (at (now (store .entry))) ⌝ }
-        ensures heights { λ _. ⌜ heightsAt (now (out .exit)) ≡
-            all.drawArea self (all.drawQuestion self (length (now (store .entry))) (at (now (store .entry))) (length (now (out .entry))))
-            (at (now (store .entry))) (heightsAt (now (out .entry))) ⌝ }
-    {
-        if self.levels == 0 {
-            return last::draw(self, store, out);
-        }
-        self.draw_row(store, out)
-    }
-
-    // The same with levels to work out.
-    fn draw_row(self, store: &mut [i32], out: &mut [u16]) -> Drawn
         ensures answer { λ r. ⌜ ofDrawn r ≡
             drawReply self (drawQuestion self (length (now (store .entry))) (at (now (store .entry))) (length (now (out .entry)))) ⌝ }
         ensures kept { λ _. ⌜ at (now (store .exit)) ≡
@@ -386,7 +281,7 @@ impl Reader {
         let w = self.width;
         let a = back::row_place(self.filter, w, self.y % 2 + self.drawn);
         let e = a + w;
-        limited::draw_row(self.stop, &store[a..e], self.x, out);
+        height_rows::draw_heights(&store[a..e], self.x, out);
         let d = self.drawn + 1;
         let p = walk::dive_from(
             self.filter,
@@ -419,25 +314,16 @@ impl Reader {
             band: p.band,
             ended: false,
             filter: self.filter,
-            stop: self.stop,
-            spare: self.spare,
         }
     }
 
     // The reader ended by 14: the needed part of the line store is zeroed, its other numbers stay.
     fn over(self, store: &mut [i32]) -> Reader
-        requires { ⌜ Counts self × (needs self ≤ length (now store)) ⌝ }
+        requires { ⌜ Counts self × (storeBy (self .filter) (columns self) (self .levels) ≤ length (now store)) ⌝ }
         ensures { λ r. ⌜ r ≡ endedReader self ⌝ }
-        ensures { λ _. ⌜ at (now (store .exit)) ≡ zeroed (needs self) (at (now (store .entry))) ⌝ }
+        ensures { λ _. ⌜ at (now (store .exit)) ≡ zeroed (self .filter) (columns self) (self .levels) (at (now (store .entry))) ⌝ }
     {
-        walk::zero(
-            self.filter,
-            self.x,
-            self.width,
-            self.levels,
-            self.spare,
-            store,
-        );
+        walk::zero(self.filter, self.x, self.width, self.levels, store);
         Reader {
             width: self.width,
             height: self.height,
@@ -450,8 +336,6 @@ impl Reader {
             band: self.band,
             ended: true,
             filter: self.filter,
-            stop: self.stop,
-            spare: self.spare,
         }
     }
 }

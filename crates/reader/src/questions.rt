@@ -10,14 +10,13 @@ ghost use lib.ListN.{length};
 ghost use Rattle.numbers.specs.Signal.{at};
 ghost use Rattle.lifting.specs.Grid.{side};
 ghost use Rattle.filters.specs.Filters.{filterOf};
-ghost use Rattle.filters.specs.Figures.{storeBy};
-ghost use Rattle.reader.specs.State.{columns, needs, drawDue};
-ghost use Rattle.reader.specs.Questions.{countsInside, countsFit, stopFits, storeFits, runFits, setUpQuestion, sizeQuestion, stopQuestion};
+ghost use Rattle.reader.specs.State.{columns, drawDue};
+ghost use Rattle.reader.specs.Questions.{countsFit, storeFits, runFits, setUpQuestion};
 ghost use Rattle.reader.specs.Inside.{Counts, Due, storeQuestion, rowQuestion};
 
-// Question 1 of a reader with levels to work out: is every count inside its range? Its sizes, origin and place,
-fn counts_inside(s: Reader) -> bool
-    ensures { λ r. ⌜ r ≡ countsInside s ⌝ }
+// Question 1: is every count inside its range?
+pub fn counts_fit(s: Reader) -> bool
+    ensures { λ r. ⌜ r ≡ countsFit s ⌝ }
 {
     if !limits::is_within(s.width, Reader::MAX_WIDTH) {
         return false;
@@ -47,27 +46,6 @@ fn counts_inside(s: Reader) -> bool
         return false;
     }
     s.back <= 2 * filters::look_ahead(s.filter) - 1
-}
-
-// and its stop.
-pub fn counts_fit(s: Reader) -> bool
-    ensures { λ r. ⌜ r ≡ countsFit s ⌝ }
-{
-    if !counts_inside(s) {
-        return false;
-    }
-    stop_fits(s.filter, s.levels, s.stop, s.spare)
-}
-
-// A stop: the levels up to it and those to work out are the filter's, and a level left out has no more columns than the widest map.
-fn stop_fits(filter: usize, levels: usize, stop: usize, spare: usize) -> bool
-    requires { ⌜ levels ≤ filterOf filter .levels ⌝ }
-    ensures { λ r. ⌜ r ≡ stopFits filter levels stop spare ⌝ }
-{
-    if filters::most_levels(filter) - levels < stop {
-        return false;
-    }
-    spare <= stop * (filters::rows_kept(filter) * Reader::MAX_WIDTH)
 }
 
 // Questions 2, 3, 18, 4 and 5 of a set-up, whose line store has `length` numbers.
@@ -100,53 +78,8 @@ pub fn set_up_question(
     0
 }
 
-// The same with a stop: 17 comes after 4.
-pub fn stop_question(
-    filter: usize,
-    width: usize,
-    height: usize,
-    levels: usize,
-    x: usize,
-    y: usize,
-    stop: usize,
-    length: usize,
-) -> u8
-    ensures { λ r. ⌜ r ≡ stopQuestion filter (side x width) (side y height) levels stop length ⌝ }
-{
-    let q = size_question(filter, width, height, levels);
-    if q != 0 {
-        return q;
-    }
-    if !limits::is_within(stop, levels) {
-        return 17;
-    }
-    if length < filters::store_length(filter, width, x, levels) {
-        return 5;
-    }
-    0
-}
-
-// Questions 2, 3, 18 and 4.
-pub fn size_question(filter: usize, width: usize, height: usize, levels: usize) -> u8
-    ensures { λ r. ⌜ r ≡ sizeQuestion filter width height levels ⌝ }
-{
-    if !limits::is_within(width, Reader::MAX_WIDTH) {
-        return 2;
-    }
-    if !limits::is_within(height, Reader::MAX_HEIGHT) {
-        return 3;
-    }
-    if !filters::is_filter(filter) {
-        return 18;
-    }
-    if !limits::is_within(levels, Reader::most_levels(filter)) {
-        return 4;
-    }
-    0
-}
-
 // Question 7: is each number of the run in its level's range?
-pub fn run_fits(filter: usize, run: &[i32], level: usize) -> bool
+fn run_fits(filter: usize, run: &[i32], level: usize) -> bool
     requires { ⌜ level ≤ filterOf filter .levels ⌝ }
     ensures { λ r. ⌜ r ≡ runFits filter level (length (now (run .entry))) (at (now (run .entry))) ⌝ }
 {
@@ -154,27 +87,16 @@ pub fn run_fits(filter: usize, run: &[i32], level: usize) -> bool
     ranges::all_between(run, -most, most)
 }
 
-// Whether `length` numbers are enough for its levels. The first test holds for every number of levels, and at the most levels a width of 2^k + 1 needs just as
-// many, so the sizes are seldom added up.
-fn own_fits(s: Reader, length: usize) -> bool
+// Question 5: is a line store of `length` numbers long enough? The first test holds for every number of levels, and at the most levels a width of 2^k + 1 needs
+// just as many, so the sizes are seldom added up.
+fn store_fits(s: Reader, length: usize) -> bool
     requires { ⌜ Counts s ⌝ }
-    ensures { λ r. ⌜ r ≡ storeFits (storeBy (s .filter) (columns s) (s .levels)) length ⌝ }
+    ensures { λ r. ⌜ r ≡ storeFits (s .filter) (columns s) (s .levels) length ⌝ }
 {
     if filters::holds_any(s.filter, s.width, length) {
         return true;
     }
     filters::store_length(s.filter, s.width, s.x, s.levels) <= length
-}
-
-// Question 5: is a line store of `length` numbers long enough?
-fn store_fits(s: Reader, length: usize) -> bool
-    requires { ⌜ Counts s ⌝ }
-    ensures { λ r. ⌜ r ≡ storeFits (needs s) length ⌝ }
-{
-    if length < s.spare {
-        return false;
-    }
-    own_fits(s, length - s.spare)
 }
 
 // Questions 1, 5 and 9 of a feed or a draw.
@@ -198,7 +120,6 @@ pub fn row_question(s: Reader, n: Next, run: &[i32]) -> u8
     requires { ⌜ Counts s × Due s n ⌝ }
     ensures { λ r. ⌜ r ≡ rowQuestion s (length (now (run .entry))) (at (now (run .entry))) ⌝ }
 {
-    let level = s.stop + n.spot.level;
     if s.height <= s.drawn {
         return 8;
     }
@@ -208,7 +129,7 @@ pub fn row_question(s: Reader, n: Next, run: &[i32]) -> u8
     if run.len() != steps::row_length(s, n) {
         return 13;
     }
-    if !run_fits(s.filter, run, level) {
+    if !run_fits(s.filter, run, n.spot.level) {
         return 7;
     }
     0

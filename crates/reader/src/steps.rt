@@ -135,7 +135,6 @@ pub fn settle(s: Reader, store: &mut [i32], to: usize) -> bool
     }
     walk::settle(
         s.filter,
-        s.stop,
         s.x,
         s.width,
         s.y,
@@ -160,7 +159,6 @@ pub fn settle_all(s: Reader, store: &mut [i32]) -> bool
     }
     walk::settle(
         s.filter,
-        s.stop,
         s.x,
         s.width,
         s.y,
@@ -203,7 +201,6 @@ pub fn feed_row(s: Reader, store: &mut [i32], n: Next, complete: bool, run: &[i3
     }
     walk::work_at(
         s.filter,
-        s.stop,
         s.x,
         s.width,
         s.y,

@@ -252,11 +252,9 @@ pub fn put_row(
     copies::copy(run, &mut store[a..e]);
 }
 
-// The set of l, level k + 1, worked out in the level's own stretch, if the level has it. Its rows are low-low values of level `base` + k of the map that the
-// reader stops in.
+// The set of l, level k + 1, worked out in the level's own stretch, if the level has it.
 pub fn work_at(
     filter: usize,
-    base: usize,
     x: usize,
     width: usize,
     y: usize,
@@ -267,14 +265,13 @@ pub fn work_at(
     k: usize,
     l: Level,
 ) -> bool
-    requires { ⌜ Small (side x width) (side y height) drawn × (base + levels ≤ filterOf filter .levels) × (k < levels) ×
+    requires { ⌜ Small (side x width) (side y height) drawn × (levels ≤ filterOf filter .levels) × (k < levels) ×
         IsLevel filter (side x width) (side y height) drawn k l ×
         (storeBy filter (side x width) levels ≤ length (now store)) ⌝ }
     ensures { λ ok. ⌜ outcome ok (at (now (store .exit))) ≡
-        workedAt filter base (side x width) (side y height) levels k (l .set) (at (now (store .entry))) ⌝ }
+        workedAt filter (side x width) (side y height) levels k (l .set) (at (now (store .entry))) ⌝ }
     ensures { λ _. ⌜ Kept (storeBy filter (side x width) levels) (at (now (store .entry))) (at (now (store .exit))) ⌝ }
 {
-    let level = base + k;
     if !sets::is_there(l.width, l.y, l.height, l.set) {
         return true;
     }
@@ -283,7 +280,7 @@ pub fn work_at(
         &mut store[a..],
         filter,
         k + 1 == levels,
-        level,
+        k,
         l.width,
         l.height,
         l.x,
@@ -296,7 +293,6 @@ pub fn work_at(
 // The sets of the levels from `from`, at the set of l, down to above `to`, the coarsest first.
 pub fn settle(
     filter: usize,
-    base: usize,
     x: usize,
     width: usize,
     y: usize,
@@ -308,30 +304,18 @@ pub fn settle(
     l: Level,
     to: usize,
 ) -> bool
-    requires { ⌜ Small (side x width) (side y height) drawn × (base + levels ≤ filterOf filter .levels) × (from ≤ levels) ×
+    requires { ⌜ Small (side x width) (side y height) drawn × (levels ≤ filterOf filter .levels) × (from ≤ levels) ×
         (0 < from → IsLevel filter (side x width) (side y height) drawn (from - 1) l) ×
         (storeBy filter (side x width) levels ≤ length (now store)) ⌝ }
     ensures { λ ok. ⌜ outcome ok (at (now (store .exit))) ≡
-        settled filter base (side x width) (side y height) levels to from (l .set) (at (now (store .entry))) ⌝ }
+        settled filter (side x width) (side y height) levels to from (l .set) (at (now (store .entry))) ⌝ }
     ensures { λ _. ⌜ Kept (storeBy filter (side x width) levels) (at (now (store .entry))) (at (now (store .exit))) ⌝ }
 {
     let mut k = from;
     let mut m = l;
     while to < k {
         k -= 1;
-        if !work_at(
-            filter,
-            base,
-            x,
-            width,
-            y,
-            height,
-            levels,
-            drawn,
-            store,
-            k,
-            m,
-        ) {
+        if !work_at(filter, x, width, y, height, levels, drawn, store, k, m) {
             return false;
         }
         if 0 < k {
@@ -422,12 +406,11 @@ pub fn begin(filter: usize, levels: usize, level: usize, l: Level, n: usize) -> 
     )
 }
 
-// The needed part of a line store zeroed, where a reader ends: its own, and the `spare` numbers of the levels that it leaves out. It takes numbers, not the
-// reader, which would be laid into memory in every call for it.
-pub fn zero(filter: usize, x: usize, width: usize, levels: usize, spare: usize, store: &mut [i32])
-    requires { ⌜ (streamable filter (side x width) levels ≡ true) × (spare + storeBy filter (side x width) levels ≤ length (now store)) ⌝ }
-    ensures { λ _. ⌜ at (now (store .exit)) ≡ zeroed (spare + storeBy filter (side x width) levels) (at (now (store .entry))) ⌝ }
+// The needed part of a line store zeroed, where a reader ends. It takes numbers, not the reader, which would be laid into memory in every call for it.
+pub fn zero(filter: usize, x: usize, width: usize, levels: usize, store: &mut [i32])
+    requires { ⌜ (streamable filter (side x width) levels ≡ true) × (storeBy filter (side x width) levels ≤ length (now store)) ⌝ }
+    ensures { λ _. ⌜ at (now (store .exit)) ≡ zeroed filter (side x width) levels (at (now (store .entry))) ⌝ }
 {
-    let n = spare + filters::store_length(filter, width, x, levels);
+    let n = filters::store_length(filter, width, x, levels);
     copies::clear(store, n);
 }

@@ -13,7 +13,7 @@ use Rattle.numbers.specs.Signal.{pick}
 use Rattle.numbers.specs.Word.{whole}
 use Rattle.numbers.proofs.Sweep.{both}
 use Rattle.filters.specs.Filters.{filterOf, isFilter}
-use Rattle.filters.specs.Figures.{storeBy, writerStoreBy, streamable}
+use Rattle.filters.specs.Figures.{storeBy, streamable}
 use Rattle.filters.proofs.FigureLaws.{streams}
 use Rattle.wavelet.specs.Bands.{Grid, Band, LL, HL, LH, HH, code}
 use Rattle.wavelet.specs.Plane.{cells, planeCell}
@@ -124,7 +124,7 @@ module _ (f : ℕ) (W : Side) (s L n : ℕ) (x : ℕ → ℤ) (cs : List writer.
   claim = writer-holds.demand-3 f W s L n x (done .across) (done .down) (done .set-up) cs .1
 
   -- ---- the map that was written
-  in-limits : (streamable f W L ≡ true) × (writerStoreBy f W L ≤ n)
+  in-limits : (streamable f W L ≡ true) × (storeBy f W L ≤ n)
   in-limits = set-up-passed f W L n (done .set-up)
 
   width : 0 < W .length

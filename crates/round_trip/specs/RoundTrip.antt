@@ -60,7 +60,7 @@ module _ (f : ℕ) (W : Side) (s L n : ℕ) (x : ℕ → ℤ) (cs : List writer.
   -- then a fresh reader of that filter, size and origin and as many levels, whose store has n′ numbers, as it wants, each row drawn into an area of its own
   module _ (n′ : ℕ) (y : ℕ → ℤ) (outs : ℕ → Area) where
     abbrev pub freshReader : reader.World
-    freshReader = reader.freshWorld f 0 0 W sideWrote L y
+    freshReader = reader.freshWorld f W sideWrote L y
 
     abbrev pub turns : List reader.Call
     turns = played n′ (drawnAs (writer.drawn wrote)) outs (length (steps (filterOf f .ahead) W sideWrote L)) freshReader
@@ -89,13 +89,13 @@ planeRows W H plane x =
 
 module _ (f : ℕ) (W H : Side) (L n : ℕ) (y : ℕ → ℤ) (plane : ℕ → ℤ) (outs : ℕ → Area) where
   abbrev pub planeTurns : List reader.Call
-  planeTurns = played n (planeRows W H plane) outs (length (steps (filterOf f .ahead) W H L)) (reader.freshWorld f 0 0 W H L y)
+  planeTurns = played n (planeRows W H plane) outs (length (steps (filterOf f .ahead) W H L)) (reader.freshWorld f W H L y)
 
   abbrev pub planeRead : List reader.Event
-  planeRead = reader.events planeTurns (reader.freshWorld f 0 0 W H L y)
+  planeRead = reader.events planeTurns (reader.freshWorld f W H L y)
 
   abbrev pub planeThen : reader.Call → reader.Event
-  planeThen c = reader.event c (reader.final planeTurns (reader.freshWorld f 0 0 W H L y))
+  planeThen c = reader.event c (reader.final planeTurns (reader.freshWorld f W H L y))
 
   -- of a map's plane it hands back that map and says Done; of a plane that no map has, it gives 7 or 14 and never says Done
   pub record FromPlane : Type 0 where

@@ -1,2 +1,1 @@
 pub mod SamplesHold
-pub mod ReadingsHold

@@ -1,4 +1,4 @@
--- Every sample of the tables holds: both sides compute to the same. Assumes nothing.
+-- Every sample of the three tables holds: both sides compute to the same. Assumes nothing.
 use mathlib.Core.Path.{refl}
 use Rattle.lifting.specs.Line.{predicted, updated, mirror, unupdated, unpredicted}
 use Rattle.lifting.specs.Grid.{half, place, count, joined, before, after, highAt, lowAt, evenAt, oddAt, lineForward, lineHalvesBack, lineBack, loneHigh, isEven}
@@ -17,9 +17,8 @@ use Rattle.wavelet.specs.View.{bandColumns}
 use Rattle.nine_seven.specs.NineSeven as nine
 use Rattle.filters.specs.Filters.{filterOf, isFilter}
 use Rattle.map_questions.specs.Calls.{shapeQuestions, sizeQuestions, planeQuestions, backwardQuestion}
-use Rattle.samples.specs.Samples.{listed, values, bandRow, holds-line, holds-map, holds-answer, holds-order, holds-wants, holds-counts, holds-plays}
-use Rattle.samples.specs.Samples.{AllHold, none}
-use Rattle.samples.specs.Samples.{also, counted, countsOf, table, oddTable, secondTable, sevenTable, secondSevenTable}
+use Rattle.samples.specs.Samples.{listed, values, bandRow, holds-line, holds-map, holds-answer, holds-order, holds-wants, AllHold, none}
+use Rattle.samples.specs.Samples.{also, table, oddTable, secondTable}
 
 pub samples-hold : AllHold 0 table
 unfolding values listed lineForward lowAt highAt before after half place mirror predicted updated count planeOf planeCell inCorner flat cells subband
@@ -85,39 +84,3 @@ second-samples-hold =
     (also (holds-order refl)
     (also (holds-wants refl)
     none)))))))))))))
-
-pub seven-hold : AllHold 0 sevenTable
-unfolding values listed lineForward lowAt highAt before after half place mirror predicted updated count planeOf planeCell inCorner flat cells subband
-    columnsLifted across down bandOf halfAt placeIn bandRow bandColumns next sideAt approximation levelBand handedOut firstSet lastSet setRow setHas rowsOf
-    setRows madeBy unmade closing inTurn made feedAll setTo setOf setsBefore rowSteps setSteps steps bandRowsOf backwardQuestion sizeQuestions shapeQuestions
-    planeQuestions isFilter filterOf within maxWidth maxHeight maxSample range inRange rebuiltFits everyCell every valueFits levelAt planeBands mapBack
-    levelBack levelHas rowsHave columnsHave rowsUnlifted lineBack lineHalvesBack joined evenAt oddAt hasLine loneHigh isEven unupdated unpredicted wrap32
-    counted countsOf
-seven-hold =
-    also (holds-order refl)
-    (also (holds-counts refl)
-    (also (holds-plays refl)
-    (also (holds-order refl)
-    (also (holds-counts refl)
-    (also (holds-plays refl)
-    (also (holds-line refl refl)
-    none))))))
-
-pub second-seven-hold : AllHold 1 secondSevenTable
-unfolding values listed lineForward lowAt highAt before after half place mirror predicted updated count planeOf planeCell inCorner flat cells subband
-    columnsLifted across down bandOf halfAt placeIn bandRow bandColumns next sideAt approximation levelBand handedOut firstSet lastSet setRow setHas rowsOf
-    setRows madeBy unmade closing inTurn made feedAll setTo setOf setsBefore rowSteps setSteps steps bandRowsOf backwardQuestion sizeQuestions shapeQuestions
-    planeQuestions isFilter filterOf within maxWidth maxHeight maxSample range inRange rebuiltFits everyCell every valueFits levelAt planeBands mapBack
-    levelBack levelHas rowsHave columnsHave rowsUnlifted lineBack lineHalvesBack joined evenAt oddAt hasLine loneHigh isEven unupdated unpredicted wrap32
-    nine.lineForward nine.lineHalvesBack nine.lineBack nine.lowAt nine.highAt nine.evenAt nine.oddAt nine.mirror nine.before nine.after nine.predicted
-    nine.updated nine.unpredicted nine.unupdated nine.lowPart
-    counted countsOf
-second-seven-hold =
-    also (holds-order refl)
-    (also (holds-counts refl)
-    (also (holds-plays refl)
-    (also (holds-order refl)
-    (also (holds-counts refl)
-    (also (holds-plays refl)
-    (also (holds-line refl refl)
-    none))))))

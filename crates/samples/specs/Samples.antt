@@ -1,8 +1,8 @@
 -- The samples of document 01 that are marked P, in whole numbers: what each says, and the table of them; a table of samples at odd coordinates, and one of
--- the second filter; and one of each filter that tells the two apart.
+-- the second filter.
 use mathlib.Core.Path.{_≡_}
-use mathlib.Core.Bool.{true, false}
-use mathlib.Core.List.{List, [], _∷_, _++_, map as each}
+use mathlib.Core.Bool.{true}
+use mathlib.Core.List.{List, [], _∷_, map as each}
 use Prim.Native.Nat.{ℕ, zero, suc, _*_}
 use lib.IntN.{ℤ, pos, negℤ}
 use lib.ListN.{length}
@@ -14,7 +14,7 @@ use Rattle.filters.specs.Filters.{filterOf}
 use Rattle.wavelet.specs.Bands.{Grid, LL, HL, LH, HH}
 use Rattle.wavelet.specs.Plane.{cells, planeOf}
 use Rattle.wavelet.specs.Order.{RowName, rowName, made}
-use Rattle.wavelet.specs.Steps.{Step, feed, draw, bandRowsOf, steps}
+use Rattle.wavelet.specs.Steps.{bandRowsOf, steps}
 use Rattle.wavelet.specs.Levels.{levelBand}
 use Rattle.wavelet.specs.View.{bandColumns}
 use Rattle.map_questions.specs.Calls.{backwardQuestion}
@@ -38,16 +38,6 @@ unfoldable pub bandRow : ℕ → Side → Side → Grid → RowName → BandRow
 bandRow f W H g x =
     record { name = x; values = listed (bandColumns W (x .level) (x .band)) (levelBand (filterOf f) whole W H g (x .level) (x .band) (x .row)) }
 
--- f 0, f 1, to f (n − 1)
-unfoldable pub counted : ℕ → (ℕ → ℕ) → List ℕ
-counted zero g = []
-counted (suc n) g = g 0 ∷ counted n (λ i. g (suc i))
-
-unfoldable pub countsOf : ℕ → Side → Side → ℕ → List ℕ
-countsOf f W H L =
-    counted (H .length) (λ i. length (made (filterOf f .ahead) W (H .start) L (suc i) false))
-    ++ (length (made (filterOf f .ahead) W (H .start) L (H .length) true) ∷ [])
-
 -- a kind of sample
 pub data Sample : Type 0 where
   -- where a line starts, the line, its low values and its high values
@@ -60,10 +50,6 @@ pub data Sample : Type 0 where
   order : ℕ → Side → Side → List ℤ → List BandRow → Sample
   -- levels, columns and rows of a map, and the band rows that the reader wants for it, in their order
   wants : ℕ → Side → Side → List RowName → Sample
-  -- levels, columns and rows of a map, and how many band rows the writer has made after its first row, its second and so on, and after the finish
-  counts : ℕ → Side → Side → List ℕ → Sample
-  -- levels, columns and rows of a map, and all that the reader wants for it, the draws too
-  plays : ℕ → Side → Side → List Step → Sample
 
 -- what makes a sample of each kind hold, by the filter of number f
 pub data Holds (f : ℕ) : Sample → Type 0 where
@@ -75,8 +61,6 @@ pub data Holds (f : ℕ) : Sample → Type 0 where
   holds-order : {L : ℕ} {W H : Side} {g : List ℤ} {l : List BandRow} →
       each (bandRow f W H (cells (W .length) (at g))) (made (filterOf f .ahead) W (H .start) L (H .length) true) ≡ l → Holds f (order L W H g l)
   holds-wants : {L : ℕ} {W H : Side} {l : List RowName} → bandRowsOf (steps (filterOf f .ahead) W H L) ≡ l → Holds f (wants L W H l)
-  holds-counts : {L : ℕ} {W H : Side} {l : List ℕ} → countsOf f W H L ≡ l → Holds f (counts L W H l)
-  holds-plays : {L : ℕ} {W H : Side} {l : List Step} → steps (filterOf f .ahead) W H L ≡ l → Holds f (plays L W H l)
 
 -- a side of n that starts at 0
 abbrev pub zeroed : ℕ → Side
@@ -187,72 +171,6 @@ secondTable =
     ∷ rowName 2 LH 1 ∷ rowName 2 LL 2 ∷ rowName 2 LH 2 ∷ rowName 1 HL 1 ∷ rowName 1 LH 1 ∷ rowName 1 HH 1 ∷ rowName 1 HL 2 ∷ rowName 1 LH 2
     ∷ rowName 1 HH 2 ∷ rowName 1 HL 3 ∷ rowName 1 LH 3 ∷ rowName 1 HH 3 ∷ rowName 1 HL 4 ∷ rowName 1 LH 4 ∷ rowName 1 HH 4 ∷ rowName 1 HL 5
     ∷ rowName 1 LH 5 ∷ rowName 1 HH 5 ∷ [])
-    ∷ []
-
--- The column 1, 4, 2, 7, 3, 9, 5 at L = 2, through the writer and through the reader, from coordinate 0 on and from coordinate 1 on: the values and their
--- order, when they are made, and all of the reader's steps. Worked by a second program that follows the sentences of 01 and 02.
-abbrev pub sevenTable : List Sample
-sevenTable =
-    order 2 (zeroed 1) (zeroed 7) (pos 1 ∷ pos 4 ∷ pos 2 ∷ pos 7 ∷ pos 3 ∷ pos 9 ∷ pos 5 ∷ [])
-    (record { name = rowName 1 LH 0; values = pos 3 ∷ [] }
-    ∷ record { name = rowName 1 LH 1; values = pos 5 ∷ [] }
-    ∷ record { name = rowName 1 LH 2; values = pos 5 ∷ [] }
-    ∷ record { name = rowName 2 LL 0; values = pos 3 ∷ [] }
-    ∷ record { name = rowName 2 LH 0; values = pos 0 ∷ [] }
-    ∷ record { name = rowName 2 LL 1; values = pos 7 ∷ [] }
-    ∷ record { name = rowName 2 LH 1; values = pos 2 ∷ [] }
-    ∷ [])
-    ∷ counts 2 (zeroed 1) (zeroed 7) (0 ∷ 0 ∷ 1 ∷ 1 ∷ 2 ∷ 2 ∷ 5 ∷ 7 ∷ [])
-    ∷ plays 2 (zeroed 1) (zeroed 7)
-    (feed (rowName 2 LL 0) ∷ feed (rowName 2 LH 0) ∷ feed (rowName 1 LH 0) ∷ draw 0 ∷ feed (rowName 2 LL 1) ∷ feed (rowName 2 LH 1)
-    ∷ feed (rowName 1 LH 1) ∷ draw 1 ∷ draw 2 ∷ feed (rowName 1 LH 2) ∷ draw 3 ∷ draw 4 ∷ draw 5 ∷ draw 6 ∷ [])
-    ∷ order 2 (zeroed 1) (side 1 7) (pos 1 ∷ pos 4 ∷ pos 2 ∷ pos 7 ∷ pos 3 ∷ pos 9 ∷ pos 5 ∷ [])
-    (record { name = rowName 1 LH 0; values = negℤ (pos 3) ∷ [] }
-    ∷ record { name = rowName 1 LH 1; values = negℤ (pos 3) ∷ [] }
-    ∷ record { name = rowName 1 LH 2; values = negℤ (pos 5) ∷ [] }
-    ∷ record { name = rowName 2 LH 0; values = negℤ (pos 2) ∷ [] }
-    ∷ record { name = rowName 1 LH 3; values = negℤ (pos 4) ∷ [] }
-    ∷ record { name = rowName 2 LL 0; values = pos 5 ∷ [] }
-    ∷ record { name = rowName 2 LH 1; values = pos 2 ∷ [] }
-    ∷ [])
-    ∷ counts 2 (zeroed 1) (side 1 7) (0 ∷ 1 ∷ 1 ∷ 2 ∷ 2 ∷ 4 ∷ 4 ∷ 7 ∷ [])
-    ∷ plays 2 (zeroed 1) (side 1 7)
-    (feed (rowName 1 LH 0) ∷ feed (rowName 2 LH 0) ∷ feed (rowName 2 LL 0) ∷ feed (rowName 2 LH 1) ∷ feed (rowName 1 LH 1) ∷ draw 0
-    ∷ draw 1 ∷ feed (rowName 1 LH 2) ∷ draw 2 ∷ draw 3 ∷ feed (rowName 1 LH 3) ∷ draw 4 ∷ draw 5 ∷ draw 6 ∷ [])
-    -- a predict step whose sum is negative and odd, floor going toward minus infinity: d = 0 − ⌊−3 / 2⌋ = 2
-    ∷ line 0 (negℤ (pos 1) ∷ pos 0 ∷ negℤ (pos 2) ∷ []) (pos 0 ∷ negℤ (pos 1) ∷ []) (pos 2 ∷ [])
-    ∷ []
-
-abbrev pub secondSevenTable : List Sample
-secondSevenTable =
-    order 2 (zeroed 1) (zeroed 7) (pos 1 ∷ pos 4 ∷ pos 2 ∷ pos 7 ∷ pos 3 ∷ pos 9 ∷ pos 5 ∷ [])
-    (record { name = rowName 1 LH 0; values = pos 3 ∷ [] }
-    ∷ record { name = rowName 1 LH 1; values = pos 5 ∷ [] }
-    ∷ record { name = rowName 1 LH 2; values = pos 5 ∷ [] }
-    ∷ record { name = rowName 2 LL 0; values = pos 2 ∷ [] }
-    ∷ record { name = rowName 2 LH 0; values = pos 1 ∷ [] }
-    ∷ record { name = rowName 2 LL 1; values = pos 6 ∷ [] }
-    ∷ record { name = rowName 2 LH 1; values = pos 2 ∷ [] }
-    ∷ [])
-    ∷ counts 2 (zeroed 1) (zeroed 7) (0 ∷ 0 ∷ 0 ∷ 0 ∷ 1 ∷ 1 ∷ 2 ∷ 7 ∷ [])
-    ∷ plays 2 (zeroed 1) (zeroed 7)
-    (feed (rowName 2 LL 0) ∷ feed (rowName 2 LH 0) ∷ feed (rowName 1 LH 0) ∷ draw 0 ∷ feed (rowName 2 LL 1) ∷ feed (rowName 2 LH 1)
-    ∷ feed (rowName 1 LH 1) ∷ feed (rowName 1 LH 2) ∷ draw 1 ∷ draw 2 ∷ draw 3 ∷ draw 4 ∷ draw 5 ∷ draw 6 ∷ [])
-    ∷ order 2 (zeroed 1) (side 1 7) (pos 1 ∷ pos 4 ∷ pos 2 ∷ pos 7 ∷ pos 3 ∷ pos 9 ∷ pos 5 ∷ [])
-    (record { name = rowName 1 LH 0; values = negℤ (pos 3) ∷ [] }
-    ∷ record { name = rowName 1 LH 1; values = negℤ (pos 3) ∷ [] }
-    ∷ record { name = rowName 1 LH 2; values = negℤ (pos 5) ∷ [] }
-    ∷ record { name = rowName 1 LH 3; values = negℤ (pos 4) ∷ [] }
-    ∷ record { name = rowName 2 LH 0; values = negℤ (pos 3) ∷ [] }
-    ∷ record { name = rowName 2 LL 0; values = pos 5 ∷ [] }
-    ∷ record { name = rowName 2 LH 1; values = pos 2 ∷ [] }
-    ∷ [])
-    ∷ counts 2 (zeroed 1) (side 1 7) (0 ∷ 0 ∷ 0 ∷ 1 ∷ 1 ∷ 2 ∷ 2 ∷ 7 ∷ [])
-    ∷ plays 2 (zeroed 1) (side 1 7)
-    (feed (rowName 1 LH 0) ∷ feed (rowName 2 LH 0) ∷ feed (rowName 2 LL 0) ∷ feed (rowName 2 LH 1) ∷ feed (rowName 1 LH 1)
-    ∷ feed (rowName 1 LH 2) ∷ draw 0 ∷ draw 1 ∷ feed (rowName 1 LH 3) ∷ draw 2 ∷ draw 3 ∷ draw 4 ∷ draw 5 ∷ draw 6 ∷ [])
-    -- and by the 9/7: d = 0 − ⌊(9 (−4 + 0) − (0 − 4) + 8) / 16⌋ = 0 − ⌊−24 / 16⌋ = 2
-    ∷ line 0 (negℤ (pos 4) ∷ pos 0 ∷ pos 0 ∷ []) (negℤ (pos 3) ∷ pos 1 ∷ []) (pos 2 ∷ [])
     ∷ []
 
 -- every entry holds

@@ -58,8 +58,6 @@ reader-back r =
       band = r .band;
       ended = b;
       filter = r .filter;
-      stop = r .stop;
-      spare = r .spare;
     })
     (flag-back (r .ended))
 

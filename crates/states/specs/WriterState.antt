@@ -32,7 +32,7 @@ abbrev pub offeredWords : Writer → List ℕ → List ℕ
 offeredWords w s = set (set (set (set (set s 3 (w .rows)) 4 (w .column)) 7 (w .level)) 8 (w .left)) 9 (w .offset)
 
 abbrev pub drawnWords : Writer → List ℕ → List ℕ
-drawnWords w s = set (set (set (set (set (set s 3 (w .rows)) 4 (w .column)) 6 (w .closed)) 7 (w .level)) 8 (w .left)) 9 (w .offset)
+drawnWords w s = set (set (set (set s 6 (w .closed)) 7 (w .level)) 8 (w .left)) 9 (w .offset)
 
 abbrev pub writerWords : Writer → List ℕ
 writerWords w =

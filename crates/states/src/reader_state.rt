@@ -19,7 +19,7 @@ pub fn is_reader(s: &[u64; 16]) -> bool
     if 1 < s[7] {
         return false;
     }
-    array::zero_from(s, 14)
+    array::zero_from(s, 12)
 }
 
 // The reader that the array holds.
@@ -38,8 +38,6 @@ pub fn unpack_reader(s: &[u64; 16]) -> Reader
         y: s[9] as usize,
         back: s[10] as usize,
         filter: s[11] as usize,
-        stop: s[12] as usize,
-        spare: s[13] as usize,
     }
 }
 
@@ -61,8 +59,8 @@ pub fn pack_reader(r: Reader, s: &mut [u64; 16])
         r.y as u64,
         r.back as u64,
         r.filter as u64,
-        r.stop as u64,
-        r.spare as u64,
+        0,
+        0,
         0,
         0,
     ];

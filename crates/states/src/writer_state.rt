@@ -97,8 +97,6 @@ pub fn pack_drawn(answer: Drawn, s: &mut [u64; 16], row: &mut [u64; 4]) -> u32
     array::sized(*s);
     match answer {
         Drawn::Row(r, w) => {
-            s[3] = w.rows as u64;
-            s[4] = w.column as u64;
             s[6] = w.closed as u64;
             s[7] = w.level as u64;
             s[8] = w.left as u64;

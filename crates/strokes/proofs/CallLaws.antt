@@ -2,7 +2,7 @@
 use mathlib.Core.Path.{_≡_, refl, sym, ap, _∙_}
 use mathlib.Core.Logic.{_≢_}
 use mathlib.Core.Bool.{Bool, true, false}
-use Prim.Native.Nat.{ℕ, _+_, _-_, _*_, _%_, _≤_, _<_}
+use Prim.Native.Nat.{ℕ, _+_, _-_, _*_, _≤_, _<_}
 use native.Mathlib.Decide.{decLt}
 use native.Mathlib.Omega.{arith}
 use lib.IntN.{ℤ}
@@ -13,8 +13,7 @@ use Rattle.numbers.specs.Word.{wrap32}
 use Rattle.lifting.specs.Line.{predicted, updated}
 use Rattle.lifting.specs.Rows.{rowsChanged}
 use Rattle.strokes.specs.Strokes.{stretchIn}
-use Rattle.strokes.specs.Local.{rowAfter, rowBefore, lastDone, turnDone, unreadBefore, unreadPast, usedIn}
-use Rattle.strokes.specs.declared.direction.Direction.{Direction}
+use Rattle.strokes.specs.Local.{rowAfter, rowBefore, lastDone, turnDone}
 
 -- ---- question 19 in one direction
 module _ (first n end : ℕ) where
@@ -74,33 +73,3 @@ module _ (q X Y F T first : ℕ) where
 
   pub part-high : q ≡ 1 → first ≡ F → (X + first ≡ q * X + F) × (Y + (first - T) ≡ q * Y + (F - T)) × (2 * (first - T) + 1 ≡ 2 * (F - T) + q)
   part-high z e = rw (z, e) (omega arith, omega arith, omega arith)
-
--- ---- the ends of the window that are not read, and the places that are used
-module _ (d : Direction) where
-  pub unread-none : d .start ≡ 0 → 0 ≡ unreadBefore d
-  unfolding unreadBefore
-  unread-none e = simp (eq-eqb (d .start) 0 e)
-
-  pub unread-two : d .start ≢ 0 → 2 ≡ unreadBefore d
-  unfolding unreadBefore
-  unread-two e = simp (ne-eqb (d .start) 0 e)
-
-  pub unread-end : d .start + d .size < d .length → 2 ≡ unreadPast d
-  unfolding unreadPast
-  unread-end e = simp (lt-ltb (d .start + d .size) (d .length) e)
-
-  pub unread-all : d .length ≤ d .start + d .size → 0 ≡ unreadPast d
-  unfolding unreadPast
-  unread-all e = simp (le-ltb (d .start + d .size) (d .length) e)
-
-  pub used-even : (r : ℕ) → r % 2 ≡ 0 → true ≡ usedIn d r
-  unfolding usedIn
-  used-even r e = simp (eq-eqb (r % 2) 0 e)
-
-  pub unused : (r : ℕ) → r % 2 ≢ 0 → d .start + r + 1 < d .first → false ≡ usedIn d r
-  unfolding usedIn
-  unused r e f = simp (ne-eqb (r % 2) 0 e, lt-leb (d .first) (d .start + r + 1) f)
-
-  pub used-odd : (r : ℕ) → r % 2 ≢ 0 → d .first ≤ d .start + r + 1 → leb (d .start + r) (d .last + 1) ≡ usedIn d r
-  unfolding usedIn
-  used-odd r e f = simp (ne-eqb (r % 2) 0 e, le-leb (d .first) (d .start + r + 1) f)

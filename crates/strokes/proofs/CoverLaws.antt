@@ -4,7 +4,6 @@ use mathlib.Core.Path.{_≡_, sym, ap, _∙_}
 use mathlib.Core.Logic.{_⊎_, inl, inr, ⊎-elim}
 use mathlib.Core.Bool.{true}
 use Prim.Native.Nat.{ℕ, _+_, _-_, _*_, _/_, _≤_, _<_}
-use native.Mathlib.Nat.{mul-assoc}
 use native.Mathlib.Omega.{arith}
 use borrow.Author.Tests.{leb-true}
 use Rattle.numbers.proofs.Sweep.{both as both-yes}
@@ -38,20 +37,17 @@ module _ (u v N a t w : ℕ) (s : Span) (C : Cut u v N a t w) where
   unfolding count lowSpan
   cover-next q K =
       let c = C .even in
-      let m = mul-assoc 2 q (K .times) in
       record {
-        times = K .times;
         left = ⊎-elim (λ e. inl e) (λ e. inr (omega arith)) (K .left);
-        right = ⊎-elim (λ e. inl e) (λ e. inr (omega arith, omega arith)) (K .right);
+        right = ⊎-elim (λ e. inl e) (λ e. inr (omega arith)) (K .right);
       }
 
   -- at each end of the window: it is the line's own, or the changed places are far from it
   leftly : {A : Type 0} (Q : ℕ) → ((v ≡ 0) × (a ≡ 0) → A) → ((v ≤ 2) × (a + 3 * Q ≤ s .first + 1) → A) → Cover u v Q a w s → A
   leftly Q own far K = ⊎-elim own (λ two. ⊎-elim (λ z. absurd (omega arith)) (λ k. far (omega arith, k)) (K .left)) (C .left)
 
-  rightly : {A : Type 0} (Q : ℕ) (K : Cover u v Q a w s) → ((u ≡ 0) × (a + w ≡ N) → A) →
-      ((u ≤ 2) × (a + w ≡ Q * K .times + 1) × (s .last + 3 * Q ≤ a + w) → A) → A
-  rightly Q K own far = ⊎-elim own (λ two. ⊎-elim (λ z. absurd (omega arith)) (λ k. far (omega arith, k .0, k .1)) (K .right)) (C .right)
+  rightly : {A : Type 0} (Q : ℕ) → ((u ≡ 0) × (a + w ≡ N) → A) → ((u ≤ 2) × (s .last + 4 * Q ≤ a + w + 1) → A) → Cover u v Q a w s → A
+  rightly Q own far K = ⊎-elim own (λ two. ⊎-elim (λ z. absurd (omega arith)) (λ k. far (omega arith, k)) (K .right)) (C .right)
 
   near : (h : Half) (n : ℕ) → reached s h n ≡ true → (2 * n ≤ s .last + 2) × (s .first ≤ 2 * n + 2)
   unfolding reached
@@ -65,14 +61,12 @@ module _ (u v N a t w : ℕ) (s : Span) (C : Cut u v N a t w) where
       let c = C .even in
       let i = C .inside in
       let k = near lo n e in
-      let m = mul-assoc 2 q (K .times) in
-      leftly (2 * q) (λ l. rightly (2 * q) K (λ r. omega arith) (λ r. omega arith)) (λ l. rightly (2 * q) K (λ r. omega arith) (λ r. omega arith)) K
+      leftly (2 * q) (λ l. rightly (2 * q) (λ r. omega arith) (λ r. omega arith) K) (λ l. rightly (2 * q) (λ r. omega arith) (λ r. omega arith) K) K
   held q some K hi n b e =
       let c = C .even in
       let i = C .inside in
       let k = near hi n e in
-      let m = mul-assoc 2 q (K .times) in
-      leftly (2 * q) (λ l. rightly (2 * q) K (λ r. omega arith) (λ r. omega arith)) (λ l. rightly (2 * q) K (λ r. omega arith) (λ r. omega arith)) K
+      leftly (2 * q) (λ l. rightly (2 * q) (λ r. omega arith) (λ r. omega arith) K) (λ l. rightly (2 * q) (λ r. omega arith) (λ r. omega arith) K) K
 
   -- and where no level is left, what is changed
   pub held-last : Cover u v 1 a w s → (i : ℕ) → i < N → changed s i ≡ true → (a ≤ i) × Sound u v w (i - a)
@@ -83,4 +77,4 @@ module _ (u v N a t w : ℕ) (s : Span) (C : Cut u v N a t w) where
       let k = both-yes _ _ e in
       let f = leb-true (s .first) i (k .0) in
       let g = leb-true i (s .last) (k .1) in
-      leftly 1 (λ l. rightly 1 K (λ r. omega arith) (λ r. omega arith)) (λ l. rightly 1 K (λ r. omega arith) (λ r. omega arith)) K
+      leftly 1 (λ l. rightly 1 (λ r. omega arith) (λ r. omega arith) K) (λ l. rightly 1 (λ r. omega arith) (λ r. omega arith) K) K

@@ -3,14 +3,12 @@ use mathlib.Core.Path.{_≡_, refl, sym, ap, _∙_}
 use mathlib.Core.Logic.{_⊎_, inl, inr, ⊎-elim}
 use Prim.Native.Nat.{ℕ, zero, suc, _+_, _-_, _*_, _/_, _%_, _^_, _≤_, _<_, min}
 use native.Mathlib.Decide.{decLt, ℕ-discrete}
-use native.Mathlib.Nat.{mul-assoc, one-le-pow, mul-div-le, div-add-mod', mod-lt}
+use native.Mathlib.Nat.{mul-assoc, one-le-pow, mul-div-le}
 use native.Mathlib.Omega.{arith}
-use mathlib.Core.Bool.{true}
-use borrow.Author.Tests.{eq-eqb, ne-eqb, le-leb}
 use Rattle.lifting.specs.Line.{lo}
 use Rattle.lifting.specs.Grid.{side, count}
 use Rattle.strokes.specs.Reach.{Span, span, lowSpan}
-use Rattle.strokes.specs.Local.{Cut, Cover, Lies, Placed, Ready, direction, changedOf, loweredOf, widenedOf, windowStart, windowEnd, usedIn}
+use Rattle.strokes.specs.Local.{Cut, Cover, Lies, Placed, Ready, direction, changedOf, loweredOf, widenedOf, windowStart}
 use Rattle.strokes.specs.declared.direction.Direction.{Direction}
 use Rattle.strokes.proofs.CoverLaws.{cut-next, cover-next}
 
@@ -50,20 +48,6 @@ module _ (u v k : ℕ) (d : Direction) (L : Lies u v (suc (suc k)) d) where
         ends = omega arith;
       }
 
--- ---- the places that are used: the low ones, and the high ones in reach
-pub used-low : (d : Direction) (n : ℕ) → usedIn d (2 * n) ≡ true
-unfolding usedIn
-used-low d n = simp (eq-eqb (2 * n % 2) 0 (omega arith))
-
-pub used-high : (d : Direction) (n : ℕ) → d .first ≤ d .start + (2 * n + 1) + 1 → d .start + (2 * n + 1) ≤ d .last + 1 → usedIn d (2 * n + 1) ≡ true
-unfolding usedIn
-used-high d n a b =
-    simp (
-      ne-eqb ((2 * n + 1) % 2) 0 (λ e. absurd (omega arith)),
-      le-leb (d .first) (d .start + (2 * n + 1) + 1) a,
-      le-leb (d .start + (2 * n + 1)) (d .last + 1) b,
-    )
-
 pub placed-next : (k : ℕ) (d : Direction) → Placed (suc (suc k)) d → Placed (suc k) (loweredOf d)
 placed-next k d P = record { u = P .u; v = P .v; lies = lies-next (P .u) (P .v) k d (P .lies) }
 
@@ -79,26 +63,14 @@ module _ (N f l k : ℕ) (b : f < N) (o : f ≤ l) (c : l < N) (m : N < 2 ^ 32) 
   abbrev a : ℕ
   a = windowStart f Q
 
-  abbrev e : ℕ
-  e = windowEnd l Q
-
   abbrev w : ℕ
-  w = min N e - a
+  w = min N (l + 4 * Q - 1) - a
 
   abbrev d : Direction
   d = direction N a w f l
 
-  some : 2 ≤ Q
-  some = let z : 2 ^ suc k ≡ 2 * 2 ^ k = omega arith in let o : 1 ≤ 2 ^ k = one-le-pow k 2 (omega arith) in omega arith
-
-  -- the window ends far after the changed places
-  end-far : l + 3 * Q ≤ e
-  end-far =
-      let m = l + Q - 2 in
-      let z = div-add-mod' m Q in
-      let lt : m % Q < Q = mod-lt m (omega (arith, some)) in
-      let c : m / Q * Q ≡ Q * (m / Q) = omega arith in
-      omega (arith, some)
+  some : 1 ≤ Q
+  some = one-le-pow (suc k) 2 (omega arith)
 
   -- the window starts before the changed places: with the line, or far before them
   start-none : (f + 1) / Q ≤ 3 → a ≡ 0
@@ -119,13 +91,12 @@ module _ (N f l k : ℕ) (b : f < N) (o : f ≤ l) (c : l < N) (m : N < 2 ^ 32) 
   even : a ≡ 2 * (a / 2)
   even = let e = twice k ((f + 1) / Q - 3) in omega arith
 
-  placed : (v : ℕ) (u : ℕ) → ((v ≡ 0) × (a ≡ 0)) ⊎ ((v ≡ 2) × (3 < (f + 1) / Q)) → ((u ≡ 0) × (N ≤ e)) ⊎ ((u ≡ 2) × (e < N)) →
+  placed : (v : ℕ) (u : ℕ) → ((v ≡ 0) × (a ≡ 0)) ⊎ ((v ≡ 2) × (3 < (f + 1) / Q)) → ((u ≡ 0) × (N ≤ l + 4 * Q - 1)) ⊎ ((u ≡ 2) × (l + 4 * Q - 1 < N)) →
       Placed (suc k) d
   placed v u left right =
       let s = some in
       let far = start-far in
       let g = far .0 in
-      let h = end-far in
       record {
         u = u;
         v = v;
@@ -139,9 +110,8 @@ module _ (N f l k : ℕ) (b : f < N) (o : f ≤ l) (c : l < N) (m : N < 2 ^ 32) 
             right = ⊎-elim (λ x. inl (x .0, omega arith)) (λ x. inr (x .0)) right;
           };
           cover = record {
-            times = (l + Q - 2) / Q + 3;
             left = ⊎-elim (λ x. inl (x .0)) (λ x. inr (far .1 (x .1))) left;
-            right = ⊎-elim (λ x. inl (x .0)) (λ x. inr (omega arith, omega arith)) right;
+            right = ⊎-elim (λ x. inl (x .0)) (λ x. inr (omega arith)) right;
           };
           begins = b;
           order = o;
@@ -154,12 +124,12 @@ module _ (N f l k : ℕ) (b : f < N) (o : f ≤ l) (c : l < N) (m : N < 2 ^ 32) 
   widened-placed =
       elim (decLt 3 ((f + 1) / Q)) [
         | yes x ↦
-            elim (decLt e N) [
+            elim (decLt (l + 4 * Q - 1) N) [
               | yes y ↦ placed 2 2 (inr (refl, x)) (inr (refl, y))
               | no y ↦ placed 2 0 (inr (refl, x)) (inl (refl, omega arith))
             ]
         | no x ↦
-            elim (decLt e N) [
+            elim (decLt (l + 4 * Q - 1) N) [
               | yes y ↦ placed 0 2 (inl (refl, start-none (omega arith))) (inr (refl, y))
               | no y ↦ placed 0 0 (inl (refl, start-none (omega arith))) (inl (refl, omega arith))
             ]

@@ -1,6 +1,5 @@
 -- A level of the window lifted by itself: its bands are those of the window, and where they are right those of the map. Assumes nothing.
 use mathlib.Core.Path.{_≡_, refl, sym, ap, _∙_}
-use mathlib.Core.Bool.{true}
 use Prim.Native.Nat.{ℕ, _+_, _-_, _*_, _/_, _≤_, _<_}
 use native.Mathlib.Omega.{arith}
 use lib.IntN.{ℤ}
@@ -18,9 +17,7 @@ use Rattle.wavelet.proofs.LevelTheory.{across-of, down-of}
 use Rattle.map_levels.specs.Rowwise.{cut}
 use Rattle.map_levels.proofs.RowwiseLaws.{cut-in}
 use Rattle.map_levels.proofs.GridSweep.{mapped-in}
-use Rattle.map_levels.specs.Passes.{rowsMapped}
-use Rattle.strokes.specs.declared.direction.Direction.{Direction}
-use Rattle.strokes.specs.Local.{Cut, Sound, usedIn, columnsDone, rowDone, rowsDone, levelDone}
+use Rattle.strokes.specs.Local.{Cut, Sound, columnsDone, levelDone}
 use Rattle.strokes.proofs.WindowLaws.{line-window}
 use Rattle.strokes.proofs.ColumnTurns.{high-done, low-done}
 
@@ -49,11 +46,10 @@ module _ (w h : ℕ) (X : Grid) where
       let e : count lo (side 0 w) + m - count lo (side 0 w) ≡ m = omega arith in
       halves-high (side 0 w) p z (count lo (side 0 w) + m) (omega arith) (omega arith) ∙ ap (p hi) e
 
-  row-cell : (a v : Half) (n m : ℕ) → n < count v (side 0 h) → m < count a (side 0 w) →
-      rowsMapped (rowDone w) w h (columnsDone w h X) (place (side 0 h) v n) (column a m) ≡
-      subband fiveThreeFilter wrap32 (side 0 w) (side 0 h) X (bandOf a v) n m
-  unfolding forwardInto subband
-  row-cell a v n m p q =
+  pub level-cell : (a v : Half) (n m : ℕ) → n < count v (side 0 h) → m < count a (side 0 w) →
+      levelDone w h X (place (side 0 h) v n) (column a m) ≡ subband fiveThreeFilter wrap32 (side 0 w) (side 0 h) X (bandOf a v) n m
+  unfolding levelDone forwardInto subband
+  level-cell a v n m p q =
       let r = place (side 0 h) v n in
       let y = cut w (columnsDone w h X r) in
       mapped-in _ w h (columnsDone w h X) r (column a m) (place-in (side 0 h) v n p) (column-in a m q)
@@ -62,13 +58,6 @@ module _ (w h : ℕ) (X : Grid) where
       (λ j b _. cut-in w (columnsDone w h X r) j b ∙ column-row v n j p b)
       ∙ sym (ap (λ (d : Half). lineForward wrap32 (side 0 w) (columnsLifted fiveThreeFilter wrap32 (side 0 h) X d n) (across (bandOf a v)) m) (down-of a v)
       ∙ ap (λ (d : Half). lineForward wrap32 (side 0 w) (columnsLifted fiveThreeFilter wrap32 (side 0 h) X v n) d m) (across-of a v))
-
--- in the rows that are used
-pub level-cell : (w : ℕ) (e : Direction) (X : Grid) (a v : Half) (n m : ℕ) → usedIn e (place (side 0 (e .size)) v n) ≡ true →
-    n < count v (side 0 (e .size)) → m < count a (side 0 w) →
-    levelDone w e X (place (side 0 (e .size)) v n) (column w (e .size) X a m) ≡ subband fiveThreeFilter wrap32 (side 0 w) (side 0 (e .size)) X (bandOf a v) n m
-unfolding levelDone rowsDone
-level-cell w e X a v n m used p q = simp used (row-cell w (e .size) X a v n m p q)
 
 -- ---- and the map's
 module _ (u v N a t w : ℕ) (C : Cut u v N a t w) (u′ v′ M b s h : ℕ) (D : Cut u′ v′ M b s h) (X G : Grid)
@@ -83,17 +72,11 @@ module _ (u v N a t w : ℕ) (C : Cut u v N a t w) (u′ v′ M b s h : ℕ) (D 
       (λ j sj. line-window wrap32 u′ v′ M b s h D (λ i. G i (a + j)) (λ i. X i j) (λ i si. e i j si sj) (down (bandOf x y)) n (rw (down-of x y) p) l r)
       (across (bandOf x y)) m (rw (across-of x y) q) l′ r′
 
--- in memory
-module _ (u v N a t w : ℕ) (C : Cut u v N a t w) (u′ v′ M b s : ℕ) (rows : Direction) (D : Cut u′ v′ M b s (rows .size)) (X G : Grid)
-    (e : (r c : ℕ) → Sound u′ v′ (rows .size) r → Sound u v w c → X r c ≡ G (b + r) (a + c)) where
-  abbrev h : ℕ
-  h = rows .size
-
-  pub window-at : (S : ℕ) (x y : Half) (n m : ℕ) → usedIn rows (place (side 0 h) y n) ≡ true → w ≤ S → n < count y (side 0 h) → m < count x (side 0 w) →
-      v′ ≤ n → n + u′ < (h + 1) / 2 → v ≤ m → m + u < (w + 1) / 2 →
-      flat S (levelDone w rows X) (place (side 0 h) y n * S + column w h X x m) ≡ subband fiveThreeFilter wrap32 (side 0 N) (side 0 M) G (bandOf x y) (s + n)
+  -- in memory
+  pub window-at : (S : ℕ) (x y : Half) (n m : ℕ) → w ≤ S → n < count y (side 0 h) → m < count x (side 0 w) → v′ ≤ n → n + u′ < (h + 1) / 2 → v ≤ m →
+      m + u < (w + 1) / 2 →
+      flat S (levelDone w h X) (place (side 0 h) y n * S + column w h X x m) ≡ subband fiveThreeFilter wrap32 (side 0 N) (side 0 M) G (bandOf x y) (s + n)
       (t + m)
-  window-at S x y n m used wide p q l r l′ r′ =
+  window-at S x y n m wide p q l r l′ r′ =
       let k = column-in w h X x m q in
-      flat-at S (levelDone w rows X) (place (side 0 h) y n) (column w h X x m) (omega arith) ∙ level-cell w rows X x y n m used p q
-      ∙ band-window u v N a t w C u′ v′ M b s h D X G e x y n m p q l r l′ r′
+      flat-at S (levelDone w h X) (place (side 0 h) y n) (column w h X x m) (omega arith) ∙ level-cell w h X x y n m p q ∙ band-window x y n m p q l r l′ r′

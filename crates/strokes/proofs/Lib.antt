@@ -12,7 +12,6 @@ pub mod MendTurn
 pub mod StepLaws
 pub mod Standing
 pub mod MapCall
-pub mod MendAsks
 pub mod ReachLaws
 pub mod MendLaws
 pub mod ArtistLaws

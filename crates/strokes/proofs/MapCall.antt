@@ -4,13 +4,12 @@ use mathlib.Core.Bool.{Bool, true, false}
 use mathlib.Core.List.{List}
 use Prim.Native.Nat.{ℕ, zero, suc, _+_, _-_, _*_, _/_, _^_, _≤_, _<_}
 use native.Mathlib.Nat.{mul-le-mul, mul-le-mul-right, mul-comm}
-use native.Mathlib.Decide.{decLt, ℕ-discrete}
-use mathlib.Core.Logic.{⊎-elim}
+use native.Mathlib.Decide.{decLt}
 use native.Mathlib.Omega.{arith}
 use lib.IntN.{ℤ}
 use lib.ListN.{length, getD}
 use lib.Dec.{leb}
-use borrow.Author.Tests.{leb-true, le-leb, eq-eqb, ne-eqb, lt-ltb, le-ltb}
+use borrow.Author.Tests.{leb-true, le-leb}
 use borrow.Rule.Slice.PartMut.{midOf, putMid, same-len-mid}
 use Rattle.numbers.specs.Signal.{at, pick}
 use Rattle.numbers.specs.Word.{wrap32, whole}
@@ -31,16 +30,15 @@ use Rattle.wavelet.proofs.GridLaws.{cells-flat}
 use Rattle.wavelet.proofs.LimitLaws.{width-small, height-small, five-three-few}
 use Rattle.wavelet.proofs.Bridge.{map-plane}
 use Rattle.map_questions.specs.Calls.{zeros}
-use Rattle.map_levels.specs.Passes.{Rows}
+use Rattle.map_levels.specs.Passes.{Rows, gridCopied}
 use Rattle.map_levels.specs.LevelPasses.{Doubling}
-use Rattle.map_levels.proofs.GridSweep.{within-in, row-room}
+use Rattle.map_levels.proofs.GridSweep.{within-in}
+use Rattle.map_levels.proofs.CellLaws.{copied-in}
 use Rattle.map_levels.proofs.LevelCalls.{moved-part}
 use Rattle.map_levels.proofs.CallLaws.{map-rows, map-doubling, map-places, heights-map}
 use Rattle.strokes.specs.Reach.{Span, inReach}
 use Rattle.strokes.specs.Strokes.{columnSpan, rowSpan, mendedCell, mendedPlane, stretchIn, liesIn}
-use Rattle.strokes.specs.Local.{Lies, Placed, Agrees, widenedOf, gridMended, changedOf, unreadBefore, unreadPast, readOf, patch, patchCopied}
-use Rattle.strokes.proofs.PatchLaws.{patch-in}
-use Rattle.strokes.proofs.CoverLaws.{Held}
+use Rattle.strokes.specs.Local.{Lies, Placed, Agrees, widenedOf, gridMended, changedOf}
 use Rattle.strokes.specs.declared.rectangle.Rectangle.{Rectangle}
 use Rattle.strokes.specs.declared.direction.Direction.{Direction}
 use Rattle.strokes.proofs.DirectionLaws.{widened-placed}
@@ -99,79 +97,15 @@ module _ (W H L : ℕ) (s : Sized W H L) (c r : Direction) (Pc : Placed L c) (Pr
   pub map-sizes : (n : ℕ) → W * H ≤ n → Rows n W (c .length) (r .length)
   map-sizes n b = rw (ec, er) (map-rows W H L n s b)
 
--- ---- the window loaded is the map where it is read
--- the places that are not read are among those that are not right
-abbrev pub Unread : ℕ → ℕ → Direction → Type 0
-Unread u v d = (unreadBefore d ≤ v) × (unreadPast d ≤ u)
-
-unread-of : (u v k : ℕ) (d : Direction) → Lies u v k d → Unread u v d
-unfolding unreadBefore unreadPast
-unread-of u v k d L = (
-  ⊎-elim (λ e. simp (eq-eqb (d .start) 0 (e .1)) (omega arith)) (λ e. elim (ℕ-discrete (d .start) 0)
-      [ yes z ↦ simp (eq-eqb (d .start) 0 z) (omega arith) | no z ↦ simp (ne-eqb (d .start) 0 z) (omega (arith, e)) ]) (L .cut .left),
-  ⊎-elim (λ e. simp (le-ltb (d .start + d .size) (d .length) (omega (arith, e .1))) (omega arith)) (λ e. elim (decLt (d .start + d .size) (d .length)) [
-    | yes z ↦ simp (lt-ltb (d .start + d .size) (d .length) z) (omega (arith, e))
-    | no z ↦ simp (le-ltb (d .start + d .size) (d .length) (omega arith)) (omega arith)
-  ])
-      (L .cut .right),
-)
-
-unread-in : (k : ℕ) (d : Direction) → Placed k d → 1 ≤ k → unreadBefore d + unreadPast d ≤ d .size
-unread-in zero d P b = absurd (omega arith)
-unread-in (suc k) d P b =
-    let h = first-held (P .u) (P .v) k d (P .lies) in
-    let n = unread-of (P .u) (P .v) (suc k) d (P .lies) in
-    omega (arith, n .0, n .1, h .left, h .right)
-
--- what `load` leaves
-abbrev pub loadedOf : ℕ → Direction → Direction → (ℕ → ℤ) → (ℕ → ℤ) → Grid
-loadedOf A c r g y =
-    patchCopied (readOf c r) (λ i j. g ((r .start + unreadBefore r) * A + (c .start + unreadBefore c) + i * A + j)) (cells (c .size) y)
-
+-- ---- the window loaded is the map where it is
 pub loaded-agrees : (u v u′ v′ A : ℕ) (c r : Direction) (g x y : ℕ → ℤ) → 0 < c .size →
-    Unread u v c → Unread u′ v′ r → x ≡ flat (c .size) (loadedOf A c r g y) → Agrees u v u′ v′ c r (cells A g) (cells (c .size) x)
-unfolding cells
-loaded-agrees u v u′ v′ A c r g x y some m n e i j si sj =
+    x ≡ flat (c .size) (gridCopied (c .size) (r .size) (λ i j. cells A g (r .start + i) (c .start + j)) (cells (c .size) y)) →
+    Agrees u v u′ v′ c r (cells A g) (cells (c .size) x)
+loaded-agrees u v u′ v′ A c r g x y some e i j si sj =
     let a = si .right in
     let b = sj .right in
-    let p = si .left in
-    let q = sj .left in
     ap (λ (z : ℕ → ℤ). cells (c .size) z i j) e ∙ cells-flat (c .size) _ i j (omega arith)
-    ∙ patch-in (readOf c r) _ (cells (c .size) y) i j (omega (arith, n .0)) (omega (arith, n .0, n .1)) (omega (arith, m .0)) (omega (arith, m .0, m .1))
-    ∙ ap g (moved A (r .start) (unreadBefore r) (c .start) (unreadBefore c) i j (omega (arith, n .0)) (omega (arith, m .0)))
-  where
-    moved : (A s v t w i j : ℕ) → v ≤ i → w ≤ j → (s + v) * A + (t + w) + (i - v) * A + (j - w) ≡ (s + i) * A + (t + j)
-    moved A s v t w i j a b =
-        let e : s + i ≡ s + v + (i - v) = omega arith in
-        let f : (s + v + (i - v)) * A ≡ (s + v) * A + (i - v) * A = omega arith in
-        rw e (omega arith)
-
--- what the loading asks
-pub load-place : (r A c : ℕ) → r < 2 ^ 32 → A < 2 ^ 32 → c < 2 ^ 32 → r * A + c < 2 ^ 64
-load-place r A c x y z =
-    let k : r * A ≤ 4294967295 * 4294967295 = mul-le-mul {n₁ = r} {m₁ = A} {n₂ = 4294967295} {m₂ = 4294967295} (omega arith) (omega arith) in
-    omega arith
-
-module _ (n m A : ℕ) (c r : Direction) (R : Rows n A A (r .length)) (T : Rows m (c .size) (c .size) (r .size)) (ic : c .start + c .size ≤ A)
-    (ir : r .start + r .size ≤ r .length) (left top cs rs a : ℕ) (el : left ≡ unreadBefore c) (et : top ≡ unreadBefore r)
-    (es : cs ≡ c .size - unreadBefore c - unreadPast c) (ers : rs ≡ r .size - unreadBefore r - unreadPast r) where
-  pub load-asks : a ≡ (r .start + top) * A + (c .start + left) → unreadBefore c + unreadPast c ≤ c .size → unreadBefore r + unreadPast r ≤ r .size →
-      (0 < c .size) × (left + cs ≤ c .size) × ((i : ℕ) → i < rs → a + i * A + cs ≤ n) × ((i : ℕ) → i < rs → (top + i) * c .size + left + cs ≤ m)
-  load-asks ea uc ur =
-      let w : left + cs ≤ c .size = omega arith in (
-        T .apart,
-        w,
-        λ i b.
-            let k = row-room n A A (r .length) (r .start + top + i) R (omega arith) in
-            let e : (r .start + top + i) * A ≡ (r .start + top) * A + i * A = omega arith in
-            omega arith,
-        λ i b. let k = row-room m (c .size) (c .size) (r .size) (top + i) T (omega arith) in omega arith,
-      )
-
-  pub load-made : (g x y : ℕ → ℤ) →
-      x ≡ flat (c .size) (patchCopied (patch top left rs cs) (λ i j. g ((r .start + top) * A + (c .start + left) + i * A + j)) (cells (c .size) y)) →
-      x ≡ flat (c .size) (loadedOf A c r g y)
-  load-made g x y e = rw (el, et, es, ers) at e
+    ∙ copied-in (c .size) (r .size) (λ m n. cells A g (r .start + m) (c .start + n)) (cells (c .size) y) i j (omega arith) (omega arith)
 
 -- ---- the levels of a map leave the mended plane: for a map the words are whole numbers
 pub map-mended : (W H L : ℕ) (q : Rectangle) (l : List ℕ) (z z′ : ℕ → ℤ) → Sized W H L → ((i : ℕ) → getD l i 0 < 65536) →
@@ -223,34 +157,28 @@ map-window {W} {H} {L} q s e ec er =
 
 module _ {W H L : ℕ} {c r : Direction} (w : MapWindow W H L c r) (s : Sized W H L) where
   pub window-load : {n m : ℕ} → W * H ≤ n → W * H ≤ m → Rows n W W (r .length) × Rows m (c .size) (c .size) (r .size) × (c .start + c .size ≤ W) ×
-      (r .start + r .size ≤ r .length) × (W < 2 ^ 32) × (r .length < 2 ^ 32) × (unreadBefore c + unreadPast c ≤ c .size) ×
-      (unreadBefore r + unreadPast r ≤ r .size)
+      (r .start + r .size ≤ r .length)
   window-load {n} {m} a b = (
     rw (w .height) (map-rows W H L n s a),
     window-rows W H L s c r (w .columns) (w .rows) (w .width) (w .height) m b,
     omega (arith, w .columns .lies .cut .inside, w .width),
     w .rows .lies .cut .inside,
-    omega (arith, s .width .1, width-small),
-    omega (arith, s .height .1, height-small, w .height),
-    unread-in L c (w .columns) (s .levels .0),
-    unread-in L r (w .rows) (s .levels .0),
   )
 
   pub window-levels : {n m : ℕ} → W * H ≤ n → W * H ≤ m → Placed L c × Placed L r × Doubling L (c .size) (c .size) × Rows m (c .size) (c .size)
-      (r .size) × Rows n W (c .length) (r .length) × (c .length ≤ maxWidth)
+      (r .size) × Rows n W (c .length) (r .length)
   window-levels {n} {m} a b = (
     w .columns,
     w .rows,
     window-doubling W H L s c r (w .columns) (w .rows) (w .width) (w .height),
     window-rows W H L s c r (w .columns) (w .rows) (w .width) (w .height) m b,
     map-sizes W H L s c r (w .columns) (w .rows) (w .width) (w .height) n a,
-    omega (arith, w .width, s .width .1),
   )
 
   -- what the levels leave
   pub window-mended : (l : List ℕ) (y x z z′ : ℕ → ℤ) (q : Rectangle) → ((i : ℕ) → getD l i 0 < 65536) → c ≡ widenedOf W (q .left) (q .width) (2 ^ L) →
       r ≡ widenedOf H (q .top) (q .height) (2 ^ L) →
-      x ≡ flat (c .size) (loadedOf W c r (heightsAt l) y) →
+      x ≡ flat (c .size) (gridCopied (c .size) (r .size) (λ i j. cells W (heightsAt l) (r .start + i) (c .start + j)) (cells (c .size) y)) →
       ((u v u′ v′ : ℕ) (G : Grid) → Lies u v L c → Lies u′ v′ L r → Agrees u v u′ v′ c r G (cells (c .size) x) →
       z′ ≡ flat W (gridMended L (c .length) (r .length) (changedOf c) (changedOf r) G (cells W z))) →
       z′ ≡ fronted (W * H) (mendedPlane L W H q (heightsAt l) z) z
@@ -258,6 +186,5 @@ module _ {W H L : ℕ} {c r : Direction} (w : MapWindow W H L c r) (s : Sized W 
       let Pc = w .columns in
       let Pr = w .rows in
       let is = made (Pc .u) (Pc .v) (Pr .u) (Pr .v) (cells W (heightsAt l)) (Pc .lies) (Pr .lies)
-      (loaded-agrees (Pc .u) (Pc .v) (Pr .u) (Pr .v) W c r (heightsAt l) x y (some-size L c Pc (s .levels .0))
-      (unread-of (Pc .u) (Pc .v) L c (Pc .lies)) (unread-of (Pr .u) (Pr .v) L r (Pr .lies)) load) in
+      (loaded-agrees (Pc .u) (Pc .v) (Pr .u) (Pr .v) W c r (heightsAt l) x y (some-size L c Pc (s .levels .0)) load) in
       map-mended W H L q l z z′ s fits (rw (ec, er) at is)

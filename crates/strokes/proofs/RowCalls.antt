@@ -1,6 +1,5 @@
--- Rows lifted through another line: what a call or a turn comes to. Assumes nothing.
+-- Rows loaded, lifted through another line, and copied: what a call or a turn comes to. Assumes nothing.
 use mathlib.Core.Path.{_≡_, refl, sym, ap, _∙_}
-use mathlib.Core.Bool.{Bool, true, false, not, true≢false, false≢true}
 use mathlib.Core.List.{List}
 use Prim.Native.Nat.{ℕ, _+_, _-_, _*_, _≤_, _<_}
 use native.Mathlib.Omega.{arith}
@@ -8,8 +7,8 @@ use lib.IntN.{ℤ}
 use lib.ListN.{length}
 use lib.Dec.{leb}
 use borrow.Author.Tests.{le-leb}
-use borrow.Rule.Slice.PartMut.{midOf, putMid}
-use Rattle.numbers.specs.Signal.{at, pick}
+use borrow.Rule.Slice.PartMut.{midOf}
+use Rattle.numbers.specs.Signal.{at, pick, spliced}
 use Rattle.numbers.specs.Word.{wrap32}
 use Rattle.numbers.proofs.Parts.{length-mid}
 use Rattle.lifting.specs.Line.{lo, hi}
@@ -22,11 +21,12 @@ use Rattle.areas.proofs.AreaLaws.{did}
 use Rattle.wavelet.specs.Bands.{Grid}
 use Rattle.wavelet.specs.Plane.{cells}
 use Rattle.map_levels.specs.Rowwise.{cut}
-use Rattle.map_levels.specs.Passes.{rowsMapped}
+use Rattle.map_levels.specs.Passes.{gridCopied}
 use Rattle.map_levels.proofs.RowwiseLaws.{cut-in, lent-front}
-use Rattle.map_levels.proofs.GridSweep.{Passed, row-length, lent-row, part-turn, mapped-in, mapped-past, mapped-wide}
-use Rattle.strokes.specs.Local.{rowDone, usedIn, rowsDone}
-use Rattle.strokes.specs.declared.direction.Direction.{Direction}
+use Rattle.map_levels.proofs.GridSweep.{RowSwept}
+use Rattle.map_levels.proofs.LevelCalls.{fill-turn}
+use Rattle.map_levels.proofs.CellLaws.{copied-in, copied-out, outside-columns}
+use Rattle.strokes.specs.Local.{rowDone}
 
 -- a line's values read its own numbers
 pub cut-forward : (S : Side) (x z : ℕ → ℤ) → inHalves S (lineForward wrap32 S (cut (S .length) x)) z ≡ inHalves S (lineForward wrap32 S x) z
@@ -50,43 +50,13 @@ forward-through n k m y x z l e h em is made =
     rw (mid ∙ e) at (did _ _ _ _ (le-leb (length (midOf 0 k l)) m (omega arith)) made) in
     is′ ∙ ap (λ (u : ℕ → ℤ). inHalves (side 0 n) (lineForward wrap32 (side 0 n) u) x) (lent-front n k x z l e h is) ∙ cut-forward (side 0 n) x x
 
--- a row that is used, and one that is not
-pub row-left : (n : ℕ) (x : ℕ → ℤ) (b : Bool) → not b ≡ true → x ≡ pick b (rowDone n x) x
-row-left n x true e = absurd (false≢true e)
-row-left n x false e = refl
-
-pub row-used : (n : ℕ) (y x : ℕ → ℤ) (b : Bool) → not b ≡ false → y ≡ rowDone n x → y ≡ pick b (rowDone n x) x
-row-used n y x true e f = f
-row-used n y x false e f = absurd (true≢false e)
-
--- row i of a pass over the rows that are used
-pub used-turn : (s w : ℕ) (d : Direction) (l₀ : List ℤ) (i k : ℕ) (l z : List ℤ) (b : Bool) → k ≡ w → i < d .size → b ≡ usedIn d i →
-    length z ≡ length (midOf (i * s) k l) → at z ≡ pick b (rowDone (length (midOf (i * s) k l)) (at (midOf (i * s) k l))) (at (midOf (i * s) k l)) →
-    Passed s w (d .size) (rowsDone w d (cells s (at l₀))) l₀ i l →
-    Passed s w (d .size) (rowsDone w d (cells s (at l₀))) l₀ (i + 1) (putMid (i * s) k l z)
-unfolding rowsDone
-used-turn s w d l₀ i k l z b e lt eb ez is p =
-    let X = cells s (at l₀) in
-    let mid = row-length s w (d .size) _ l₀ i k l e lt p in
-    let is′ : at z ≡ pick (usedIn d i) (rowDone w (cut w (X i))) (cut w (X i)) = cc (is, eb, mid, lent-row s w (d .size) _ l₀ i k l e p) in
-    part-turn s w (d .size) _ l₀ i k l z e lt ez
-    (λ c q.
-    ap (λ (f : ℕ → ℤ). f c) is′
-    ∙ elim (usedIn d i) as (λ t. pick t (rowDone w (cut w (X i))) (cut w (X i)) c ≡ pick t (rowsMapped (rowDone w) w (d .size) X i c) (X i c)) [
-      | true ↦ sym (mapped-in (rowDone w) w (d .size) X i c lt q)
-      | false ↦ cut-in w (X i) c q
-    ])
-    (λ c q.
-    elim (usedIn d i) as (λ t. pick t (rowsMapped (rowDone w) w (d .size) X i c) (X i c) ≡ X i c) [
-      | true ↦ mapped-wide (rowDone w) w (d .size) X i c q
-      | false ↦ refl
-    ])
-    p
-
-pub rows-past : (w : ℕ) (d : Direction) (X : Grid) (r c : ℕ) → d .size ≤ r → rowsDone w d X r c ≡ X r c
-unfolding rowsDone
-rows-past w d X r c h =
-    elim (usedIn d r) as (λ t. pick t (rowsMapped (rowDone w) w (d .size) X r c) (X r c) ≡ X r c) [
-      | true ↦ mapped-past (rowDone w) w (d .size) X r c h
-      | false ↦ refl
-    ]
+-- a row of the window loaded
+pub loaded-turn : (A w h a b i : ℕ) (g x₀ x x′ : ℕ → ℤ) → w ≤ w → i < h → x′ ≡ spliced (i * w) w (λ j. g ((b + i) * A + a + j)) x →
+    RowSwept w (gridCopied w h (λ r c. cells A g (b + r) (a + c)) (cells w x₀)) (cells w x₀) i x →
+    RowSwept w (gridCopied w h (λ r c. cells A g (b + r) (a + c)) (cells w x₀)) (cells w x₀) (i + 1) x′
+unfolding cells
+loaded-turn A w h a b i g x₀ x x′ ws ih is sw =
+    fill-turn w w h i _ _ (λ j. g ((b + i) * A + a + j)) x x′ ws is
+    (λ c cw. ap g (omega arith) ∙ sym (copied-in w h (λ r k. cells A g (b + r) (a + k)) (cells w x₀) i c ih cw))
+    (λ c k. copied-out w h (λ r j. cells A g (b + r) (a + j)) (cells w x₀) i c (outside-columns w h i c k))
+    sw

@@ -18,7 +18,7 @@ use Rattle.strokes.specs.Reach.{Span, span, lowSpan}
 use Rattle.strokes.specs.Local.{Sound, Lies, Placed, Agrees, changedOf, loweredOf, levelDone, bandMended, highsMended, gridMended}
 use Rattle.strokes.specs.declared.direction.Direction.{Direction}
 use Rattle.strokes.proofs.LevelLaws.{column, window-at}
-use Rattle.strokes.proofs.DirectionLaws.{lows-of, lies-next, placed-next, used-low}
+use Rattle.strokes.proofs.DirectionLaws.{lows-of, lies-next, placed-next}
 use Rattle.strokes.proofs.MendTurn as mend
 use Rattle.strokes.proofs.StepLaws.{then-band}
 
@@ -30,10 +30,10 @@ pub record Standing (A : ℕ) (goal : ℕ → ℤ) (u v u′ v′ k s : ℕ) (c 
   pub agrees : Agrees u v u′ v′ c r grid (cells s x)
   pub is : goal ≡ flat A (gridMended k (c .length) (r .length) (changedOf c) (changedOf r) grid (cells A z))
 
--- the high bands of a level, copied: x is the window before it
+-- the high bands of a level, copied
 abbrev pub Copied : ℕ → ℕ → Direction → Direction → (ℕ → ℤ) → (ℕ → ℤ) → (ℕ → ℤ) → Type 0
 Copied A s c r x z z₁ =
-    (k u v u′ v′ : ℕ) (G : Grid) → Lies u v (suc k) c → Lies u′ v′ (suc k) r → Agrees u v u′ v′ c r G (cells s x) →
+    (k u v u′ v′ : ℕ) (G X : Grid) → Lies u v (suc k) c → Lies u′ v′ (suc k) r → Agrees u v u′ v′ c r G X → x ≡ flat s (levelDone (c .size) (r .size) X) →
     z₁ ≡ flat A (highsMended (c .length) (r .length) (changedOf c) (changedOf r) G (cells A z))
 
 span-next : (d : Direction) → lowSpan (changedOf d) ≡ changedOf (loweredOf d)
@@ -46,7 +46,7 @@ grid-same L W H s t G P Q r c e = rw e
 
 -- the next level's grid is in the rows of even number, twice as far apart
 module _ (u v u′ v′ k : ℕ) (c r : Direction) (Lc : Lies u v (suc k) c) (Lr : Lies u′ v′ (suc k) r) (G X : Grid) (same : Agrees u v u′ v′ c r G X) (s : ℕ)
-    (wide : c .size ≤ s) (x : ℕ → ℤ) (is : x ≡ flat s (levelDone (c .size) r X)) where
+    (wide : c .size ≤ s) (x : ℕ → ℤ) (is : x ≡ flat s (levelDone (c .size) (r .size) X)) where
   pub agrees-next : Agrees u v u′ v′ (loweredOf c) (loweredOf r)
       (subband fiveThreeFilter wrap32 (side 0 (c .length)) (side 0 (r .length)) G LL) (cells (2 * s) x)
   unfolding cells place count bandOf
@@ -56,21 +56,20 @@ module _ (u v u′ v′ k : ℕ) (c r : Direction) (Lc : Lies u v (suc k) c) (Lr
       let lm = sm .left in
       let rm = sm .right in
       let e : n * (2 * s) + m ≡ (2 * n + 0) * s + m = omega arith in
-      let z : 2 * n + 0 ≡ 2 * n = omega arith in
-      ap (λ (y : ℕ → ℤ). y (n * (2 * s) + m)) is ∙ ap (flat s (levelDone (c .size) r X)) e
-      ∙ window-at u v (c .length) (c .start) (c .start / 2) (c .size) (Lc .cut) u′ v′ (r .length) (r .start) (r .start / 2) r
-      (Lr .cut) X G same s lo lo n m (rw z (used-low r n)) wide
+      ap (λ (y : ℕ → ℤ). y (n * (2 * s) + m)) is ∙ ap (flat s (levelDone (c .size) (r .size) X)) e
+      ∙ window-at u v (c .length) (c .start) (c .start / 2) (c .size) (Lc .cut) u′ v′ (r .length) (r .start) (r .start / 2) (r .size)
+      (Lr .cut) X G same s lo lo n m wide
       (omega arith) (omega arith) ln (omega arith) lm (omega arith)
 
 module _ (A : ℕ) (goal : ℕ → ℤ) (u v u′ v′ k s : ℕ) (c r : Direction) (x x₁ z z₁ : ℕ → ℤ) (some : 0 < A) (wide : c .size ≤ s)
-    (e : x₁ ≡ flat s (levelDone (c .size) r (cells s x))) (f : Copied A s c r x z z₁) where
+    (e : x₁ ≡ flat s (levelDone (c .size) (r .size) (cells s x))) (f : Copied A s c r x₁ z z₁) where
   -- one level more
   pub standing-next : Standing A goal u v u′ v′ (suc (suc k)) s c r x z → Standing A goal u v u′ v′ (suc k) (2 * s) (loweredOf c) (loweredOf r) x₁ z₁
   standing-next S =
       let W = c .length in
       let H = r .length in
       let low = subband fiveThreeFilter wrap32 (side 0 W) (side 0 H) (S .grid) LL in
-      let copied = f (suc k) u v u′ v′ (S .grid) (S .columns) (S .rows) (S .agrees) in
+      let copied = f (suc k) u v u′ v′ (S .grid) (cells s x) (S .columns) (S .rows) (S .agrees) e in
       let there : goal ≡ flat A (gridMended (suc k) (count lo (side 0 W)) (count lo (side 0 H)) (lowSpan (changedOf c)) (lowSpan (changedOf r)) low
       (cells A z₁)) =
       S .is
@@ -95,7 +94,8 @@ module _ (A : ℕ) (goal : ℕ → ℤ) (u v u′ v′ k s : ℕ) (c r : Directi
       (cells A z₁))) → z₂ ≡ goal
   unfolding bandOf
   standing-last z₂ S g =
-      then-band A lo lo (c .length) (r .length) (changedOf c) (changedOf r) _ _ z₁ z₂ some (f 0 u v u′ v′ (S .grid) (S .columns) (S .rows) (S .agrees))
+      then-band A lo lo (c .length) (r .length) (changedOf c) (changedOf r) _ _ z₁ z₂ some (f 0 u v u′ v′ (S .grid) (cells s x) (S .columns) (S .rows)
+      (S .agrees) e)
       (g (S .grid) (S .agrees) (S .columns) (S .rows))
       ∙ sym (S .is ∙ flat-same A _ _ some (λ i j b. mend.last (c .length) (r .length) (changedOf c) (changedOf r) (S .grid) (cells A z) i j))
 
@@ -130,12 +130,9 @@ levels-turn A n m s (suc (suc k)) c c′ r r′ b ec er Pc Pr D R T =
     let e : suc (suc k) - 1 ≡ suc k = omega arith in
     rw (e, ec, er) (omega arith, placed-next k c Pc, placed-next k r Pr, doubling-lowered k s c D, rows-lowered n m A s c r R T, plane-lowered n m A s c r R T)
 
-pub narrower : (c c′ : Direction) {n : ℕ} → c′ ≡ loweredOf c → c .length ≤ n → c′ .length ≤ n
-narrower c c′ e b = rw e (omega arith)
-
 pub standing-turn : (A : ℕ) (goal : ℕ → ℤ) (u v u′ v′ left s : ℕ) (c c′ r r′ : Direction) (x x₁ z z₁ : ℕ → ℤ) → 1 < left → c′ ≡ loweredOf c →
     r′ ≡ loweredOf r → 0 < A →
-    c .size ≤ s → x₁ ≡ flat s (levelDone (c .size) r (cells s x)) → Copied A s c r x z z₁ → Standing A goal u v u′ v′ left s c r x z →
+    c .size ≤ s → x₁ ≡ flat s (levelDone (c .size) (r .size) (cells s x)) → Copied A s c r x₁ z z₁ → Standing A goal u v u′ v′ left s c r x z →
     Standing A goal u v u′ v′ (left - 1) (2 * s) c′ r′ x₁ z₁
 standing-turn A goal u v u′ v′ zero s c c′ r r′ x x₁ z z₁ b ec er some wide e f S = absurd (omega arith)
 standing-turn A goal u v u′ v′ (suc zero) s c c′ r r′ x x₁ z z₁ b ec er some wide e f S = absurd (omega arith)

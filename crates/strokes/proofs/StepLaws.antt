@@ -1,10 +1,9 @@
 -- What the calls of one level come to: the level lifted, its bands in memory, its high bands copied. Assumes nothing.
-use mathlib.Core.Path.{_≡_, refl, sym, ap, ap₂, _∙_}
+use mathlib.Core.Path.{_≡_, refl, sym, ap, _∙_}
 use mathlib.Core.Bool.{true}
 use Prim.Native.Nat.{ℕ, zero, suc, _+_, _-_, _*_, _/_, _≤_, _<_}
 use native.Mathlib.Omega.{arith}
 use lib.IntN.{ℤ}
-use Rattle.numbers.specs.Signal.{pick}
 use Rattle.numbers.specs.Word.{wrap32}
 use Rattle.lifting.specs.Line.{Half, lo, hi}
 use Rattle.lifting.specs.Grid.{side, place, count}
@@ -12,30 +11,24 @@ use Rattle.lifting.specs.FiveThree.{fiveThreeFilter}
 use Rattle.wavelet.specs.Bands.{Grid, bandOf, subband}
 use Rattle.wavelet.specs.Plane.{cells, flat}
 use Rattle.wavelet.proofs.GridLaws.{cells-flat}
+use Rattle.map_levels.specs.Passes.{rowsMapped}
 use Rattle.map_levels.proofs.CellLaws.{flat-same}
 use Rattle.map_levels.proofs.LevelCalls.{mapped-same}
 use Rattle.strokes.specs.Reach.{Span, reached}
-use Rattle.strokes.specs.Local.{Lies, Agrees, changedOf, usedIn, columnsDone, rowDone, rowsDone, levelDone, placeOf, halfOf, bandMended, highsMended}
+use Rattle.strokes.specs.Local.{Lies, Agrees, changedOf, columnsDone, rowDone, levelDone, placeOf, halfOf, bandMended, highsMended}
 use Rattle.strokes.specs.declared.direction.Direction.{Direction}
-use borrow.Author.Tests.{leb-true}
-use Rattle.numbers.proofs.Sweep.{both as both-yes}
 use Rattle.strokes.proofs.CoverLaws.{Held}
-use Rattle.strokes.proofs.DirectionLaws.{used-low, used-high}
 use Rattle.strokes.proofs.LevelLaws.{column, window-at}
 use Rattle.strokes.proofs.BandLaws.{held-of}
 
 -- ---- columns, then rows
-rows-same : (w : ℕ) (d : Direction) (X Y : Grid) (r c : ℕ) → X r c ≡ Y r c → ((j : ℕ) → j < w → X r j ≡ Y r j) → rowsDone w d X r c ≡ rowsDone w d Y r c
-unfolding rowsDone
-rows-same w d X Y r c e f = ap₂ (pick (usedIn d r)) (mapped-same (rowDone w) w (d .size) X Y r c e f) e
-
-pub lifted : (s w : ℕ) (d : Direction) (x x₁ x₂ : ℕ → ℤ) → 0 < s → w ≤ s → x₁ ≡ flat s (columnsDone w (d .size) (cells s x)) →
-    x₂ ≡ flat s (rowsDone w d (cells s x₁)) → x₂ ≡ flat s (levelDone w d (cells s x))
+pub lifted : (s w h : ℕ) (x x₁ x₂ : ℕ → ℤ) → 0 < s → w ≤ s → x₁ ≡ flat s (columnsDone w h (cells s x)) → x₂ ≡ flat s (rowsMapped (rowDone w) w h (cells s x₁)) →
+    x₂ ≡ flat s (levelDone w h (cells s x))
 unfolding levelDone
-lifted s w d x x₁ x₂ some ws e f =
-    let same : (r c : ℕ) → c < s → cells s x₁ r c ≡ columnsDone w (d .size) (cells s x) r c =
-    λ r c b. ap (λ (y : ℕ → ℤ). cells s y r c) e ∙ cells-flat s (columnsDone w (d .size) (cells s x)) r c b in
-    f ∙ flat-same s _ _ some (λ r c b. rows-same w d _ _ r c (same r c b) (λ j q. same r j (omega arith)))
+lifted s w h x x₁ x₂ some ws e f =
+    let same : (r c : ℕ) → c < s → cells s x₁ r c ≡ columnsDone w h (cells s x) r c =
+    λ r c b. ap (λ (y : ℕ → ℤ). cells s y r c) e ∙ cells-flat s (columnsDone w h (cells s x)) r c b in
+    f ∙ flat-same s _ _ some (λ r c b. mapped-same (rowDone w) w h _ _ r c (same r c b) (λ j q. same r j (omega arith)))
 
 -- ---- a number of a band, where it stands in the window
 place-is : (h H n : ℕ) → h ≤ 1 → place (side 0 H) (halfOf h) n ≡ 2 * n + h
@@ -50,23 +43,8 @@ column-is zero w h m X b = omega arith
 column-is (suc zero) w h m X b = omega arith
 column-is (suc (suc a)) w h m X b = absurd (omega arith)
 
--- a row in reach is used
-reached-high : (s : Span) (n : ℕ) → reached s hi n ≡ true → (2 * n ≤ s .last) × (s .first ≤ 2 * n + 2)
-unfolding reached
-reached-high s n e = let k = both-yes _ _ e in (leb-true (2 * n) (s .last) (k .0), leb-true (s .first) (2 * n + 2) (k .1))
-
-used-reached : (u v k : ℕ) (d : Direction) → Lies u v k d → (h : ℕ) → h ≤ 1 → (n : ℕ) → d .start / 2 ≤ n → reached (changedOf d) (halfOf h) n ≡ true →
-    usedIn d (place (side 0 (d .size)) (halfOf h) (n - d .start / 2)) ≡ true
-unfolding place
-used-reached u v k d L zero b n p e = let z : 2 * (n - d .start / 2) + 0 ≡ 2 * (n - d .start / 2) = omega arith in rw z (used-low d (n - d .start / 2))
-used-reached u v k d L (suc zero) b n p e =
-    let r = reached-high (changedOf d) n e in
-    let c = L .cut .even in
-    used-high d (n - d .start / 2) (omega arith) (omega arith)
-used-reached u v k d L (suc (suc h)) b n p e = absurd (omega arith)
-
 module _ (u v u′ v′ k : ℕ) (d e : Direction) (Ld : Lies u v (suc k) d) (Le : Lies u′ v′ (suc k) e) (G X : Grid) (same : Agrees u v u′ v′ d e G X) (S : ℕ)
-    (wide : d .size ≤ S) (x : ℕ → ℤ) (is : x ≡ flat S (levelDone (d .size) e X)) where
+    (wide : d .size ≤ S) (x : ℕ → ℤ) (is : x ≡ flat S (levelDone (d .size) (e .size) X)) where
   pub work-band : (a h : ℕ) → a ≤ 1 → h ≤ 1 → (n m : ℕ) → n < count (halfOf h) (side 0 (e .length)) → m < count (halfOf a) (side 0 (d .length)) →
       reached (changedOf e) (halfOf h) n ≡ true → reached (changedOf d) (halfOf a) m ≡ true →
       x (placeOf S d e a h n m) ≡ subband fiveThreeFilter wrap32 (side 0 (d .length)) (side 0 (e .length)) G (bandOf (halfOf a) (halfOf h)) n m
@@ -78,11 +56,10 @@ module _ (u v u′ v′ k : ℕ) (d e : Direction) (Ld : Lies u v (suc k) d) (Le
       let en : e .start / 2 + n′ ≡ n = omega (arith, hn .past) in
       let em : d .start / 2 + m′ ≡ m = omega (arith, hm .past) in
       ap (λ (y : ℕ → ℤ). y (placeOf S d e a h n m)) is
-      ∙ sym (ap (λ (i : ℕ). flat S (levelDone (d .size) e X) (i * S + column (d .size) (e .size) X (halfOf a) m′)) (place-is h (e .size) n′ bh)
-      ∙ ap (λ (j : ℕ). flat S (levelDone (d .size) e X) ((2 * n′ + h) * S + j)) (column-is a (d .size) (e .size) m′ X ba))
-      ∙ window-at u v (d .length) (d .start) (d .start / 2) (d .size) (Ld .cut) u′ v′ (e .length) (e .start) (e .start / 2) e (Le .cut) X G same S
-      (halfOf a) (halfOf h) n′ m′ (used-reached u′ v′ (suc k) e Le h bh n (hn .past) rn) wide
-      (hn .in-half) (hm .in-half) (hn .left) (hn .right) (hm .left) (hm .right)
+      ∙ sym (ap (λ (i : ℕ). flat S (levelDone (d .size) (e .size) X) (i * S + column (d .size) (e .size) X (halfOf a) m′)) (place-is h (e .size) n′ bh)
+      ∙ ap (λ (j : ℕ). flat S (levelDone (d .size) (e .size) X) ((2 * n′ + h) * S + j)) (column-is a (d .size) (e .size) m′ X ba))
+      ∙ window-at u v (d .length) (d .start) (d .start / 2) (d .size) (Ld .cut) u′ v′ (e .length) (e .start) (e .start / 2) (e .size) (Le .cut) X G same S
+      (halfOf a) (halfOf h) n′ m′ wide (hn .in-half) (hm .in-half) (hn .left) (hn .right) (hm .left) (hm .right)
       ∙ ap (λ (i : ℕ). subband fiveThreeFilter wrap32 (side 0 (d .length)) (side 0 (e .length)) G (bandOf (halfOf a) (halfOf h)) i (d .start / 2 + m′)) en
       ∙ ap (subband fiveThreeFilter wrap32 (side 0 (d .length)) (side 0 (e .length)) G (bandOf (halfOf a) (halfOf h)) n) em
 

@@ -2,8 +2,8 @@
 -- the window's start and size, the first and the last place that is changed.
 use mathlib.Core.Path.{_≡_}
 use mathlib.Core.Logic.{_⊎_}
-use mathlib.Core.Bool.{Bool, true}
-use Prim.Native.Nat.{ℕ, zero, suc, _+_, _-_, _*_, _/_, _%_, _^_, _≤_, _<_, min}
+use mathlib.Core.Bool.{Bool}
+use Prim.Native.Nat.{ℕ, zero, suc, _+_, _-_, _*_, _/_, _^_, _≤_, _<_, min}
 use lib.IntN.{ℤ}
 use lib.Dec.{leb, ltb, eqb}
 use Rattle.numbers.specs.Signal.{pick, both}
@@ -35,22 +35,8 @@ loweredOf d = direction (d .length - d .length / 2) (d .start / 2) (d .size - d 
 abbrev pub windowStart : ℕ → ℕ → ℕ
 windowStart f Q = Q * ((f + 1) / Q - 3)
 
-abbrev pub windowEnd : ℕ → ℕ → ℕ
-windowEnd l Q = Q * ((l + Q - 2) / Q + 3) + 1
-
 abbrev pub widenedOf : ℕ → ℕ → ℕ → ℕ → Direction
-widenedOf N f n Q = direction N (windowStart f Q) (min N (windowEnd (f + n - 1) Q) - windowStart f Q) f (f + n - 1)
-
--- how many places at the ends of the map's window are not read: none where the end is the map's own
-unfoldable pub unreadBefore : Direction → ℕ
-unreadBefore d = pick (eqb (d .start) 0) 0 2
-
-unfoldable pub unreadPast : Direction → ℕ
-unreadPast d = pick (ltb (d .start + d .size) (d .length)) 2 0
-
--- is place r of the window read once the direction is lifted? A low value is, by the next level; a high one where it is in reach.
-unfoldable pub usedIn : Direction → ℕ → Bool
-usedIn d r = pick (eqb (r % 2) 0) true (both (leb (d .first) (d .start + r + 1)) (leb (d .start + r) (d .last + 1)))
+widenedOf N f n Q = direction N (windowStart f Q) (min N (f + n - 1 + 4 * Q - 1) - windowStart f Q) f (f + n - 1)
 
 -- ---- the window of one direction
 -- w places of N, from place a = 2t on. v places at its beginning are not right, and u at its end: none where the end is the line's own, else two.
@@ -65,12 +51,10 @@ pub record Sound (u v w p : ℕ) : Type 0 where
   pub left : v ≤ p
   pub right : p + u < w
 
--- an end that is the line's own holds all there is; else the changed places are so far from it, which is one past a multiple of Q. Q is 2 to the power of the
--- levels left.
+-- an end that is the line's own holds all there is; else the changed places are so far from it. Q is 2 to the power of the levels left.
 pub record Cover (u v Q a w : ℕ) (s : Span) : Type 0 where
-  pub times : ℕ
   pub left : (v ≡ 0) ⊎ (a + 3 * Q ≤ s .first + 1)
-  pub right : (u ≡ 0) ⊎ ((a + w ≡ Q * times + 1) × (s .last + 3 * Q ≤ a + w))
+  pub right : (u ≡ 0) ⊎ (s .last + 4 * Q ≤ a + w + 1)
 
 -- a direction with k levels left: the window starts at a multiple of 2^k
 pub record Lies (u v k : ℕ) (d : Direction) : Type 0 where
@@ -97,15 +81,12 @@ Agrees u v u′ v′ d e G Y = (r c : ℕ) → Sound u′ v′ (e .size) r → S
 unfoldable pub columnsDone : ℕ → ℕ → Grid → Grid
 columnsDone w h X r c = pick (within w h r c) (joined (side 0 h) (lineForward wrap32 (side 0 h) (λ i. X i c)) r) (X r c)
 
--- then the rows that are used, each to its low values and its high ones
+-- then all rows, each to its low values and its high ones
 abbrev pub rowDone : ℕ → (ℕ → ℤ) → ℕ → ℤ
 rowDone w y = forwardInto (side 0 w) y y
 
-unfoldable pub rowsDone : ℕ → Direction → Grid → Grid
-rowsDone w e X r c = pick (usedIn e r) (rowsMapped (rowDone w) w (e .size) X r c) (X r c)
-
-unfoldable pub levelDone : ℕ → Direction → Grid → Grid
-levelDone w e X = rowsDone w e (columnsDone w (e .size) X)
+unfoldable pub levelDone : ℕ → ℕ → Grid → Grid
+levelDone w h X = rowsMapped (rowDone w) w h (columnsDone w h X)
 
 -- one turn of the columns: high row 2n + 1, low row 2n, and the low row after them if it is the last, of h rows in an area of m numbers
 abbrev pub rowAfter : ℕ → ℕ → ℕ
@@ -132,11 +113,6 @@ among a n i = both (leb a i) (ltb i (a + n))
 
 abbrev pub patch : ℕ → ℕ → ℕ → ℕ → Patch
 patch r c h w = record { row = r; column = c; rows = h; columns = w }
-
--- what is read of the map's window
-abbrev pub readOf : Direction → Direction → Patch
-readOf d e =
-    patch (unreadBefore e) (unreadBefore d) (e .size - unreadBefore e - unreadPast e) (d .size - unreadBefore d - unreadPast d)
 
 unfoldable pub patchCopied : Patch → Grid → Grid → Grid
 patchCopied p g P r c =

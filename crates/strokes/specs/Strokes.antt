@@ -1,7 +1,7 @@
 -- What mending a rectangle answers and leaves. Document 02, Q-9: "Places in reach get what the whole transform of the new heights has there; all others keep
 -- their value."
 use mathlib.Core.Bool.{Bool}
-use Prim.Native.Nat.{ℕ, _+_, _-_, _*_, _≤_}
+use Prim.Native.Nat.{ℕ, _+_, _-_, _*_}
 use lib.IntN.{ℤ}
 use lib.Dec.{leb}
 use Rattle.numbers.specs.Signal.{pick, both}
@@ -40,10 +40,6 @@ stretchIn first n end = both (leb 1 n) (leb (first + n) end)
 -- question 19: "if the rectangle is empty or leaves the map"
 unfoldable pub liesIn : Rectangle → ℕ → ℕ → Bool
 liesIn q W H = both (stretchIn (q .left) (q .width) W) (stretchIn (q .top) (q .height) H)
-
--- the same in plain numbers
-abbrev pub InMap : Rectangle → ℕ → ℕ → Type 0
-InMap q W H = (1 ≤ q .width) × (q .left + q .width ≤ W) × (1 ≤ q .height) × (q .top + q .height ≤ H)
 
 -- "Questions 2 to 5 are asked as of the whole map", of areas of `heights`, `plane` and `work` numbers. "Refused: 19, after 5". The 5/3 is filter 0, so 18 never
 -- comes.

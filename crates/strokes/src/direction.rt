@@ -1,8 +1,7 @@
 // One direction of a level: its places, the window of them that is lifted, and the places that are changed.
 ghost use mathlib.Core.Path.{_≡_};
 ghost use Prim.Native.Nat.{_+_, _-_, _*_, _/_, _^_, _≤_, _<_, min};
-ghost use Rattle.wavelet.specs.Limits.{maxLevels};
-ghost use Rattle.strokes.specs.Local.{loweredOf, widenedOf, unreadBefore, unreadPast, usedIn};
+ghost use Rattle.strokes.specs.Local.{loweredOf, widenedOf};
 
 pub struct Direction {
     pub length: usize,
@@ -51,22 +50,27 @@ fn less(a: usize, b: usize) -> usize
 
 // 2 to the power of the levels.
 fn power(levels: usize) -> usize
-    requires { ⌜ (1 ≤ levels) × (levels ≤ maxLevels) ⌝ }
-    ensures { λ r. ⌜ (r ≡ 2 ^ levels) × (2 ≤ r) × (r < 2 ^ 16) ⌝ }
+    requires { ⌜ (1 ≤ levels) × (levels ≤ 5) ⌝ }
+    ensures { λ r. ⌜ (r ≡ 2 ^ levels) × (1 ≤ r) × (r ≤ 32) ⌝ }
 {
-    1 << levels
+    match levels {
+        1 => 2,
+        2 => 4,
+        3 => 8,
+        4 => 16,
+        _ => 32,
+    }
 }
 
-// The map's: n changed places from `first` on, of `length`. The window starts at a multiple of 2^levels, so that it starts at an even place at every level;
-// it ends with the map, or one past such a multiple.
+// The map's: n changed places from `first` on, of `length`. The window starts at a multiple of 2^levels, so that it starts at an even place at every level.
 pub fn widened(length: usize, first: usize, n: usize, levels: usize) -> Direction
-    requires { ⌜ (1 ≤ levels) × (levels ≤ maxLevels) × (1 ≤ n) × (first + n ≤ length) × (length < 2 ^ 32) ⌝ }
+    requires { ⌜ (1 ≤ levels) × (levels ≤ 5) × (1 ≤ n) × (first + n ≤ length) × (length < 2 ^ 32) ⌝ }
     ensures { λ r. ⌜ r ≡ widenedOf length first n (2 ^ levels) ⌝ }
 {
     let q = power(levels);
     let start = q * less((first + 1) / q, 3);
     let last = first + n - 1;
-    let end = least(length, q * ((last + q - 2) / q + 3) + 1);
+    let end = least(length, last + 4 * q - 1);
     Direction {
         length: length,
         start: start,
@@ -74,26 +78,6 @@ pub fn widened(length: usize, first: usize, n: usize, levels: usize) -> Directio
         first: first,
         last: last,
     }
-}
-
-// How many places of the map's window are not read: at its start, and at its end. None where the end is the map's own.
-pub fn before(d: Direction) -> usize
-    ensures { λ r. ⌜ r ≡ unreadBefore d ⌝ }
-{
-    if d.start == 0 {
-        return 0;
-    }
-    2
-}
-
-pub fn past(d: Direction) -> usize
-    requires { ⌜ d .start + d .size < 2 ^ 62 ⌝ }
-    ensures { λ r. ⌜ r ≡ unreadPast d ⌝ }
-{
-    if d.start + d.size < d.length {
-        return 2;
-    }
-    0
 }
 
 // The next level's.
@@ -108,21 +92,6 @@ pub fn lowered(d: Direction) -> Direction
         first: half_before(d.first),
         last: d.last / 2 + 1,
     }
-}
-
-// Whether place r of the window is read once its direction is lifted: a low value, which the next level reads, or a high one in reach.
-pub fn is_used(d: Direction, r: usize) -> bool
-    requires { ⌜ (d .start + r < 2 ^ 62) × (d .last < 2 ^ 62) ⌝ }
-    ensures { λ b. ⌜ b ≡ usedIn d r ⌝ }
-{
-    if r % 2 == 0 {
-        return true;
-    }
-    let place = d.start + r;
-    if place + 1 < d.first {
-        return false;
-    }
-    place <= d.last + 1
 }
 
 // The numbers of a half that are in reach, where the first of them stands and how many there are; `high` is 1 for the high half and 0 for the low one.

@@ -1,13 +1,12 @@
 -- What the theorems of a level ask of what its filter does along the rows and to the columns, whatever it is: `ColumnLaws`. Both filters meet it:
 -- `columns-laws` (FilterColumns). Assumes nothing.
 use mathlib.Core.Path.{_≡_}
-use mathlib.Core.Bool.{true}
 use Prim.Native.Nat.{ℕ, _+_, _-_, _*_, _≤_, _<_}
 use lib.IntN.{ℤ}
 use lib.Signed.{shrZ}
 use Rattle.numbers.specs.Word.{wrap32}
 use Rattle.lifting.specs.Line.{Half, lo, hi}
-use Rattle.lifting.specs.Grid.{Side, count, parted, loneHigh}
+use Rattle.lifting.specs.Grid.{Side, count, parted}
 use Rattle.lifting.specs.Filter.{lineBackBy}
 use Rattle.wavelet.specs.Bands.{Grid, Band, rowsUnlifted}
 use Rattle.wavelet.specs.Order.{firstSet}
@@ -44,5 +43,4 @@ pub record ColumnLaws (C : Columns) : Type 0 where
       RowStands (C .filter .rows) W x (2 * j) (parted W (C .back k W H p (2 * j - firstSet H lo)))) →
       RowStands (C .filter .rows) W (C .odd k (W .length) H (2 * i + 1) x) (2 * i + 1) (parted W (C .back k W H p (2 * i + 1 - firstSet H lo)))
   -- an only row at an odd coordinate is halved
-  pub lone-is : (k : ℕ) (W H : Side) (p : Band → Grid) (i c : ℕ) → H .length ≤ 1 → loneHigh H ≡ true →
-      shrZ (colsOf C W p hi i c) 2 ≡ C .back k W H p (2 * i + 1 - firstSet H lo) c
+  pub lone-is : (k : ℕ) (W H : Side) (p : Band → Grid) (i c : ℕ) → H .length ≤ 1 → shrZ (colsOf C W p hi i c) 2 ≡ C .back k W H p (2 * i + 1 - firstSet H lo) c

@@ -51,7 +51,7 @@ pub rows-some : (f : ℕ) → 0 < filterOf f .rows
 rows-some f = omega (arith, rows-are f, ahead-some f)
 
 -- ---- along the rows
-pub along : (f : ℕ) (W : Side) (q : ℕ) (x : ℕ → ℤ) (c : Half → ℕ → ℤ) → RowStands (filterOf f .rows) W x q c →
+along : (f : ℕ) (W : Side) (q : ℕ) (x : ℕ → ℤ) (c : Half → ℕ → ℤ) → RowStands (filterOf f .rows) W x q c →
     RowStands (filterOf f .rows) W (rowUnlifted (filterOf f .rows) (alongOf f) W q x) q (parted W (lineBackBy (filterOf f) wrap32 W c))
 unfolding alongOf filterOf five-halves.unliftedInPlace nine-halves.unliftedInPlace parted
 along zero W q x c e h i b =
@@ -130,11 +130,11 @@ module _ (F : Filter) (W H : Side) (p : Band → Grid) where
   unfolding levelBack
   column-back h n c = joined-place H (F .halvesBack wrap32 H (λ a i. cols a i c)) h n
 
-  pub low-row : (n : ℕ) → b₀ ≤ n → place H lo (n - b₀) ≡ 2 * n - b₀
+  low-row : (n : ℕ) → b₀ ≤ n → place H lo (n - b₀) ≡ 2 * n - b₀
   unfolding place firstSet
   low-row n b = omega arith
 
-  pub high-row : (i : ℕ) → place H hi i ≡ 2 * i + 1 - b₀
+  high-row : (i : ℕ) → place H hi i ≡ 2 * i + 1 - b₀
   unfolding place firstSet
   high-row i = omega arith
 
@@ -158,19 +158,19 @@ module _ (W : Side) where
   unfolding parted
   by-columns f r₁ r₂ r₃ r₄ r₅ r₆ e h i b = e (place W h i) (place-in W h i b)
 
-  pub by-three : (f : ℤ → ℤ → ℤ → ℤ) (r₁ r₂ r₃ r₄ : ℕ → ℤ) → ((c : ℕ) → c < W .length → f (r₁ c) (r₂ c) (r₃ c) ≡ r₄ c) → (h : Half) (i : ℕ) → i < count h W →
+  by-three : (f : ℤ → ℤ → ℤ → ℤ) (r₁ r₂ r₃ r₄ : ℕ → ℤ) → ((c : ℕ) → c < W .length → f (r₁ c) (r₂ c) (r₃ c) ≡ r₄ c) → (h : Half) (i : ℕ) → i < count h W →
       f (parted W r₁ h i) (parted W r₂ h i) (parted W r₃ h i) ≡ parted W r₄ h i
   by-three f r₁ r₂ r₃ r₄ e = by-columns (λ u v w _ _. f u v w) r₁ r₂ r₃ r₁ r₁ r₄ e
 
-  pub moved : (m : ℕ) (x : ℕ → ℤ) (q t : ℕ) (v : ℕ → ℤ) → q ≡ t → RowStands m W x t (parted W v) → RowStands m W x q (parted W v)
+  moved : (m : ℕ) (x : ℕ → ℤ) (q t : ℕ) (v : ℕ → ℤ) → q ≡ t → RowStands m W x t (parted W v) → RowStands m W x q (parted W v)
   moved m x q t v e s = subst (λ (j : ℕ). RowStands m W x j (parted W v)) (sym e) s
 
-pub in-lows : (H : Side) (n : ℕ) → 2 * n < endOf H → firstSet H lo ≤ n → n - firstSet H lo < count lo H
+in-lows : (H : Side) (n : ℕ) → 2 * n < endOf H → firstSet H lo ≤ n → n - firstSet H lo < count lo H
 unfolding endOf count firstSet
 in-lows H n l b = omega arith
 
 -- ---- an even row
-pub even-made : (f : ℕ) (W H : Side) (p : Band → Grid) (n : ℕ) (x : ℕ → ℤ) → 2 * n < endOf H → firstSet H lo ≤ n →
+even-made : (f : ℕ) (W H : Side) (p : Band → Grid) (n : ℕ) (x : ℕ → ℤ) → 2 * n < endOf H → firstSet H lo ≤ n →
     RowStands (filterOf f .rows) W x (2 * n) (parted W (rowsUnlifted (filterOf f) wrap32 W p lo (n - firstSet H lo))) →
     ((i : ℕ) → i < count hi H → i ≤ n → n ≤ i + 1 → RowStands (filterOf f .rows) W x (2 * i + 1) (parted W (rowsUnlifted (filterOf f) wrap32 W p hi i))) →
     RowStands (filterOf f .rows) W (evenOf f (W .length) H (2 * n) x) (2 * n) (parted W (levelBack (filterOf f) wrap32 W H p (2 * n - firstSet H lo)))
@@ -256,5 +256,5 @@ columns-laws f = record {
   only-odd = λ k. odd-only f;
   even-is = λ k. even-made f;
   odd-is = λ k. odd-made f;
-  lone-is = λ k W H p i c g _. sym (odd-back (filterOf f) W H p i c ∙ odd-one H (λ a j. cols (filterOf f) W H p a j c) f g i);
+  lone-is = λ k W H p i c g. sym (odd-back (filterOf f) W H p i c ∙ odd-one H (λ a j. cols (filterOf f) W H p a j c) f g i);
 }

@@ -15,5 +15,3 @@ pub mod BackLaws
 -- Behind the calls.
 pub mod CallLaws
 pub mod PairMade
-pub mod TolerantColumns
-pub mod TolerantCalls

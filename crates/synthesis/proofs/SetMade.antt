@@ -514,7 +514,7 @@ module _ (C : Columns) (L : ColumnLaws C) (one : 1 ≤ C .filter .ahead) (four :
           last : Is y (2 * n + 1) (parted W (G (row (2 * n + 1))))
           last h i b =
               halved-is some W (2 * n + 1) x _ high h i b
-              ∙ by-row (λ v. shrZ v 2) (cols hi n) (G (row (2 * n + 1))) (λ c _. L .lone-is k W H p n c (omega (arith, only)) f) h i b
+              ∙ by-row (λ v. shrZ v 2) (cols hi n) (G (row (2 * n + 1))) (λ c _. L .lone-is k W H p n c (omega (arith, only))) h i b
 
           column : (c : ℕ) → hasLine H (λ h i. cols h i c) ≡ isEven (cols hi n c)
           column c = has-lone H _ f ∙ ap (λ (i : ℕ). isEven (cols hi i c)) (sym first)

@@ -2,4 +2,3 @@ pub mod Columns
 pub mod Work
 pub mod Stands
 pub mod Back
-pub mod Tolerant

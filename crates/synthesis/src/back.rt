@@ -1,6 +1,5 @@
 // A level on the way back: where a row of it stands in the level's stretch of the line store, and a set worked out there. Every call is total.
 use crate::rows;
-use crate::tolerant;
 use crate::work;
 use areas::copies;
 use level::bounds as limits;
@@ -17,7 +16,6 @@ ghost use Rattle.level.specs.Rebuilding.{widest, tallest, workAnswer, Kept};
 ghost use Rattle.filters.specs.Filters.{filterOf};
 ghost use Rattle.level.specs.Rebuilding.{workLengthBy};
 ghost use Rattle.synthesis.specs.Back.{backOf, rowPlaceOf, workableOf, workLeftOf};
-ghost use Rattle.synthesis.specs.Tolerant.{tolerantBack};
 
 // Where the row at r of a level of w columns begins; 0 where w is too large. The row lies within those kept. Set n has the rows at 2n and 2n + 1, row r of rows
 // that start at s is at s % 2 + r.
@@ -115,28 +113,5 @@ pub fn work_set(
         return 0;
     }
     copies::clear(stretch, filters::rows_kept(filter) * w);
-    14
-}
-
-// The same of a tolerant reader: the 5/3, from the origin, each row limited to its level's range as it is made. It never gives 14.
-pub fn work_tolerant(stretch: &mut [i32], last: bool, k: usize, w: usize, h: usize, n: usize) -> u8
-    ensures answer { λ r. ⌜ r ≡
-        workAnswer (workableOf 0 last k (side 0 w) (side 0 h) n (length (now (stretch .entry))))
-        (tolerantBack .work last k (side 0 w) (side 0 h) n (at (now (stretch .entry)))) ⌝ }
-    ensures memory { λ r. ⌜ outcome (eqb r 0) (at (now (stretch .exit))) ≡
-        pick (workableOf 0 last k (side 0 w) (side 0 h) n (length (now (stretch .entry))))
-        (tolerantBack .work last k (side 0 w) (side 0 h) n (at (now (stretch .entry)))) failed ⌝ }
-    ensures kept { λ _. ⌜ Kept (filterOf 0 .rows * w) (at (now (stretch .entry))) (at (now (stretch .exit))) ⌝ }
-    ensures left { λ _. ⌜ at (now (stretch .exit)) ≡
-        workLeftOf 0 (side 0 w) (workableOf 0 last k (side 0 w) (side 0 h) n (length (now (stretch .entry))))
-        (tolerantBack .work last k (side 0 w) (side 0 h) n (at (now (stretch .entry)))) (at (now (stretch .entry))) ⌝ }
-{
-    if !can_work(0, last, k, w, h, 0, 0, n, stretch.len()) {
-        return 5;
-    }
-    if tolerant::work_set(stretch, last, k, w, h, n) {
-        return 0;
-    }
-    copies::clear(stretch, filters::rows_kept(0) * w);
     14
 }

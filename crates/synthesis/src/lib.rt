@@ -4,5 +4,4 @@ pub mod back;
 mod neighbours;
 mod range;
 mod rows;
-mod tolerant;
 mod work;

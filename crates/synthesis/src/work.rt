@@ -61,7 +61,7 @@ fn unlift_high(
 }
 
 // and both.
-pub fn unlift_set(
+fn unlift_set(
     stretch: &mut [i32],
     filter: usize,
     w: usize,
@@ -308,7 +308,7 @@ fn make_set(
 }
 
 // The low-low row of set n, if there is one, from the next level, if there is one.
-pub fn take_low(
+fn take_low(
     stretch: &mut [i32],
     filter: usize,
     last: bool,

@@ -2,7 +2,7 @@
 use mathlib.Core.Path.{_≡_, refl, sym, ap, _∙_}
 use mathlib.Core.Bool.{Bool, true, false}
 use mathlib.Core.List.{List}
-use Prim.Native.Nat.{ℕ, zero, suc}
+use Prim.Native.Nat.{ℕ}
 use native.Mathlib.Omega.{arith}
 use lib.IntN.{ℤ}
 use lib.Dec.{eqb, leb}
@@ -13,9 +13,8 @@ use Rattle.numbers.proofs.Sweep as sweep
 use Rattle.reader.specs.declared.Reader.{Reader}
 use Rattle.reader.specs.Answers.{Reply, gives, refused, impossible, Handed, aRow, nothing}
 use Rattle.reader.specs.State.{drawDue, fedReader, drawnReader, endedReader}
-use Rattle.reader.specs.Calls as levels
-use Rattle.reader.specs.Last as last
-use Rattle.reader.specs.Reading.{by, feedQuestion, drawQuestion, feedReply, drawReply}
+use Rattle.reader.specs.Questions.{feedQuestion, drawQuestion}
+use Rattle.reader.specs.Calls.{feedReply, drawReply}
 use Rattle.states.specs.States.{flag, zeroNext, zeroFrom, isState}
 use Rattle.states.specs.ReaderState.{isReader, readerOf, movedWords, readerWords}
 use Rattle.states.specs.ReaderAnswers.{fedWords, handedWords}
@@ -25,6 +24,8 @@ use Rattle.terrain.proofs.WordLaws.{spelt}
 -- the words of a reader that no feed and no draw changes
 record Fixed (s : List ℕ) : Type 0 where
   kind : getD s 0 0 ≡ 2
+  twelve : getD s 12 0 ≡ 0
+  thirteen : getD s 13 0 ≡ 0
   fourteen : getD s 14 0 ≡ 0
   fifteen : getD s 15 0 ≡ 0
 
@@ -33,10 +34,14 @@ unfolding isState zeroFrom zeroNext
 fixed s h =
     let a = sweep.both (eqb (getD s 0 0) 2) _ h in
     let b = sweep.both (leb (getD s 7 0) 1) _ (a .1) in
-    let c₆ = sweep.both (eqb (getD s 14 0) 0) _ (b .1) in
+    let c₄ = sweep.both (eqb (getD s 12 0) 0) _ (b .1) in
+    let c₅ = sweep.both (eqb (getD s 13 0) 0) _ (c₄ .1) in
+    let c₆ = sweep.both (eqb (getD s 14 0) 0) _ (c₅ .1) in
     let c₇ = sweep.both (eqb (getD s 15 0) 0) _ (c₆ .1) in
     record {
       kind = eqb-true _ _ (a .0);
+      twelve = eqb-true _ _ (c₄ .0);
+      thirteen = eqb-true _ _ (c₅ .0);
       fourteen = eqb-true _ _ (c₆ .0);
       fifteen = eqb-true _ _ (c₇ .0);
     }
@@ -49,15 +54,13 @@ record Stays (s t : Reader) : Type 0 where
   x : t .x ≡ s .x
   y : t .y ≡ s .y
   filter : t .filter ≡ s .filter
-  stop : t .stop ≡ s .stop
-  spare : t .spare ≡ s .spare
   ended : t .ended ≡ false
 
 words-moved : (s : List ℕ) → length s ≡ 16 → isReader s ≡ true → (t : Reader) → Stays (readerOf s) t → movedWords t s ≡ readerWords t
 words-moved s size is t e =
     let f = fixed s is in
     let g : flag (t .ended) ≡ 0 = ap flag (e .ended) in
-    ap (movedWords t) (spelt s size) ∙ cc (f .kind, e .width, e .height, e .levels, g, e .x, e .y, e .filter, e .stop, e .spare, f .fourteen, f .fifteen)
+    ap (movedWords t) (spelt s size) ∙ cc (f .kind, e .width, e .height, e .levels, g, e .x, e .y, e .filter, f .twelve, f .thirteen, f .fourteen, f .fifteen)
 
 -- a call on a reader's array that gives something
 gave : {A : Type 0} (b : Bool) (r : Reply A) (a : A) → pick b r (refused 1) ≡ gives a → (b ≡ true) × (r ≡ gives a)
@@ -70,55 +73,22 @@ given true c a t r q e = cc
 given false true a t r q e = let z : _≡_ {A = ℕ} 0 1 = cc in absurd (omega arith)
 given false false a t r q e = let z : _≡_ {A = ℕ} 0 1 = cc in absurd (omega arith)
 
--- of a reader without levels, and of one with levels
-stays-by : (L : ℕ) (r₁ r₂ : Reply Reader) (s t : Reader) → by L r₁ r₂ ≡ gives t → (r₁ ≡ gives t → Stays s t) → (r₂ ≡ gives t → Stays s t) → Stays s t
-stays-by zero r₁ r₂ s t e a b = a e
-stays-by (suc l) r₁ r₂ s t e a b = b e
-
-handed-by : (L n : ℕ) (r₁ r₂ : Reply Handed) (s t : Reader) → by L r₁ r₂ ≡ gives (aRow n t) → (r₁ ≡ gives (aRow n t) → Stays s t) →
-    (r₂ ≡ gives (aRow n t) → Stays s t) → Stays s t
-handed-by zero n r₁ r₂ s t e a b = a e
-handed-by (suc l) n r₁ r₂ s t e a b = b e
-
--- an answer of a reader without levels
-last-given : {A : Type 0} (b : Bool) (a t : A) (q : ℕ) → pick b (gives a) (refused q) ≡ gives t → a ≡ t
-last-given true a t q e = cc
-last-given false a t q e = let z : _≡_ {A = ℕ} 0 1 = cc in absurd (omega arith)
-
 feed-stays : (s t : Reader) (q : ℕ) → feedReply s q ≡ gives t → Stays s t
-unfolding last.feedReply levels.feedReply fedReader
-feed-stays s t q e = stays-by (s .levels) (last.feedReply s q) (levels.feedReply s q) s t e without with-levels
-  where
-    without : last.feedReply s q ≡ gives t → Stays s t
-    without e =
-        let g : last.movedTo s (s .drawn) 4 ≡ t = last-given (eqb q 0) (last.movedTo s (s .drawn) 4) t q e in
-        rw (← g) (record { width = refl; height = refl; levels = refl; x = refl; y = refl; filter = refl; stop = refl; spare = refl; ended = refl })
-
-    with-levels : levels.feedReply s q ≡ gives t → Stays s t
-    with-levels e =
-        let g : fedReader s ≡ t = given (eqb q 0) (eqb q 14) (fedReader s) t (endedReader s) q e in
-        rw (← g) (record { width = refl; height = refl; levels = refl; x = refl; y = refl; filter = refl; stop = refl; spare = refl; ended = refl })
+unfolding feedReply fedReader
+feed-stays s t q e =
+    let g : fedReader s ≡ t = given (eqb q 0) (eqb q 14) (fedReader s) t (endedReader s) q e in
+    rw (← g) (record { width = refl; height = refl; levels = refl; x = refl; y = refl; filter = refl; ended = refl })
 
 row-is : (b : Bool) (n m : ℕ) (r t : Reader) → pick b (aRow n r) nothing ≡ aRow m t → r ≡ t
 row-is true n m r t e = cc
 row-is false n m r t e = let z : _≡_ {A = ℕ} 0 1 = cc in absurd (omega arith)
 
 draw-stays : (s t : Reader) (n q : ℕ) → drawReply s q ≡ gives (aRow n t) → Stays s t
-unfolding last.drawReply levels.drawReply drawnReader
-draw-stays s t n q e = handed-by (s .levels) n (last.drawReply s q) (levels.drawReply s q) s t e without with-levels
-  where
-    without : last.drawReply s q ≡ gives (aRow n t) → Stays s t
-    without e =
-        let to = last.movedTo s (suc (s .drawn)) 0 in
-        let g = last-given (eqb q 0) (pick (last.drawDue s) (aRow (s .width) to) nothing) (aRow n t) q e in
-        let h : to ≡ t = row-is (last.drawDue s) (s .width) n to t g in
-        rw (← h) (record { width = refl; height = refl; levels = refl; x = refl; y = refl; filter = refl; stop = refl; spare = refl; ended = refl })
-
-    with-levels : levels.drawReply s q ≡ gives (aRow n t) → Stays s t
-    with-levels e =
-        let g = given (eqb q 0) (eqb q 14) (pick (drawDue s) (aRow (s .width) (drawnReader s)) nothing) (aRow n t) (endedReader s) q e in
-        let h : drawnReader s ≡ t = row-is (drawDue s) (s .width) n (drawnReader s) t g in
-        rw (← h) (record { width = refl; height = refl; levels = refl; x = refl; y = refl; filter = refl; stop = refl; spare = refl; ended = refl })
+unfolding drawReply drawnReader
+draw-stays s t n q e =
+    let g = given (eqb q 0) (eqb q 14) (pick (drawDue s) (aRow (s .width) (drawnReader s)) nothing) (aRow n t) (endedReader s) q e in
+    let h : drawnReader s ≡ t = row-is (drawDue s) (s .width) n (drawnReader s) t g in
+    rw (← h) (record { width = refl; height = refl; levels = refl; x = refl; y = refl; filter = refl; ended = refl })
 
 -- r is what the call answered
 module _ (s : List ℕ) (size : length s ≡ 16) (n : ℕ) (x : ℕ → ℤ) where

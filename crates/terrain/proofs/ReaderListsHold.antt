@@ -3,7 +3,7 @@
 use mathlib.Core.Bool.{Bool, true, false}
 use mathlib.Core.Path.{_≡_, refl, ap, _∙_}
 use mathlib.Core.List.{List}
-use Prim.Native.Nat.{ℕ, zero, suc, _≤_}
+use Prim.Native.Nat.{ℕ, _≤_}
 use lib.IntN.{ℤ}
 use lib.Dec.{eqb}
 use borrow.Author.Tests.{eqb-true}
@@ -14,12 +14,9 @@ use Rattle.calls.specs.Lists.{Area, Mixed, mine, stray}
 use Rattle.calls.proofs.ListLaws.{told-final, told-events}
 use Rattle.reader.specs.declared.Reader.{Reader}
 use Rattle.reader.specs.Answers.{Reply, gives, refused, impossible, number, Want, Handed, aRow, nothing}
-use Rattle.reader.specs.Questions.{setUpQuestion}
-use Rattle.reader.specs.Questions as levels
-use Rattle.reader.specs.Last as last
-use Rattle.reader.specs.Reading.{by, countsFit, wantQuestion, feedQuestion, drawQuestion, wantReply, feedReply, feedStore, drawReply, drawStore, drawArea}
+use Rattle.reader.specs.Questions.{countsFit, setUpQuestion, wantQuestion, feedQuestion, drawQuestion}
 use Rattle.reader.specs.Calls as reader
-use Rattle.reader.specs.Calls.{setUpReply, setUpStore, storeAfter}
+use Rattle.reader.specs.Calls.{setUpReply, setUpStore, wantReply, feedReply, feedStore, storeAfter, drawReply, drawStore, drawArea}
 use Rattle.reader.specs.Demand3.{Call, World, event, next, events, final, freshWorld}
 use Rattle.reader.specs.Demand3 as rattle
 use Rattle.reader.proofs.Demand3.{demand-3}
@@ -102,62 +99,23 @@ module _ (w : World) where
   unfolding shows
   shows-told d = seen-told (d .call) (d .want) (d .drawn)
 
--- ---- a reader with a count out of its range: 1, whatever its levels
-module _ (r : Reader) where
-  want-no : countsFit r ≡ false → wantReply r (wantQuestion r) ≡ refused 1
-  unfolding last.wantReply last.wantQuestion reader.wantReply levels.wantQuestion
-  want-no = by-levels (r .levels)
-    where
-      by-levels : (L : ℕ) → by L (last.countsFit r) (levels.countsFit r) ≡ false →
-          by L (last.wantReply r (by L (last.wantQuestion r) (levels.wantQuestion r)))
-          (reader.wantReply r (by L (last.wantQuestion r) (levels.wantQuestion r))) ≡ refused 1
-      by-levels zero z = rw z refl
-      by-levels (suc l) z = rw z refl
-
-  module _ (z : countsFit r ≡ false) (n : ℕ) (x : ℕ → ℤ) (m : ℕ) (v : ℕ → ℤ) where
-    feed-no : (feedReply r (feedQuestion r n x m v) ≡ refused 1) × (feedStore r (feedQuestion r n x m v) v x ≡ x)
-    unfolding last.feedReply last.feedStore last.feedQuestion reader.feedReply reader.feedStore storeAfter levels.feedQuestion
-    feed-no = by-levels (r .levels) z
-      where
-        by-levels : (L : ℕ) → by L (last.countsFit r) (levels.countsFit r) ≡ false →
-            (let q = by L (last.feedQuestion r n m v) (levels.feedQuestion r n x m v) in
-            (by L (last.feedReply r q) (reader.feedReply r q) ≡ refused 1) × (by L (last.feedStore r q v x) (reader.feedStore r q v x) ≡ x))
-        by-levels zero z = (rw z refl, rw z refl)
-        by-levels (suc l) z = (rw z refl, rw z refl)
-
-    -- v is what stood in the output area of m heights
-    draw-no : (drawReply r (drawQuestion r n x m) ≡ refused 1) × (drawStore r (drawQuestion r n x m) x ≡ x) × (drawArea r (drawQuestion r n x m) x v ≡ v)
-    unfolding last.drawReply last.drawArea last.drawQuestion reader.drawReply reader.drawStore reader.drawArea storeAfter levels.drawQuestion
-    draw-no = by-levels (r .levels) z
-      where
-        by-levels : (L : ℕ) → by L (last.countsFit r) (levels.countsFit r) ≡ false →
-            (let q = by L (last.drawQuestion r n m) (levels.drawQuestion r n x m) in
-            (by L (last.drawReply r q) (reader.drawReply r q) ≡ refused 1) × (by L x (reader.drawStore r q x) ≡ x)
-            × (by L (last.drawArea r q x v) (reader.drawArea r q x v) ≡ v))
-        by-levels zero z = (rw z refl, refl, rw z refl)
-        by-levels (suc l) z = (rw z refl, rw z refl, rw z refl)
-
 -- ---- a stray: 1, and nothing changes
 module _ (s : List ℕ) (x : ℕ → ℤ) (off : holdsReader s ≡ false) where
   turned-away : {A : Type 0} (a b : A) → (countsFit (readerOf s) ≡ false → a ≡ b) → pick (isReader s) a b ≡ b
   turned-away a b = pick-off (isReader s) (countsFit (readerOf s)) a b off
 
   want-off : c.wanting s ≡ refused 1
-  want-off = turned-away _ _ (λ z. want-no (readerOf s) z)
+  unfolding wantReply wantQuestion
+  want-off = turned-away _ _ (λ z. rw z refl)
 
   feed-off : (n : ℕ) (a : Area) → (c.feeding s n x (a .size) (a .numbers) ≡ refused 1) × (c.feedingStore s n x (a .size) (a .numbers) ≡ x)
-  feed-off n a = (
-    turned-away _ _ (λ z. feed-no (readerOf s) z n x (a .size) (a .numbers) .0),
-    turned-away _ _ (λ z. feed-no (readerOf s) z n x (a .size) (a .numbers) .1),
-  )
+  unfolding feedReply feedStore storeAfter feedQuestion
+  feed-off n a = (turned-away _ _ (λ z. rw z refl), turned-away _ _ (λ z. rw z refl))
 
   draw-off : (n : ℕ) (a : Area) → (c.drawing s n x (a .size) ≡ refused 1) × (c.drawingStore s n x (a .size) ≡ x) ×
       (c.drawingArea s n x (a .size) (a .numbers) ≡ a .numbers)
-  draw-off n a = (
-    turned-away _ _ (λ z. draw-no (readerOf s) z n x (a .size) (a .numbers) .0),
-    turned-away _ _ (λ z. draw-no (readerOf s) z n x (a .size) (a .numbers) .1),
-    turned-away _ _ (λ z. draw-no (readerOf s) z n x (a .size) (a .numbers) .2),
-  )
+  unfolding drawReply drawStore storeAfter drawArea drawQuestion
+  draw-off n a = (turned-away _ _ (λ z. rw z refl), turned-away _ _ (λ z. rw z refl), turned-away _ _ (λ z. rw z refl))
 
   stray-told : (k : Call) (q : List ℕ) (z : ℕ) → seenOf s x k q z ≡ told q z (turned k)
   unfolding seenOf told turned
@@ -210,13 +168,13 @@ module _ (f : ℕ) (W H : Side) (L n : ℕ) where
           by true z e = eqb-true q 0 z
           by false z e = e
 
-  pub set-up-fresh : (m : Memories) → setUpAsked f W H L n ≡ 0 → setUp f W H L n m ≡ holding (freshWorld f 0 0 W H L (m .store))
-  set-up-fresh m e = let z = passed e in unfold setUpReply setUpStore in rw z refl
+  pub set-up-fresh : (m : Memories) → setUpAsked f W H L n ≡ 0 → setUp f W H L n m ≡ holding (freshWorld f W H L (m .store))
+  set-up-fresh m e = let z = passed e in unfold setUpReply in rw z refl
 
   pub reader-c : W .start ≤ maxOrigin → H .start ≤ maxOrigin → setUpAsked f W H L n ≡ 0 → (m : Memories) (ds : List (Mixed CCall Stray)) →
       OfCalls f W H L n m ds
   reader-c across down e m ds =
-      let w = freshWorld f 0 0 W H L (m .store) in
+      let w = freshWorld f W H L (m .store) in
       let fresh = set-up-fresh m e in
       let left = ap (leavesAll ds) fresh ∙ reader-left ds w in
       record {

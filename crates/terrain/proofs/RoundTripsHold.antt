@@ -58,7 +58,7 @@ unasked-refusal (draw n a ∷ cs) w r = refusal-on (event (draw n a) w) _ _ (una
 module _ (f : ℕ) (W H : Side) (L n : ℕ) (m : Memories) (rs : List (Mixed reads.CCall reads.Stray)) (cs : List Call)
     (same : unasked (reads.calls rs) ≡ cs) where
   abbrev w₀ : World
-  w₀ = freshWorld f 0 0 W H L (m .store)
+  w₀ = freshWorld f W H L (m .store)
 
   world-is : final (reads.calls rs) w₀ ≡ final cs w₀
   world-is = unasked-final (reads.calls rs) w₀ ∙ ap (λ k. final k w₀) same
@@ -98,7 +98,7 @@ c-from-plane f W H L n m plane outs rs across down ok room same =
           let b = p .map-back g has in (
             record {
               all = ap length (rows-are f W H L n m rs cs same) ∙ b .all;
-              heights = subst (FirstRows 0 W g) (sym (rows-are f W H L n m rs cs same)) (b .heights);
+              heights = subst (FirstRows W g) (sym (rows-are f W H L n m rs cs same)) (b .heights);
               says = then-is f W H L n m rs cs same want ∙ b .says;
             },
             done-shown f W H L n m rs cs same lists (b .says),

@@ -14,11 +14,13 @@ use Rattle.calls.specs.Lists.{Reply, gives, refused}
 use Rattle.level.specs.Level.{Memory}
 use Rattle.writer.specs.declared.Writer.{Writer}
 use Rattle.writer.specs.Answers.{Took, Handed, aRow, nothing}
+use Rattle.writer.specs.Calls.{waits, afterDraw}
+use Rattle.writer.specs.Closing.{Shut}
 use Rattle.states.specs.States.{flag, zeroNext, zeroFrom, isState}
 use Rattle.states.specs.WriterState.{isWriter, writerOf, offeredWords, drawnWords, writerWords}
 use Rattle.states.specs.WriterAnswers.{tookWords, handedWords}
 use Rattle.terrain.specs.WriterCalls.{offered, stateTook, drawn, stateHanded}
-use Rattle.terrain.proofs.Steady.{Steady, offer-steady, Settled, draw-steady}
+use Rattle.terrain.proofs.Steady.{Steady, offer-steady, draw-steady}
 
 -- sixteen words, spelt out
 pub spelt : (s : List ℕ) → length s ≡ 16 →
@@ -86,11 +88,18 @@ module _ (s : List ℕ) (size : length s ≡ 16) (is : isWriter s ≡ true) wher
       let g : flag (t .finished) ≡ getD s 5 0 = ap flag (e .finished) ∙ f .turned in
       ap (offeredWords t) (spelt s size) ∙ cc (f .kind, e .width, e .levels, e .x, e .y, e .filter, e .closed, g, f .thirteen, f .fourteen, f .fifteen)
 
-  words-drawn : (t : Writer) → Settled (writerOf s) t → drawnWords t s ≡ writerWords t
-  words-drawn t e =
+  words-drawn : (t : Writer) (r : Shut) → t ≡ waits (writerOf s .finished) (writerOf s) r → drawnWords t s ≡ writerWords t
+  words-drawn t r e =
       let f = fixed s is in
-      let g : flag (t .finished) ≡ getD s 5 0 = ap flag (e .finished) ∙ f .turned in
-      ap (drawnWords t) (spelt s size) ∙ cc (f .kind, e .width, e .levels, g, e .x, e .y, e .filter, f .thirteen, f .fourteen, f .fifteen)
+      let w : t .width ≡ getD s 1 0 = ap (λ (u : Writer). u .width) e in
+      let l : t .levels ≡ getD s 2 0 = ap (λ (u : Writer). u .levels) e in
+      let m : t .rows ≡ getD s 3 0 = ap (λ (u : Writer). u .rows) e in
+      let c : t .column ≡ getD s 4 0 = ap (λ (u : Writer). u .column) e in
+      let g : flag (t .finished) ≡ getD s 5 0 = ap (λ (u : Writer). flag (u .finished)) e ∙ f .turned in
+      let x : t .x ≡ getD s 10 0 = ap (λ (u : Writer). u .x) e in
+      let y : t .y ≡ getD s 11 0 = ap (λ (u : Writer). u .y) e in
+      let o : t .filter ≡ getD s 12 0 = ap (λ (u : Writer). u .filter) e in
+      ap (drawnWords t) (spelt s size) ∙ cc (f .kind, w, l, m, c, g, x, y, o, f .thirteen, f .fourteen, f .fifteen)
 
 -- a call on a writer's array that gives something
 gave : {A : Type 0} (b : Bool) (r : Reply A) (a : A) → pick b r (refused 1) ≡ gives a → (b ≡ true) × (r ≡ gives a)
@@ -114,6 +123,6 @@ module _ (s : List ℕ) (size : length s ≡ 16) (n : ℕ) (x : Memory) where
       kept : (r : Reply Handed) → drawn s n k x ≡ r → handedWords r s ≡ stateHanded r s
       kept (gives (aRow b t)) e =
           let g = gave (isWriter s) _ (aRow b t) e in
-          words-drawn s size (g .0) t (draw-steady (writerOf s) n k x b t (g .1))
+          words-drawn s size (g .0) t (afterDraw (writerOf s) x) (draw-steady (writerOf s) n k x b t (g .1))
       kept (gives nothing) e = refl
       kept (refused q) e = refl

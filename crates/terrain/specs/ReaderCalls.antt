@@ -6,11 +6,8 @@ use lib.IntN.{ℤ}
 use Rattle.numbers.specs.Signal.{pick}
 use Rattle.reader.specs.declared.Reader.{Reader}
 use Rattle.reader.specs.Answers.{Reply, gives, refused, impossible, Want, row, drawNow, done, ended, Handed, aRow, nothing}
-use Rattle.reader.specs.Reading.{wantQuestion, feedQuestion, drawQuestion, wantReply, feedReply, feedStore, drawReply, drawStore, drawArea}
-use Rattle.lifting.specs.Grid.{Side}
-use Rattle.calls.specs.Lists as lists
-use Rattle.reader.specs.Questions.{stopQuestion, levelQuestion}
-use Rattle.reader.specs.Stops.{stopReply, sizeReply}
+use Rattle.reader.specs.Questions.{wantQuestion, feedQuestion, drawQuestion}
+use Rattle.reader.specs.Calls.{wantReply, feedReply, feedStore, drawReply, drawStore, drawArea}
 use Rattle.states.specs.ReaderState.{isReader, readerOf, readerWords}
 
 -- ---- set-up and feed: the state array afterwards. 14 leaves the ended reader
@@ -18,26 +15,6 @@ abbrev pub stateOf : Reply Reader → List ℕ → List ℕ
 stateOf (gives r) s = readerWords r
 stateOf (refused q) s = s
 stateOf (impossible r) s = readerWords r
-
--- ---- the set-up with a stop j, on a store of n numbers (Q-6)
-abbrev pub stopping : ℕ → Side → Side → ℕ → ℕ → ℕ → Reply Reader
-stopping f W H L j n = stopReply f W H L j (stopQuestion f W H L j n)
-
--- ---- the size of level k; the out-parameters held z
-abbrev pub sizing : ℕ → Side → Side → ℕ → ℕ → lists.Reply (ℕ × ℕ)
-sizing f W H L k = sizeReply W H k (levelQuestion f (W .length) (H .length) L k)
-
-abbrev pub sizeNumber : lists.Reply (ℕ × ℕ) → ℕ
-sizeNumber (lists.gives p) = 0
-sizeNumber (lists.refused q) = q
-
-abbrev pub columnsOf : lists.Reply (ℕ × ℕ) → ℕ → ℕ
-columnsOf (lists.gives p) z = p .0
-columnsOf (lists.refused q) z = z
-
-abbrev pub rowsOf : lists.Reply (ℕ × ℕ) → ℕ → ℕ
-rowsOf (lists.gives p) z = p .1
-rowsOf (lists.refused q) z = z
 
 -- ---- want; z is what the out-parameter held
 abbrev pub wanting : List ℕ → Reply Want

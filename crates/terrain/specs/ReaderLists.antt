@@ -9,8 +9,7 @@ use Rattle.lifting.specs.Grid.{Side}
 use Rattle.calls.specs.Lists.{gives, refused, Area, Mixed, mine, stray, toldBy}
 use Rattle.calls.specs.Lists as lists
 use Rattle.reader.specs.Answers.{number}
-use Rattle.reader.specs.Questions.{setUpQuestion}
-use Rattle.reader.specs.Reading.{countsFit}
+use Rattle.reader.specs.Questions.{countsFit, setUpQuestion}
 use Rattle.reader.specs.Calls.{setUpReply, setUpStore}
 use Rattle.reader.specs.Demand3.{Call, Event, World, heights, nothing, event, events, final, freshWorld, Demand3}
 use Rattle.reader.specs.Demand3 as rattle
@@ -124,7 +123,7 @@ calls = lists.calls (λ d. d .call)
 module _ (f : ℕ) (W H : Side) (L n : ℕ) (m : Memories) (ds : List (Mixed CCall Stray)) where
   -- the fresh reader, and the array and the store after the calls
   abbrev pub fresh : World
-  fresh = freshWorld f 0 0 W H L (m .store)
+  fresh = freshWorld f W H L (m .store)
 
   abbrev pub then : Memories
   then = leavesAll ds (setUp f W H L n m)
@@ -134,7 +133,7 @@ module _ (f : ℕ) (W H : Side) (L n : ℕ) (m : Memories) (ds : List (Mixed CCa
     pub set-up : setUp f W H L n m ≡ holding fresh
     -- what is seen of the calls is what is seen of Rattle's, so told, and demand 3 holds of these
     pub shown : seenAll ds (setUp f W H L n m) ≡ toldAll ds (events (calls ds) fresh)
-    pub claim : Demand3 f 0 0 W H L (events (calls ds) fresh) (λ k. event k (final (calls ds) fresh))
+    pub claim : Demand3 f W H L (events (calls ds) fresh) (λ k. event k (final (calls ds) fresh))
     -- a further call shows what Rattle's would
     pub next : (d : CCall) → shows (mine d) then ≡ tell d (event (d .call) (final (calls ds) fresh))
     -- array and store are the reader's and its store's

@@ -30,10 +30,10 @@ unasked (draw n a ∷ cs) = draw n a ∷ unasked cs
 module _ (f : ℕ) (W H : Side) (L n : ℕ) (m : Memories) (rs : List (Mixed reads.CCall reads.Stray)) where
   -- what is seen of Rattle's calls, which C shows told (`shown` of its `OfCalls`), and what would be seen of a further one
   abbrev pub readC : List Event
-  readC = events (reads.calls rs) (freshWorld f 0 0 W H L (m .store))
+  readC = events (reads.calls rs) (freshWorld f W H L (m .store))
 
   abbrev pub thenC : Call → Event
-  thenC c = event c (final (reads.calls rs) (freshWorld f 0 0 W H L (m .store)))
+  thenC c = event c (final (reads.calls rs) (freshWorld f W H L (m .store)))
 
   -- a want is answered with Done
   abbrev pub DoneC : Type 0

@@ -4,7 +4,6 @@ mod line;
 mod map;
 mod near;
 mod reader_calls;
-mod rounding_calls;
 mod smooth;
 mod strokes_calls;
 mod turns_calls;

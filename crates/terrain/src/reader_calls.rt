@@ -2,8 +2,6 @@
 use reader::Reader;
 use reader::SetUp;
 use reader::Wanted;
-use reader::stops;
-use reader::stops::LevelSize;
 use states::reader_state;
 use wavelet::shape::Shape;
 ghost use mathlib.Core.Path.{_≡_};
@@ -11,12 +9,11 @@ ghost use lib.ListN.{length};
 ghost use Rattle.numbers.specs.Signal.{at};
 ghost use Rattle.areas.specs.Areas.{heightsAt};
 ghost use Rattle.wavelet.specs.Shape.{columns, rows};
-ghost use Rattle.reader.specs.Questions.{setUpQuestion, stopQuestion};
+ghost use Rattle.reader.specs.Questions.{setUpQuestion};
 ghost use Rattle.reader.specs.Answers.{number};
 ghost use Rattle.reader.specs.Calls.{setUpReply, setUpStore};
 ghost use Rattle.states.specs.ReaderAnswers.{countOf};
-ghost use Rattle.terrain.specs.ReaderCalls.{stateOf, stopping, sizing, sizeNumber, columnsOf, rowsOf, wanting};
-ghost use Rattle.terrain.specs.ReaderCalls.{wantOf, feeding, feedingStore, drawing, drawingStore, drawingArea, stateDrawn};
+ghost use Rattle.terrain.specs.ReaderCalls.{stateOf, wanting, wantOf, feeding, feedingStore, drawing, drawingStore, drawingArea, stateDrawn};
 
 // A fresh reader. The questions are 2, 3, 18, 4 and 5.
 #[no_mangle]
@@ -43,52 +40,6 @@ pub extern "C" fn terrain_reader_set_up(
             0
         }
         SetUp::Refused(no) => no as u32,
-    }
-}
-
-// A fresh reader with a stop. The questions are 2, 3, 18, 4, 17 and 5.
-#[no_mangle]
-pub extern "C" fn terrain_reader_set_up_at(
-    state: &mut [u64; 16],
-    shape: Shape,
-    stop: usize,
-    store: &mut [i32],
-) -> u32
-    ensures { λ r. ⌜ r ≡ number (stopping (shape .filter) (columns shape) (rows shape) (shape .levels) stop (length (now (store .entry)))) ⌝ }
-    ensures { λ _. ⌜ now (state .exit) ≡
-        stateOf (stopping (shape .filter) (columns shape) (rows shape) (shape .levels) stop (length (now (store .entry)))) (now (state .entry)) ⌝ }
-    ensures { λ _. ⌜ at (now (store .exit)) ≡
-        setUpStore (shape .filter) (columns shape) (shape .levels)
-        (stopQuestion (shape .filter) (columns shape) (rows shape) (shape .levels) stop (length (now (store .entry)))) (at (now (store .entry))) ⌝ }
-{
-    match Reader::set_up_at(shape, stop, store) {
-        SetUp::Ready(r) => {
-            reader_state::pack_reader(r, state);
-            0
-        }
-        SetUp::Refused(no) => no as u32,
-    }
-}
-
-// The columns and rows of a level's low-low part. The questions are 2, 3, 18, 4 and 17.
-#[no_mangle]
-pub extern "C" fn terrain_level_size(
-    shape: Shape,
-    level: usize,
-    across: &mut usize,
-    down: &mut usize,
-) -> u32
-    ensures { λ r. ⌜ r ≡ sizeNumber (sizing (shape .filter) (columns shape) (rows shape) (shape .levels) level) ⌝ }
-    ensures { λ _. ⌜ now (across .exit) ≡ columnsOf (sizing (shape .filter) (columns shape) (rows shape) (shape .levels) level) (now (across .entry)) ⌝ }
-    ensures { λ _. ⌜ now (down .exit) ≡ rowsOf (sizing (shape .filter) (columns shape) (rows shape) (shape .levels) level) (now (down .entry)) ⌝ }
-{
-    match stops::level_size(shape, level) {
-        LevelSize::Size(w, h) => {
-            *across = w;
-            *down = h;
-            0
-        }
-        LevelSize::Refused(no) => no as u32,
     }
 }
 

@@ -9,29 +9,15 @@ ghost use mathlib.Core.Path.{_≡_};
 ghost use lib.ListN.{length};
 ghost use Rattle.numbers.specs.Signal.{at, pick};
 ghost use Rattle.wavelet.specs.Shape.{columns};
-ghost use Rattle.filters.specs.Figures.{storeBy, writerStoreBy, streamable};
+ghost use Rattle.filters.specs.Figures.{storeBy, streamable};
 ghost use Rattle.writer.specs.Calls.{setUpReply, setUpStore};
 ghost use Rattle.states.specs.WriterAnswers.{number, takenOf, rowOf};
 ghost use Rattle.terrain.specs.WriterCalls.{stateOf, offered, offeredStore, stateTook, drawn, drawnStore, drawnArea, stateHanded};
 ghost use Rattle.terrain.specs.WriterCalls.{waiting, lookOf, finished, finishedStore};
 
-// The numbers that the line store of a writer needs, more than a reader's; 0 where set-up would give 2, 18 or 4. The height does not count.
+// The numbers that the line store of a writer or a reader needs; 0 where set-up would give 2, 18 or 4. The height does not count.
 #[no_mangle]
 pub extern "C" fn terrain_store_length(shape: Shape) -> usize
-    ensures { λ r. ⌜ r ≡
-        pick (streamable (shape .filter) (columns shape) (shape .levels)) (writerStoreBy (shape .filter) (columns shape) (shape .levels)) 0 ⌝ }
-{
-    filters::writer_store_length(
-        shape.filter as usize,
-        shape.width,
-        shape.x as usize,
-        shape.levels,
-    )
-}
-
-// Those that a reader's needs.
-#[no_mangle]
-pub extern "C" fn terrain_reader_store_length(shape: Shape) -> usize
     ensures { λ r. ⌜ r ≡ pick (streamable (shape .filter) (columns shape) (shape .levels)) (storeBy (shape .filter) (columns shape) (shape .levels)) 0 ⌝ }
 {
     filters::store_length(
@@ -64,7 +50,7 @@ pub extern "C" fn terrain_writer_set_up(
     }
 }
 
-// Heights offered. The questions are 1, 5, 9 and 10.
+// Heights offered. The questions are 1, 5, 9, 8 and 10.
 #[no_mangle]
 pub extern "C" fn terrain_writer_offer(
     state: &mut [u64; 16],

@@ -27,7 +27,7 @@ kept-at L k HL h = refl
 kept-at L k LH h = refl
 kept-at L k HH h = refl
 
-pub kept-exists : (W H : Side) (L k : ℕ) (b : Band) (r : ℕ) → Kept W H L k b r → bandRowExists W H L k b r ≡ true
+kept-exists : (W H : Side) (L k : ℕ) (b : Band) (r : ℕ) → Kept W H L k b r → bandRowExists W H L k b r ≡ true
 unfolding bandRowExists
 kept-exists W H L k b r h =
     simp (

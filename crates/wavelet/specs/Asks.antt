@@ -62,7 +62,11 @@ ShapeAsks f w h L rest = Asks 2 (Width w) (Asks 3 (Height h) (Asks 18 (Known f) 
 abbrev pub MapAsks : ℕ → ℕ → ℕ → ℕ → ℕ → ℕ → ℕ → (ℕ → Type 0) → ℕ → Type 0
 MapAsks f w h L a b c rest = ShapeAsks f w h L (Asks 5 ((w * h ≤ a) × (w * h ≤ b) × (w * h ≤ c)) rest)
 
--- a reader's set-up, with a line store of n numbers (the writer's: crate writer)
+-- a writer's set-up, with a line store of n numbers: it need not know how many rows will come
+abbrev pub WriterSetUpAsks : ℕ → Side → ℕ → ℕ → ℕ → Type 0
+WriterSetUpAsks f W L n = Asks 2 (Width (W .length)) (Asks 18 (Known f) (Asks 4 (Levels f L) (Asks 5 (needed f W L ≤ n) Passes)))
+
+-- a reader's
 abbrev pub ReaderSetUpAsks : ℕ → Side → Side → ℕ → ℕ → ℕ → Type 0
 ReaderSetUpAsks f W H L n = ShapeAsks f (W .length) (H .length) L (Asks 5 (needed f W L ≤ n) Passes)
 

@@ -1,11 +1,11 @@
 -- What the calls answer and leave, as the code's branches meet them. Assumes nothing.
-use mathlib.Core.Path.{_≡_, refl, sym, ap, ap₂, subst, subst₂, _∙_}
+use mathlib.Core.Path.{_≡_, refl, sym, ap, ap₂, _∙_}
 use mathlib.Core.Bool.{Bool, true, false, not}
-use Prim.Native.Nat.{ℕ, zero, suc, _+_, _%_, _≤_, _<_}
+use Prim.Native.Nat.{ℕ, zero, suc, _≤_, _<_}
 use native.Mathlib.Omega.{arith}
 use lib.IntN.{pos}
 use lib.Dec.{leb, ltb, eqb}
-use borrow.Author.Tests.{leb-true, le-leb, lt-leb, lt-ltb, eq-eqb, ne-eqb, eqb-true, ltb-true}
+use borrow.Author.Tests.{leb-true, le-leb, lt-leb, eq-eqb, ne-eqb, eqb-true, ltb-true}
 use Rattle.numbers.specs.Signal.{pick, both}
 use Rattle.numbers.proofs.Sweep.{both as split-both}
 use Rattle.lifting.specs.Halves.{fronted}
@@ -14,8 +14,7 @@ use Rattle.wavelet.proofs.LimitLaws.{width-small, height-small}
 use Rattle.wavelet.specs.Questions.{ask, within}
 use Rattle.lifting.specs.Grid.{Side}
 use Rattle.filters.specs.Filters.{filterOf}
-use Rattle.filters.specs.Figures.{writerStoreBy, streamable}
-use Rattle.filters.proofs.FigureLaws.{streams}
+use Rattle.filters.specs.Figures.{storeBy, streamable}
 use Rattle.calls.specs.Lists.{gives, refused, unless, changedUnless}
 use Rattle.calls.proofs.QuestionLaws.{asked-yes, not-yes}
 use Rattle.writer.specs.declared.Writer.{Writer}
@@ -25,19 +24,14 @@ use Rattle.writer.specs.declared.closing.Closure.{Closure}
 use Rattle.writer.specs.declared.draws.Spot.{Spot}
 use Rattle.writer.specs.Closing.{Shut, shut}
 use Rattle.progress.specs.Counts.{startOf}
-use Rattle.writer.specs.Taking.{kind, columnsOf, Taking, none, takes, complete, rowMakes}
-use Rattle.writer.specs.Spare.{spareAt, movedRow, moving, movedOn}
-use Rattle.analysis.specs.Forward.{heightsPut}
-use Rattle.analysis.proofs.ForwardLaws.{height-none}
-use Rattle.writer.specs.SpareSteps.{Holder, Moved}
-use Rattle.writer.specs.Questions.{either, inRanges, longEnough, waitingRow, known, setUpQuestion, rowsTaken, offerQuestion, drawQuestion, finishQuestion}
+use Rattle.writer.specs.Taking.{kind, columnsOf, takes}
+use Rattle.writer.specs.Questions.{either, inRanges, longEnough, waitingRow, known, setUpQuestion, offerQuestion, drawQuestion, finishQuestion}
 use Rattle.writer.specs.Gate.{stateQuestion}
 use Rattle.writer.specs.Answers.{Handed, aRow, nothing}
-use Rattle.writer.specs.Calls.{fresh, setUpReply, setUpStore, waits, closing, finishReply}
-use Rattle.writer.specs.Calls.{finishStore, resumed, pulled, afterDraw, drawnOn, bandRow, handed}
+use Rattle.writer.specs.Calls.{fresh, setUpReply, setUpStore, waits, closing, finishReply, finishStore, resumed, pulled, afterDraw, bandRow, handed}
 use Rattle.writer.specs.Calls.{handedStore, handedArea, drawReply, drawStore, drawArea}
-use Rattle.writer.specs.Steps.{Room, Left, Walk, Found, Closed, Drawable, Drew, Spares, DrewOn}
-use Rattle.writer.proofs.GateLaws.{known-filter, Sound, sound, state-no, state-yes, taken-open}
+use Rattle.writer.specs.Steps.{Room, Left, Walk, Found, Closed, Drawable, Drew}
+use Rattle.writer.proofs.GateLaws.{known-filter, Sound, sound, state-no, state-yes}
 use Rattle.level.specs.Level.{Memory, rest}
 
 -- ---- by the number of the question
@@ -58,23 +52,23 @@ changed-yes zero a b h = refl
 changed-yes (suc q) a b h = absurd (omega arith)
 
 -- ---- set-up, f being the number of the filter
-pub set-up-passed : (f : ℕ) (W : Side) (L n : ℕ) → setUpQuestion f W L n ≡ 0 → (streamable f W L ≡ true) × (writerStoreBy f W L ≤ n)
+pub set-up-passed : (f : ℕ) (W : Side) (L n : ℕ) → setUpQuestion f W L n ≡ 0 → (streamable f W L ≡ true) × (storeBy f W L ≤ n)
 unfolding setUpQuestion streamable
 set-up-passed f W L n e =
     let a = asked-yes (within 1 maxWidth (W .length)) _ _ e in
     let k = asked-yes (known f) _ _ (a .1) in
     let b = asked-yes (within 1 (filterOf f .levels) L) _ _ (k .1) in
-    (simp (a .0, known-filter f (k .0), b .0), leb-true (writerStoreBy f W L) n (asked-yes _ _ _ (b .1) .0))
+    (simp (a .0, known-filter f (k .0), b .0), leb-true (storeBy f W L) n (asked-yes _ _ _ (b .1) .0))
 
 pub record Fits (f : ℕ) (W : Side) (L n k : ℕ) : Type 0 where
-  pub needed : k ≡ writerStoreBy f W L
+  pub needed : k ≡ storeBy f W L
   pub room : k ≤ n
 
 module _ (f : ℕ) (W : Side) (L n q : ℕ) (e : q ≡ setUpQuestion f W L n) where
-  pub set-up-fits : (k : ℕ) → q ≡ 0 → k ≡ pick (streamable f W L) (writerStoreBy f W L) 0 → Fits f W L n k
+  pub set-up-fits : (k : ℕ) → q ≡ 0 → k ≡ pick (streamable f W L) (storeBy f W L) 0 → Fits f W L n k
   set-up-fits k z h =
       let t = set-up-passed f W L n (sym e ∙ z) in
-      let g : k ≡ writerStoreBy f W L = h ∙ simp (t .0) in
+      let g : k ≡ storeBy f W L = h ∙ simp (t .0) in
       record { needed = g; room = omega (arith, t .1) }
 
   pub set-up-no : (s : ℕ) (x : Memory) → 0 < q → (refused q ≡ setUpReply f W s L n) × (x ≡ setUpStore f W L n x)
@@ -101,10 +95,6 @@ module _ (s : Writer) (n : ℕ) where
   unfolding offerQuestion stateQuestion
   offer-sound k h = sound s n (front (inRanges s) (longEnough n s) _ h)
 
-  pub draw-sound : (k : ℕ) → drawQuestion s n k ≡ 0 → Sound s n
-  unfolding drawQuestion stateQuestion
-  draw-sound k h = sound s n (front (inRanges s) (longEnough n s) _ h)
-
   -- what the other questions said
   pub finish-may : finishQuestion s n ≡ 0 → (s .finished ≡ false) × (s .level ≡ 0) × (0 < s .rows) × (s .column ≡ 0)
   unfolding finishQuestion
@@ -115,23 +105,14 @@ module _ (s : Writer) (n : ℕ) where
       let d = split-both (ltb 0 (s .rows)) _ (asked-yes _ _ _ (c .1) .0) in
       (not-yes _ (b .0), eqb-true _ 0 (c .0), ltb-true 0 _ (d .0), eqb-true _ 0 (d .1))
 
-  pub offer-may : (k : ℕ) → offerQuestion s n k ≡ 0 → (s .finished ≡ false) × (0 < k → rowsTaken s < maxHeight)
-  unfolding offerQuestion
+  pub offer-may : (k : ℕ) → offerQuestion s n k ≡ 0 → (s .finished ≡ false) × (0 < k → takes s ≡ true)
+  unfolding offerQuestion takes
   offer-may k h =
       let a = asked-yes (longEnough n s) _ _ (asked-yes (inRanges s) _ _ h .1) in
       let b = asked-yes (not (s .finished)) _ _ (a .1) in
-      let d = asked-yes (either (eqb k 0) (ltb (rowsTaken s) maxHeight)) _ _ (b .1) .0 in
-      (not-yes _ (b .0), λ p. ltb-true _ _ (sym (ap (λ t. either t (ltb (rowsTaken s) maxHeight)) (ne-eqb k 0 (λ z. omega arith))) ∙ d))
-
-  -- of one height or more, nothing waiting: the writer takes one
-  pub offer-takes : (k : ℕ) → offerQuestion s n k ≡ 0 → s .level ≡ 0 → 0 < k → takes s ≡ true
-  unfolding takes
-  offer-takes k h z p =
-      let f = offer-sound k h in
-      simp (
-        eq-eqb (s .level) 0 z,
-        lt-ltb (s .rows) maxHeight (omega (arith, offer-may k h .1 p, taken-open s (omega (arith, f .width .0)) (f .column z))),
-      )
+      let c = asked-yes (eqb (s .level) 0) _ _ (b .1) in
+      let d = asked-yes (either (eqb k 0) (ltb (s .rows) maxHeight)) _ _ (c .1) .0 in
+      (not-yes _ (b .0), λ p. ap₂ both (c .0) (sym (ap (λ t. either t (ltb (s .rows) maxHeight)) (ne-eqb k 0 (λ z. omega arith))) ∙ d))
 
 -- ---- finish
 pub waits-same : (f : Bool) (s : Writer) (r : Shut) (c v i o : ℕ) → c ≡ r .closed → v ≡ r .out .level → i ≡ r .out .left →
@@ -193,9 +174,6 @@ sound-walk s n f h =
 
 pub sound-drawable : (s : Writer) (n : ℕ) → Sound s n → 0 < s .level → Drawable s n
 sound-drawable s n f h = record { room = sound-room s n f; walk = sound-walk s n f h; placed = f .placed; closed = f .closed }
-
-pub sound-spares : (s : Writer) (n : ℕ) → Sound s n → 0 < s .level → Spares s n
-sound-spares s n f h = record { sized = f .sized; row = f .spare; room = f .whole; may = λ p. f .may h p .1 }
 
 -- ---- what a draw leaves
 module _ (s : Writer) (x y : Memory) (r : Wait) (l : Left (s .filter) (s .levels) (columnsOf s) (pulled s x) r y) where
@@ -296,73 +274,6 @@ module _ (s : Writer) (x y : Memory) (r : Wait) (l : Left (s .filter) (s .levels
       drew (q .closed) (q .wait .level) (q .wait .left) (q .wait .offset) z _ (resumed-closes (s .finished) (pulled s x .level) e (sym (l .level) ∙ h))
       (g .closed) (g .left .level) (g .left .left) (g .left .offset) (g .left .store)
 
--- ---- its heights move on: part of a row, a whole one
-pub moving-part : (s : Writer) (x : Memory) → ltb (s .column) (s .width) ≡ true → moving s x ≡ record { taken = s .column; writer = s; store = movedRow s x }
-unfolding moving
-moving-part s x e = rw e refl
-
-pub moving-whole : (s : Writer) (x : Memory) → ltb (s .column) (s .width) ≡ false → moving s x ≡ record {
-  taken = s .column;
-  writer = complete s (rowMakes (kind s) s (movedRow s x));
-  store = rowMakes (kind s) s (movedRow s x) .store;
-}
-unfolding moving
-moving-whole s x e = rw e refl
-
--- of no heights, nothing moves on
-pub moving-none : (s : Writer) (x : Memory) → s .column ≡ 0 → 0 < s .width → moving s x ≡ none s x
-unfolding moving
-moving-none s x e p =
-    let a : ltb (s .column) (s .width) ≡ true = lt-ltb (s .column) (s .width) (omega arith) in
-    let r : movedRow s x ≡ x =
-    ap (λ (n : ℕ). heightsPut (s .filter) (columnsOf s) (s .y % 2 + s .rows) 0 n (λ j. x (spareAt s + j)) x) e
-    ∙ height-none (s .filter) (columnsOf s) (s .y % 2 + s .rows) 0 (λ j. x (spareAt s + j)) x in
-    rw (a, r) (ap (λ (n : ℕ). record { taken = n; writer = s; store = x }) e)
-
--- once nothing waits, the heights of the spare row go on: t and y are the writer and the store that the draw left
-module _ (s : Writer) (x : Memory) (t : Writer) (y : Memory) (d : Drew s x t y) where
-  level-left : t .level ≡ afterDraw s x .out .level
-  level-left = ap (λ (w : Writer). w .level) (d .writer)
-
-  on-waits : (v : ℕ) (w : Writer) (z : Memory) → 0 < v → movedOn v w z ≡ none w z
-  unfolding movedOn
-  on-waits zero w z h = absurd (omega arith)
-  on-waits (suc v) w z h = refl
-
-  on-moves : (v : ℕ) (w : Writer) (z : Memory) → v ≡ 0 → movedOn v w z ≡ moving w z
-  unfolding movedOn
-  on-moves zero w z h = refl
-  on-moves (suc v) w z h = absurd (omega arith)
-
-  pub drew-still : 0 < t .level → DrewOn s x t y
-  drew-still h =
-      let e = on-waits (afterDraw s x .out .level) (waits (s .finished) s (afterDraw s x)) (afterDraw s x .out .store) (omega (arith, level-left)) in
-      record { writer = d .writer ∙ sym (ap (λ (k : Taking). k .writer) e); store = d .store ∙ sym (ap (λ (k : Taking). k .store) e) }
-
-  moves : t .level ≡ 0 → movedOn (afterDraw s x .out .level) (waits (s .finished) s (afterDraw s x)) (afterDraw s x .out .store) ≡ moving t y
-  moves h =
-      on-moves (afterDraw s x .out .level) _ _ (sym level-left ∙ h)
-      ∙ sym (ap₂ moving (d .writer) (d .store))
-
-  -- the heights there can go on, in a store that is as long
-  pub left-moves : (n m : ℕ) → Spares s n → m ≡ n → 0 < t .column → Holder t 0 m × (t .rows < maxHeight)
-  left-moves n m p e =
-      subst₂ (λ (w : Writer) (k : ℕ). 0 < w .column → Holder w 0 k × (w .rows < maxHeight)) (sym (d .writer)) (sym e)
-      (λ q. (record { sized = p .sized; row = omega (arith, p .row); room = p .room }, p .may q))
-
-  pub drew-none : (n : ℕ) → Spares s n → t .level ≡ 0 → t .column ≡ 0 → DrewOn s x t y
-  drew-none n p h c =
-      let w : 0 < t .width = subst (λ (w : Writer). 0 < w .width) (sym (d .writer)) (streams (s .filter) (columnsOf s) (s .levels) (p .sized) .width .0) in
-      let e = moves h ∙ moving-none t y c w in
-      record { writer = sym (ap (λ (k : Taking). k .writer) e); store = sym (ap (λ (k : Taking). k .store) e) }
-
-  pub drew-moved : (r : Writer) (z : Memory) → t .level ≡ 0 → Moved t y r z → DrewOn s x r z
-  drew-moved r z h m =
-      record {
-        writer = m .writer ∙ sym (ap (λ (k : Taking). k .writer) (moves h));
-        store = m .store ∙ sym (ap (λ (k : Taking). k .store) (moves h));
-      }
-
 -- ---- draw
 module _ (s : Writer) (n k : ℕ) where
   draw-state : (stateQuestion s n ≡ 0 → ⊥) → drawQuestion s n k ≡ stateQuestion s n
@@ -387,8 +298,8 @@ module _ (s : Writer) (x z : Memory) where
   handed-none zero e = (refl, refl, refl)
   handed-none (suc v) e = absurd (omega arith)
 
-  handed-row : (v : ℕ) → 0 < v → (aRow (bandRow (waitingRow s)) (drawnOn s x .writer) ≡ handed v s x) ×
-      (drawnOn s x .store ≡ handedStore v s x) × (fronted (waitingRow s .length) (rest (waitingRow s .start) x) z ≡ handedArea v s x z)
+  handed-row : (v : ℕ) → 0 < v → (aRow (bandRow (waitingRow s)) (waits (s .finished) s (afterDraw s x)) ≡ handed v s x) ×
+      (afterDraw s x .out .store ≡ handedStore v s x) × (fronted (waitingRow s .length) (rest (waitingRow s .start) x) z ≡ handedArea v s x z)
   handed-row zero h = absurd (omega arith)
   handed-row (suc v) h = (refl, refl, refl)
 
@@ -415,7 +326,7 @@ module _ (s : Writer) (n k q : ℕ) (x z : Memory) (e : q ≡ stateQuestion s n)
     pub draw-no-room : k < r .length → (refused 12 ≡ drawReply s n k x) × (x ≡ drawStore s n k x) × (z ≡ drawArea s n k x z)
     draw-no-room g = refuses 12 (draw-short s n k (sym e ∙ y) h (omega (arith, long))) (omega arith)
 
-    pub draw-row : (v : Writer) (x′ z′ : Memory) → r .length ≤ k → z′ ≡ fronted (r .length) (rest (r .start) x) z → DrewOn s x v x′ →
+    pub draw-row : (v : Writer) (x′ z′ : Memory) → r .length ≤ k → z′ ≡ fronted (r .length) (rest (r .start) x) z → Drew s x v x′ →
         (gives (aRow (record { level = r .level; band = r .band; row = r .row; length = r .length }) v) ≡ drawReply s n k x) ×
         (x′ ≡ drawStore s n k x) × (z′ ≡ drawArea s n k x z)
     draw-row v x′ z′ g ez d =

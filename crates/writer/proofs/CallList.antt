@@ -150,8 +150,6 @@ module _ (φ : ℕ) where
     pub room : 0 < c → r < maxHeight
     pub ended : f ≡ true → (0 < r) × (c ≡ 0)
     pub sound : (H : ℕ) (g : Grid) → Fits W H g ts f → Sound L W top H g f ds r c cl v i x
-    -- before the last row was taken, all that the rows before it make was drawn
-    pub prior : length (made A W top L (r - 1) false) ≤ length ds
     -- the rows made before the finish are drawn, and right for every grid that begins with the heights
     pub early : f ≡ true → Early L W top ts ds r
 
@@ -184,6 +182,26 @@ module _ (φ : ℕ) where
     pub begun-row : length ts % W .length ≡ c
     begun-row = ap (λ n. n % W .length) (a .counted) ∙ column-of (W .length) r c (a .column-in)
 
+    -- every count is in its range
+    pub in-ranges : W .start ≤ maxOrigin → top ≤ maxOrigin → streamable φ W L ≡ true →
+        inRanges (st φ W top L r c f cl v i) ≡ true
+    unfolding inRanges
+    in-ranges from low p =
+        let s = own-sound in
+        let q : streamable φ (side (W .start) (W .length)) L ≡ true = p in
+        simp (
+          le-leb (W .start) maxOrigin from,
+          le-leb top maxOrigin low,
+          q,
+          le-leb r maxHeight (a .rows-in),
+          lt-ltb c (W .length) (a .column-in),
+          le-leb cl (A * L)
+              (closed-le K Held Ended laws L _ _ _ _ _ _ _ _ _ (s .holds .levels)),
+          le-leb v L
+              (level-le K Held Ended laws L _ _ _ _ _ _ _ _ _ (s .holds .levels)),
+          le-leb i (mostLeft L v) (s .holds .few),
+        ) (eq-eqb (startOf φ W v) (startOf φ W v) refl)
+
     -- what waits, by the history: made and not drawn
     pub waiting-is : drop (length ds) (made A W top L r f) ≡ coming L W top f cl v i r
     waiting-is =
@@ -202,16 +220,6 @@ module _ (φ : ℕ) where
         go : (t : Bool) → (t ≡ true → cl ≡ A * L) → coming L W top t cl v i r ≡ []
         go false q = coming-open L W top cl v i r ∙ none
         go true q = coming-closed L W top cl v i r ∙ ap₂ _++_ none (ap (later A L 1 W (side top r)) (q refl) ∙ later-all A L 1 W (side top r) ahead-some)
-
-    -- and then all that the rows make is drawn
-    pub all-drawn : f ≡ false → v ≡ 0 → length ds ≡ length (made A W top L r false)
-    all-drawn e z =
-        let s = own-sound in
-        sym (length-map ds (λ d. d .row))
-        ∙ ap length (s .named)
-        ∙ length-map (s .names) (answered W)
-        ∙ ap length (sym (append-nil (s .names)) ∙ ap (λ b. s .names ++ b) (sym (none-waits z)) ∙ s .order)
-        ∙ ap (λ b. length (made A W top L r b)) e
 
   -- ---- one height more
   module _ (l : ℕ) (W : Side) (top : ℕ) (ds : List DrawnRow) where
@@ -250,7 +258,6 @@ module _ (φ : ℕ) where
           order = s .order;
           values = s .values;
         };
-        prior = a .prior;
         early = λ e. absurd (differ e);
       }
 
@@ -303,7 +310,6 @@ module _ (φ : ℕ) where
             room = λ e. absurd (omega arith);
             ended = λ e. absurd (differ e);
             sound = λ H g t. complete-sound H g t p;
-            prior = let e : r + 1 - 1 ≡ r = omega arith in rw e (omega (arith, all-drawn a refl z));
             early = λ e. absurd (differ e);
           }
 
@@ -526,7 +532,6 @@ module _ (φ : ℕ) where
         room = a .room;
         ended = a .ended;
         sound = λ H g t. drawn-sound H g t z e;
-        prior = omega (arith, a .prior, length-append ds (record { row = bandRow q; values = z } ∷ []));
         early = λ y. let k = a .early y in record {
           drawn = omega (arith, k .drawn, length-append ds (record { row = bandRow q; values = z } ∷ []));
           right = λ H g t. subst (All (Right L W top H g)) (sym (take-append-le _ ds _ (k .drawn))) (k .right H g t);
@@ -566,7 +571,12 @@ module _ (φ : ℕ) where
       -- all rows made before the finish are drawn
       all-early : Early L W top ts ds r
       all-early =
-          let e : length ds ≡ length (made A W top L r false) = all-drawn a refl z in
+          let s = own-sound a in
+          let e : length ds ≡ length (made A W top L r false) =
+          sym (length-map ds (λ d. d .row))
+          ∙ ap length (s .named)
+          ∙ length-map (s .names) (answered W)
+          ∙ ap length (sym (append-nil (s .names)) ∙ ap (λ b. s .names ++ b) (sym (none-waits a z)) ∙ s .order) in
           record {
             drawn = omega arith;
             right = λ H g t. subst (All (Right L W top H g)) (sym (take-all (length (made A W top L r false)) ds (omega arith)))
@@ -581,7 +591,6 @@ module _ (φ : ℕ) where
         room = a .room;
         ended = λ _. (p, n);
         sound = finish-sound;
-        prior = a .prior;
         early = λ _. all-early;
       }
 
@@ -604,6 +613,5 @@ module _ (φ : ℕ) where
       order = coming-open L W top 0 0 0 0 ∙ pend-none A L 1 W top 0 0 0 ∙ sym (none-made W top L);
       values = all-none;
     };
-    prior = let e = none-made W top L in rw e (omega arith);
     early = λ e. absurd (differ e);
   }

@@ -2,9 +2,9 @@
 -- Assumes nothing.
 use mathlib.Core.Bool.{Bool, true, false}
 use mathlib.Core.Path.{_≡_, refl, sym, ap, ap₂, subst, _∙_}
-use mathlib.Core.List.{List, [], _∷_, _++_, map, map-append, append-nil, append-assoc}
-use Prim.Native.Nat.{ℕ, zero, suc, _+_, _*_, _/_, _%_, _≤_, _<_}
-use native.Mathlib.Nat.{mul-comm, mul-le-mul-right, suc-mul, div-eq-of-lt, div-add-mod}
+use mathlib.Core.List.{List, [], _++_, map, map-append, append-nil, append-assoc}
+use Prim.Native.Nat.{ℕ, zero, suc, _+_, _*_, _≤_, _<_}
+use native.Mathlib.Nat.{mul-comm, mul-le-mul-right, suc-mul}
 use native.Mathlib.Decide.{decLt}
 use native.Mathlib.Omega.{arith}
 use lib.IntN.{pos}
@@ -37,10 +37,8 @@ use Rattle.writer.specs.Demand3.{wholeRows, madeOf, waitingOf, answered,
 use Rattle.progress.proofs.CountLaws.{code-one}
 use Rattle.writer.proofs.StateHolds.{differ, st}
 use Rattle.writer.proofs.CallLaws.{set-up-passed}
-use Rattle.writer.proofs.CallList.{Fits, fits-back, coming, Right, own-sound, rows-all}
-use Rattle.writer.proofs.SpareList.{Held, within, none-begun, has-room, in-ranges}
-use Rattle.writer.proofs.Reached.{State, taken-count, rows-are, waiting-coming, offer-turned, offer-takes-on, finish-answer, draw-says, look-says}
-use Rattle.writer.proofs.Reached.{Reached, then-reached}
+use Rattle.writer.proofs.CallList.{Fits, coming, Right, At, own-sound, in-ranges, rows-all}
+use Rattle.writer.proofs.Reached.{rows-are, waiting-coming, offer-turned, offer-takes, finish-answer, draw-says, look-says, Reached, then-reached}
 
 -- a drawn row of words is a row of the filter's whole numbers, for a map; φ is the number of the filter
 right-values : (φ L : ℕ) (W : Side) (top H : ℕ) (g : Grid) → L ≤ filterOf φ .levels → (es : List Event) → Begins W H g es → (d : DrawnRow) →
@@ -61,10 +59,6 @@ rows-within W H r c p h =
       | no q ↦ omega (arith, q)
       | yes q ↦ absurd (omega (arith, mul-le-mul-right {m = suc H} {n = r} W q, suc-mul H W, mul-comm W H))
     ]
-
--- the whole rows of n heights
-rows-most : (W H n r : ℕ) → 0 < W → r ≡ n / W → n ≤ W * H → r ≤ H
-rows-most W H n r p e h = rows-within W H r (n % W) p (omega (arith, ap (λ k. k * W) e, div-add-mod n W))
 
 map-fits : (W : Side) (H : ℕ) (g : Grid) (es : List Event) → MapOf W H g es → Fits W H g (taken es) (finishedBy es)
 map-fits W H g es m = record { within = m .begins .within; heights = m .begins .heights; whole = m .all }
@@ -91,7 +85,7 @@ module _ (W : ℕ) where
   map-limit (suc r) zero p q = p
   map-limit (suc r) (suc c) p q = q (omega arith)
 
-  map-room : (r c : ℕ) → c ≤ W → r * W + c ≤ W * mapRows r c
+  map-room : (r c : ℕ) → c < W → r * W + c ≤ W * mapRows r c
   unfolding mapRows
   map-room zero c p = omega arith
   map-room (suc r) zero p = omega (arith, mul-comm W (suc r))
@@ -120,7 +114,7 @@ made-prefix φ W top L H r h =
 
 module _ (φ l : ℕ) (W : Side) (top : ℕ) (from : W .start ≤ maxOrigin) (low : top ≤ maxOrigin) (sized : streamable φ W (suc l) ≡ true)
     (es : List Event) (r c cl v i : ℕ) (x : Memory)
-    (a : State φ l W top from low sized es r c cl v i x) where
+    (a : At φ (suc l) W top (taken es) (finishedBy es) (drawn es) r c cl v i x) where
   abbrev M : ℕ
   M = suc l
 
@@ -136,73 +130,44 @@ module _ (φ l : ℕ) (W : Side) (top : ℕ) (from : W .start ≤ maxOrigin) (lo
   abbrev w₀ : World
   w₀ = record { writer = st φ W top M r c g₀ cl v i; store = x }
 
-  abbrev h₀ : Held φ l W top (a .moved) (a .held) g₀ (drawn es) r c cl v i x
-  h₀ = a .at
-
-  -- the rows complete, that of the spare row among them
-  abbrev R : ℕ
-  R = r + c / W .length
-
-  count-here : length (taken es) ≡ r * W .length + c
-  count-here = taken-count φ l W top from low sized es r c cl v i x a
-
-  rows-here : wholeRows W es ≡ R
+  rows-here : wholeRows W es ≡ r
   rows-here = rows-are φ l W top from low sized es r c cl v i x a
 
-  made-here : madeOf φ W top M es ≡ made (filterOf φ .ahead) W top M R g₀
+  waiting-here : waitingOf φ W top M es ≡ coming φ M W top g₀ cl v i r
+  waiting-here = waiting-coming φ l W top from low sized es r c cl v i x a
+
+  made-here : madeOf φ W top M es ≡ made (filterOf φ .ahead) W top M r g₀
   unfolding madeOf
   made-here = ap (λ b. made (filterOf φ .ahead) W top M b g₀) rows-here
 
-  -- the rows drawn, then those that wait
-  names-all : own-sound φ (h₀ .at) .names ++ waitingOf φ W top M es ≡ made (filterOf φ .ahead) W top M R g₀
-  names-all =
-      let s = own-sound φ (h₀ .at) in
-      let w = waiting-coming φ l W top from low sized es r c cl v i x a in
-      ap (λ b. s .names ++ b) (w .1)
-      ∙ sym (append-assoc (s .names) (coming φ M W top g₀ cl v i r) (w .0))
-      ∙ ap (λ b. b ++ w .0) (s .order)
-      ∙ w .3
-
   ordered : map (λ d. d .row) (drawn es) ++ map (answered W) (waitingOf φ W top M es) ≡ map (answered W) (madeOf φ W top M es)
   ordered =
-      let s = own-sound φ (h₀ .at) in
-      ap (λ b. b ++ map (answered W) (waitingOf φ W top M es)) (s .named)
-      ∙ sym (map-append (answered W) (s .names) (waitingOf φ W top M es))
-      ∙ ap (map (answered W)) (names-all ∙ sym made-here)
+      let s = own-sound φ a in
+      ap₂ (λ b d. b ++ map (answered W) d) (s .named) waiting-here
+      ∙ sym (map-append (answered W) (s .names) (coming φ M W top g₀ cl v i r))
+      ∙ ap (map (answered W)) (s .order ∙ sym made-here)
 
-  -- once finished, no height is held and no row begun
-  none-left : g₀ ≡ true → c ≡ 0
-  none-left e = none-begun φ l W top v h₀ e
-
-  rows-ended : g₀ ≡ true → R ≡ r
-  rows-ended e = ap (λ k. r + k / W .length) (none-left e) ∙ ap (λ k. r + k) (div-eq-of-lt some-width) ∙ omega arith
-
-  all-moved : g₀ ≡ true → length (taken es) ≡ r * W .length
-  all-moved e = count-here ∙ omega (arith, none-left e)
-
-  firsts : (H : ℕ) (g : Grid) → MapOf W H g es → (k : List RowName) × (made (filterOf φ .ahead) W top M R g₀ ++ k ≡ made (filterOf φ .ahead) W top M H true)
-  unfolding wholeRows
+  firsts : (H : ℕ) (g : Grid) → MapOf W H g es → (k : List RowName) × (made (filterOf φ .ahead) W top M r g₀ ++ k ≡ made (filterOf φ .ahead) W top M H true)
   firsts H g m = go g₀ refl
     where
       t : Fits W H g (taken es) g₀
       t = map-fits W H g es m
 
-      go : (b : Bool) → g₀ ≡ b → (k : List RowName) × (made (filterOf φ .ahead) W top M R b ++ k ≡ made (filterOf φ .ahead) W top M H true)
-      go false e = made-prefix φ W top M H R (rows-most (W .length) H (length (taken es)) R some-width (sym rows-here) (t .within))
+      go : (b : Bool) → g₀ ≡ b → (k : List RowName) × (made (filterOf φ .ahead) W top M r b ++ k ≡ made (filterOf φ .ahead) W top M H true)
+      go false e = made-prefix φ W top M H r (rows-within (W .length) H r c some-width (omega (arith, a .counted, t .within)))
       go true e =
-          let z : r ≡ H = rows-all (W .length) H r c some-width (none-left e) (sym count-here ∙ t .whole e) in
-          ([], append-nil _ ∙ ap (λ b. made (filterOf φ .ahead) W top M b true) (rows-ended e ∙ z))
+          let z : r ≡ H = rows-all (W .length) H r c some-width (a .ended e .1) (sym (a .counted) ∙ t .whole e) in
+          ([], append-nil _ ∙ ap (λ b. made (filterOf φ .ahead) W top M b true) z)
 
   is-first : (H : ℕ) (g : Grid) → MapOf W H g es → (k : List RowName) × (map (λ d. d .row) (drawn es) ++ map (answered W) k ≡ map (answered W)
       (made (filterOf φ .ahead) W top M H true))
   is-first H g m =
-      let s = own-sound φ (h₀ .at) in
-      let w = waitingOf φ W top M es in
+      let s = own-sound φ a in
       let p = firsts H g m in (
-        w ++ p .0,
-        ap (λ b. b ++ map (answered W) (w ++ p .0)) (s .named)
-            ∙ sym (map-append (answered W) (s .names) (w ++ p .0))
-            ∙ ap (map (answered W)) (sym (append-assoc (s .names) w (p .0)) ∙ ap (λ b. b ++ p .0) names-all ∙ p .1),
+        coming φ M W top g₀ cl v i r ++ p .0,
+        ap (λ b. b ++ map (answered W) (coming φ M W top g₀ cl v i r ++ p .0)) (s .named)
+            ∙ sym (map-append (answered W) (s .names) (coming φ M W top g₀ cl v i r ++ p .0))
+            ∙ ap (map (answered W)) (sym (append-assoc (s .names) (coming φ M W top g₀ cl v i r) (p .0)) ∙ ap (λ b. b ++ p .0) (s .order) ∙ p .1),
       )
 
   map-there : All (λ h. h ≤ maxSample) (taken es) → (H : ℕ) × (g : Grid) × MapOf W H g es
@@ -212,39 +177,34 @@ module _ (φ l : ℕ) (W : Side) (top : ℕ) (from : W .start ≤ maxOrigin) (lo
     record {
       begins = record {
         some = map-some (W .length) r c;
-        limit = map-limit (W .length) r c (h₀ .at .rows-in) (has-room φ l W top v h₀);
+        limit = map-limit (W .length) r c (a .rows-in) (a .room);
         map = record { heights = λ p q _ _. height-range (getD (taken es) (p * W .length + q) 0) (all-at 0 (omega arith) small (p * W .length + q)) };
-        within = omega (arith, count-here, map-room (W .length) r c (within φ l W top v h₀));
+        within = omega (arith, a .counted, map-room (W .length) r c (a .column-in));
         heights = λ _ _ _ _. refl;
       };
-      all = λ e. count-here ∙ map-whole (W .length) r c (h₀ .at .ended e .0) (none-left e);
+      all = λ e. a .counted ∙ map-whole (W .length) r c (a .ended e .0) (a .ended e .1);
     },
   )
 
   early : (H : ℕ) (g : Grid) → Begins W H g es →
       All (HasValues φ W top H g) (take (length (made (filterOf φ .ahead) W top M (wholeRows W es) false)) (drawn es))
   early H g m =
-      all-map (right-values φ M W top H g few es m) (go g₀ refl)
+      subst (λ k. All (HasValues φ W top H g) (take (length (made (filterOf φ .ahead) W top M k false)) (drawn es))) (sym rows-here)
+      (all-map (right-values φ M W top H g few es m) (go g₀ refl a))
     where
-      fits : Fits W H g (a .moved) false
-      fits = fits-back W H g (a .moved) (a .held) false (subst (λ t. Fits W H g t false) (a .taken-is) (begins-fits W H g es m))
-
-      go : (b : Bool) → g₀ ≡ b → All (Right φ M W top H g) (take (length (made (filterOf φ .ahead) W top M (wholeRows W es) false)) (drawn es))
-      go false e =
-          all-take (length (made (filterOf φ .ahead) W top M (wholeRows W es) false))
-          (subst (λ b. Fits W H g (a .moved) b → All (Right φ M W top H g) (drawn es)) e (λ t. h₀ .at .sound H g t .values) fits)
-      go true e =
-          subst (λ k. All (Right φ M W top H g) (take (length (made (filterOf φ .ahead) W top M k false)) (drawn es))) (sym (rows-here ∙ rows-ended e))
-          (h₀ .at .early e .right H g fits)
+      go : (b : Bool) → g₀ ≡ b → At φ M W top (taken es) g₀ (drawn es) r c cl v i x →
+          All (Right φ M W top H g) (take (length (made (filterOf φ .ahead) W top M r false)) (drawn es))
+      go false e h = all-take (length (made (filterOf φ .ahead) W top M r false)) (subst (λ b. At φ M W top (taken es) b (drawn es) r c cl v i x) e h .sound H g
+          (begins-fits W H g es m) .values)
+      go true e h = h .early e .right H g (begins-fits W H g es m)
 
   whole-map : g₀ ≡ true → (1 ≤ wholeRows W es) × (wholeRows W es ≤ maxHeight) × (length (taken es) ≡ W .length * wholeRows W es)
   whole-map e =
-      let p = h₀ .at .ended e in
-      let q : wholeRows W es ≡ r = rows-here ∙ rows-ended e in (
-        omega (arith, q, p .0),
-        omega (arith, q, h₀ .at .rows-in),
-        all-moved e ∙ mul-comm r (W .length)
-            ∙ ap (λ b. W .length * b) (sym q),
+      let p = a .ended e in (
+        omega (arith, rows-here, p .0),
+        omega (arith, rows-here, a .rows-in),
+        a .counted ∙ omega (arith, p .1, mul-comm r (W .length))
+            ∙ ap (λ b. W .length * b) (sym rows-here),
       )
 
   drew-all : g₀ ≡ true → waitingOf φ W top M es ≡ [] → PlaneDrawn W top M es
@@ -252,38 +212,15 @@ module _ (φ l : ℕ) (W : Side) (top : ℕ) (from : W .start ≤ maxOrigin) (lo
     names = madeOf φ W top M es;
     answers = sym (append-nil _) ∙ ap (λ b. map (λ d. d .row) (drawn es) ++ map (answered W) b) (sym z) ∙ ordered;
     once = λ y.
-        ap (times y) (made-here ∙ ap (made (filterOf φ .ahead) W top M R) e)
-        ∙ made-once (filterOf φ .ahead) (laws-of φ .ahead-some) W (side top R) M y
+        ap (times y) (made-here ∙ ap (made (filterOf φ .ahead) W top M r) e)
+        ∙ made-once (filterOf φ .ahead) (laws-of φ .ahead-some) W (side top r) M y
         ∙ ap (λ b. pick (bandRowExists W (side top b) M (y .level) (y .band) (y .row)) 1 0) (sym rows-here);
   }
-
-  -- the rows drawn are right for every map of the history
-  values-all : (H : ℕ) (g : Grid) → MapOf W H g es → All (Right φ M W top H g) (drawn es)
-  values-all H g m = go g₀ refl
-    where
-      t : Fits W H g (a .moved ++ a .held) g₀
-      t = subst (λ b. Fits W H g b g₀) (a .taken-is) (map-fits W H g es m)
-
-      go : (b : Bool) → g₀ ≡ b → All (Right φ M W top H g) (drawn es)
-      go false e =
-          subst (λ b. Fits W H g (a .moved) b → All (Right φ M W top H g) (drawn es)) e (λ k. h₀ .at .sound H g k .values)
-          (fits-back W H g (a .moved) (a .held) g₀ t)
-      go true e = h₀ .at .sound H g (subst (λ b. Fits W H g b g₀) (all-is (a .held) (held-none e)) t) .values
-        where
-          held-none : g₀ ≡ true → length (a .held) ≡ 0
-          held-none e = elim (decLt 0 (length (a .held))) [
-            | yes p ↦ absurd (differ (sym (h₀ .may p .0) ∙ e))
-            | no p ↦ omega (arith, p)
-          ]
-
-          all-is : (l : List ℕ) → length l ≡ 0 → a .moved ++ l ≡ a .moved
-          all-is [] z = append-nil _
-          all-is (y ∷ l) z = absurd (omega arith)
 
   claim : Demand3 φ W top M es (λ k. event k w₀)
   claim = record {
     in-order = ordered;
-    values = λ H g m. all-map (right-values φ M W top H g few es (m .begins)) (values-all H g m);
+    values = λ H g m. all-map (right-values φ M W top H g few es (m .begins)) (a .sound H g (map-fits W H g es m) .values);
     early-values = early;
     first = is-first;
     some-map = map-there;
@@ -291,7 +228,7 @@ module _ (φ l : ℕ) (W : Side) (top : ℕ) (from : W .start ≤ maxOrigin) (lo
     all-drawn = drew-all;
     draws = λ n b. draw-says φ l W top from low sized es n r c cl v i x a b _ refl;
     offers-turned = offer-turned φ l W top from low sized es r c cl v i x a;
-    offers-taken = λ n run. offer-takes-on φ l W top from low sized es n run r c cl v i x a;
+    offers-taken = offer-takes φ l W top from low sized es r c cl v i x a;
     finishes = finish-answer φ l W top from low sized es r c cl v i x a;
     looks = look-says φ l W top from low sized es r c cl v i x a;
   }
@@ -303,7 +240,7 @@ pub reached-claim : (f l : ℕ) (W : Side) (top : ℕ) (from : W .start ≤ maxO
 reached-claim f l W top from low sized es w m =
     subst (λ s. (inRanges s ≡ true) × Demand3 f W top (suc l) es (λ k. event k (record { writer = s; store = w .store })))
     (sym (m .writer-is)) (
-      in-ranges f l W top (m .level) (m .at .at) from low sized,
+      in-ranges f (m .at) from low sized,
       claim f l W top from low sized es (m .rows) (m .column) (m .closed) (m .level) (m .rest) (w .store) (m .at),
     )
 

@@ -1,12 +1,11 @@
 -- What the gate questions say. Assumes nothing.
 use mathlib.Core.Path.{_≡_, refl, sym, ap, _∙_}
 use mathlib.Core.Bool.{Bool, true, false, not}
-use Prim.Native.Nat.{ℕ, zero, suc, _+_, _*_, _/_, _^_, _≤_, _<_, _-_}
-use native.Mathlib.Nat.{div-eq-of-lt, div-self}
+use Prim.Native.Nat.{ℕ, suc, _+_, _*_, _^_, _≤_, _<_, _-_}
 use native.Mathlib.Omega.{arith}
 use lib.Dec.{leb, ltb, eqb}
-use borrow.Author.Tests.{leb-true, leb-false, ltb-true, le-leb, lt-leb, lt-ltb, le-ltb, eq-eqb, ne-eqb, eqb-true, eqb-false}
-use Rattle.numbers.specs.Signal.{pick, both}
+use borrow.Author.Tests.{leb-true, ltb-true, le-leb, lt-leb, lt-ltb, le-ltb, eq-eqb, ne-eqb, eqb-true, eqb-false}
+use Rattle.numbers.specs.Signal.{both}
 use Rattle.numbers.proofs.Sweep as sweep
 use Rattle.wavelet.specs.Limits.{maxWidth, maxHeight, maxOrigin}
 use Rattle.wavelet.specs.Questions.{ask}
@@ -14,13 +13,12 @@ use Rattle.lifting.specs.Grid.{Side}
 use Rattle.wavelet.proofs.LimitLaws.{levels-small}
 use Rattle.wavelet.specs.Levels.{next}
 use Rattle.filters.specs.Filters.{filterOf, isFilter}
-use Rattle.filters.specs.Figures.{storeBy, writerStoreBy, streamable}
+use Rattle.filters.specs.Figures.{storeBy, streamable}
 use Rattle.filters.proofs.FigureLaws.{streams, levels-most}
 use Rattle.writer.specs.declared.Writer.{Writer}
 use Rattle.progress.specs.Counts.{mostLeft, startOf}
 use Rattle.writer.specs.Taking.{columnsOf}
-use Rattle.writer.specs.Questions.{either, onGrid, mostColumn, inRanges, longEnough, known, rowsTaken, offerQuestion, finishQuestion}
-use Rattle.calls.proofs.QuestionLaws.{not-yes}
+use Rattle.writer.specs.Questions.{either, onGrid, inRanges, longEnough, known, offerQuestion, finishQuestion}
 use Rattle.writer.specs.Gate.{stateQuestion, openQuestion}
 use Rattle.progress.proofs.CountLaws.{start-first, start-more}
 
@@ -51,11 +49,11 @@ known-filter f e = le-leb f 1 (omega (arith, leb-true, eqb-true))
 
 -- ---- question 1, the tests of sizes and counts passed: what waits is left
 pub ranges-last : (s : Writer) → onGrid (s .x) (s .y) ≡ true → streamable (s .filter) (columnsOf s) (s .levels) ≡ true →
-    s .rows ≤ maxHeight → s .column ≤ mostColumn s (s .level) →
+    s .rows ≤ maxHeight → s .column < s .width →
     s .closed ≤ filterOf (s .filter) .ahead * s .levels → s .level ≤ s .levels → (b : Bool) → b ≡ both (leb (s .left) (mostLeft (s .levels) (s .level)))
     (eqb (s .offset) (startOf (s .filter) (columnsOf s) (s .level))) → b ≡ inRanges s
 unfolding inRanges
-ranges-last s o a d e f g t is = is ∙ simp (o, a, le-leb _ _ d, le-leb _ _ e, le-leb _ _ f, le-leb _ _ g)
+ranges-last s o a d e f g t is = is ∙ simp (o, a, le-leb _ _ d, lt-ltb _ _ e, le-leb _ _ f, le-leb _ _ g)
 
 -- what waits: too many bands left, or a number of them that can be; k is how many can
 module _ (a k : ℕ) (t : Bool) where
@@ -87,52 +85,6 @@ module _ (f : ℕ) where
 pub few-levels : (f L : ℕ) → L ≤ filterOf f .levels → L < 2 ^ 16
 few-levels f L h = omega (arith, levels-most f, levels-small)
 
--- ---- what `column` counts
-module _ (s : Writer) where
-  begun-in : (v : ℕ) → 1 ≤ s .width → s .column ≤ mostColumn s v → v ≡ 0 → s .column < s .width
-  unfolding mostColumn
-  begun-in zero w h e = omega arith
-  begun-in (suc v) w h e = absurd (omega arith)
-
-  spare-in : (v : ℕ) → s .column ≤ mostColumn s v → s .column ≤ s .width
-  unfolding mostColumn
-  spare-in zero h = omega arith
-  spare-in (suc v) h = go (both (not (s .finished)) (ltb (s .rows) maxHeight)) h
-    where
-      go : (t : Bool) → s .column ≤ pick t (s .width) 0 → s .column ≤ s .width
-      go true k = k
-      go false k = omega arith
-
-  spare-may : (v : ℕ) → s .column ≤ mostColumn s v → 0 < v → 0 < s .column → (s .finished ≡ false) × (s .rows < maxHeight)
-  unfolding mostColumn
-  spare-may zero h p c = absurd (omega arith)
-  spare-may (suc v) h p c = go (both (not (s .finished)) (ltb (s .rows) maxHeight)) refl h
-    where
-      go : (t : Bool) → both (not (s .finished)) (ltb (s .rows) maxHeight) ≡ t → s .column ≤ pick t (s .width) 0 →
-          (s .finished ≡ false) × (s .rows < maxHeight)
-      go true e k = let b = sweep.both _ _ e in (not-yes _ (b .0), ltb-true _ _ (b .1))
-      go false e k = absurd (omega arith)
-
-  pub most-begun : (r v : ℕ) → v ≡ 0 → r ≡ s .width - 1 → r ≡ mostColumn s v
-  unfolding mostColumn
-  most-begun r zero z e = e
-  most-begun r (suc v) z e = absurd (omega arith)
-
-  pub most-finished : (v : ℕ) → 0 < v → s .finished ≡ true → 0 ≡ mostColumn s v
-  unfolding mostColumn
-  most-finished zero z e = absurd (omega arith)
-  most-finished (suc v) z e = simp e
-
-  pub most-full : (v : ℕ) → 0 < v → s .finished ≡ false → maxHeight ≤ s .rows → 0 ≡ mostColumn s v
-  unfolding mostColumn
-  most-full zero z e h = absurd (omega arith)
-  most-full (suc v) z e h = simp (e, le-ltb (s .rows) maxHeight h)
-
-  pub most-open : (v : ℕ) → 0 < v → s .finished ≡ false → s .rows < maxHeight → s .width ≡ mostColumn s v
-  unfolding mostColumn
-  most-open zero z e h = absurd (omega arith)
-  most-open (suc v) z e h = simp (e, lt-ltb (s .rows) maxHeight h)
-
 -- ---- a state that passes questions 1 and 5
 pub record Sound (s : Writer) (n : ℕ) : Type 0 where
   pub across : s .x ≤ maxOrigin
@@ -142,17 +94,12 @@ pub record Sound (s : Writer) (n : ℕ) : Type 0 where
   pub levels : (1 ≤ s .levels) × (s .levels ≤ filterOf (s .filter) .levels)
   pub deep : s .levels < 2 ^ 16
   pub rows : s .rows ≤ maxHeight
-  -- of the row begun, and of the spare row
-  pub column : s .level ≡ 0 → s .column < s .width
-  pub spare : s .column ≤ s .width
-  pub may : 0 < s .level → 0 < s .column → (s .finished ≡ false) × (s .rows < maxHeight)
+  pub column : s .column < s .width
   pub closed : s .closed ≤ filterOf (s .filter) .ahead * s .levels
   pub level : s .level ≤ s .levels
   pub left : s .left ≤ mostLeft (s .levels) (s .level)
   pub placed : s .offset ≡ startOf (s .filter) (columnsOf s) (s .level)
-  pub sized : streamable (s .filter) (columnsOf s) (s .levels) ≡ true
   pub room : storeBy (s .filter) (columnsOf s) (s .levels) ≤ n
-  pub whole : writerStoreBy (s .filter) (columnsOf s) (s .levels) ≤ n
 
 module _ (s : Writer) (n : ℕ) where
   pub state-no : (x : ℕ) → (stateQuestion s n ≡ 0 → ⊥) → ask (inRanges s) 1 (ask (longEnough n s) 5 x) ≡ stateQuestion s n
@@ -162,9 +109,6 @@ module _ (s : Writer) (n : ℕ) where
   pub state-yes : (x : ℕ) → stateQuestion s n ≡ 0 → ask (inRanges s) 1 (ask (longEnough n s) 5 x) ≡ x
   unfolding stateQuestion
   state-yes x h = asked-yes 0 4 (inRanges s) (longEnough n s) x h
-
-  below-whole : writerStoreBy (s .filter) (columnsOf s) (s .levels) ≤ n → storeBy (s .filter) (columnsOf s) (s .levels) ≤ n
-  below-whole h = omega arith
 
   pub sound : stateQuestion s n ≡ 0 → Sound s n
   unfolding stateQuestion inRanges longEnough
@@ -187,16 +131,12 @@ module _ (s : Writer) (n : ℕ) where
         levels = b .levels;
         deep = few-levels (s .filter) (s .levels) (b .levels .1);
         rows = leb-true _ _ (d .0);
-        column = begun-in s (s .level) (b .width .0) (leb-true _ _ (f .0));
-        spare = spare-in s (s .level) (leb-true _ _ (f .0));
-        may = spare-may s (s .level) (leb-true _ _ (f .0));
+        column = ltb-true _ _ (f .0);
         closed = leb-true _ _ (g .0);
         level = leb-true _ _ (i .0);
         left = leb-true _ _ (j .0);
         placed = eqb-true _ _ (j .1);
-        sized = a .0;
-        room = below-whole (leb-true _ _ (e .1));
-        whole = leb-true _ _ (e .1);
+        room = leb-true _ _ (e .1);
       }
 
 module _ (s : Writer) where
@@ -218,38 +158,26 @@ module _ (s : Writer) (n k : ℕ) where
   unfolding offerQuestion
   offer-state h = sym (state-no s n _ h)
 
-  pub offer-finished : stateQuestion s n ≡ 0 → s .finished ≡ true → 9 ≡ offerQuestion s n k
+  pub offer-open : stateQuestion s n ≡ 0 → (openQuestion s ≡ 0 → ⊥) → openQuestion s ≡ offerQuestion s n k
   unfolding offerQuestion
-  offer-finished h g = sym (state-yes s n _ h ∙ simp g)
+  offer-open h g = sym (state-yes s n _ h ∙ open-no s _ g)
 
-  offer-rest : (x : ℕ) → stateQuestion s n ≡ 0 → s .finished ≡ false → ask (either (eqb k 0) (ltb (rowsTaken s) maxHeight)) 10 0 ≡ x →
-      x ≡ offerQuestion s n k
+  offer-rest : (x : ℕ) → stateQuestion s n ≡ 0 → openQuestion s ≡ 0 → ask (either (eqb k 0) (ltb (s .rows) maxHeight)) 10 0 ≡ x → x ≡ offerQuestion s n k
   unfolding offerQuestion
-  offer-rest x h g e = sym (state-yes s n _ h ∙ simp g e)
+  offer-rest x h g e = sym (state-yes s n _ h ∙ open-yes s _ g ∙ e)
 
-  -- t: whether the rows are as many as can be
-  module _ (t : Bool) (f : t ≡ leb maxHeight (rowsTaken s)) where
-    pub offer-limit : stateQuestion s n ≡ 0 → s .finished ≡ false → 0 < k → t ≡ true → 10 ≡ offerQuestion s n k
-    offer-limit h g a b =
-        offer-rest 10 h g (simp (ne-eqb k 0 (omega arith), le-ltb (rowsTaken s) maxHeight (leb-true maxHeight (rowsTaken s) (sym f ∙ b))))
+  pub offer-limit : stateQuestion s n ≡ 0 → openQuestion s ≡ 0 → 0 < k → maxHeight ≤ s .rows → 10 ≡ offerQuestion s n k
+  offer-limit h g a b = offer-rest 10 h g (simp (ne-eqb k 0 (omega arith), le-ltb (s .rows) maxHeight b))
 
-    pub offer-passes : stateQuestion s n ≡ 0 → s .finished ≡ false → t ≡ false → 0 ≡ offerQuestion s n k
-    offer-passes h g b = offer-rest 0 h g (simp (lt-ltb (rowsTaken s) maxHeight (leb-false maxHeight (rowsTaken s) (sym f ∙ b))) (any (eqb k 0)))
-      where
-        any : (a : Bool) → ask (either a true) 10 0 ≡ 0
-        any true = refl
-        any false = refl
+  pub offer-passes : stateQuestion s n ≡ 0 → openQuestion s ≡ 0 → s .rows < maxHeight → 0 ≡ offerQuestion s n k
+  offer-passes h g b = offer-rest 0 h g (simp (lt-ltb (s .rows) maxHeight b) (any (eqb k 0)))
+    where
+      any : (a : Bool) → ask (either a true) 10 0 ≡ 0
+      any true = refl
+      any false = refl
 
-  pub offer-empty : stateQuestion s n ≡ 0 → s .finished ≡ false → k ≡ 0 → 0 ≡ offerQuestion s n k
+  pub offer-empty : stateQuestion s n ≡ 0 → openQuestion s ≡ 0 → k ≡ 0 → 0 ≡ offerQuestion s n k
   offer-empty h g e = offer-rest 0 h g (simp (eq-eqb k 0 e))
-
--- the rows complete: those counted, and that of the spare row where it is
-module _ (s : Writer) (some : 0 < s .width) where
-  pub taken-open : s .column < s .width → rowsTaken s ≡ s .rows
-  taken-open h = let e : s .column / s .width ≡ 0 = div-eq-of-lt h in omega (arith, e)
-
-  pub taken-full : s .column ≡ s .width → rowsTaken s ≡ s .rows + 1
-  taken-full h = let e : s .column / s .width ≡ 1 = ap (λ k. k / s .width) h ∙ div-self some in omega (arith, e)
 
 module _ (s : Writer) (n : ℕ) where
   pub finish-state : (stateQuestion s n ≡ 0 → ⊥) → stateQuestion s n ≡ finishQuestion s n

@@ -4,15 +4,9 @@ pub mod CascadeHolds
 pub mod StateHolds
 pub mod CallList
 pub mod CallsKeep
-pub mod ColumnKept
-pub mod AtReads
-pub mod SpareLaws
-pub mod SpareList
-pub mod SpareCells
 pub mod Reached
 pub mod Demand3
 pub mod AnyPast
-pub mod TwoLists
 pub mod Offset
 pub mod LookLaws
 pub mod CascadeLaws

@@ -12,7 +12,7 @@ use Rattle.numbers.specs.Signal.{pick}
 use Rattle.wavelet.specs.Questions.{ask}
 use Rattle.lifting.specs.Grid.{Side}
 use Rattle.wavelet.specs.Limits.{maxOrigin}
-use Rattle.filters.specs.Figures.{writerStoreBy}
+use Rattle.filters.specs.Figures.{storeBy}
 use Rattle.calls.specs.Lists.{gives, refused, unless}
 use Rattle.level.specs.Level.{Memory}
 use Rattle.writer.specs.declared.Writer.{Writer}
@@ -40,9 +40,9 @@ module _ (s : Writer) (t : Bool) (e : t ≡ inRanges s) where
   unfolding waitsReply waitsQuestion
   look-passes b h f = rw (yes h) (ap gives f)
 
-  pub look-sound : not t ≡ false → Sound s (writerStoreBy (s .filter) (columnsOf s) (s .levels))
+  pub look-sound : not t ≡ false → Sound s (storeBy (s .filter) (columnsOf s) (s .levels))
   look-sound h =
-      let k = writerStoreBy (s .filter) (columnsOf s) (s .levels) in
+      let k = storeBy (s .filter) (columnsOf s) (s .levels) in
       sound s k (unfold stateQuestion longEnough in rw (yes h, le-leb k k (omega arith)) refl)
 
   none-awaited : (v : ℕ) → v ≡ 0 → noRow ≡ awaited v s

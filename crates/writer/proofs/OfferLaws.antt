@@ -1,5 +1,5 @@
 -- An offer taken a stretch at a time is the offer taken height by height. Assumes nothing.
-use mathlib.Core.Path.{_≡_, refl, ap, subst, subst₂, _∙_, fun-ext, sym}
+use mathlib.Core.Path.{_≡_, refl, ap, _∙_, fun-ext, sym}
 use mathlib.Core.Bool.{Bool, true, false, not}
 use mathlib.Core.List.{List, [], _∷_}
 use Prim.Native.Nat.{ℕ, zero, suc, _+_, _-_, _%_, _≤_, _<_, min}
@@ -10,7 +10,7 @@ use lib.ListN.{length, drop, getD, length-drop}
 use lib.Seq.{drop-cons, drop-drop, drop-length, getD-drop}
 use lib.Dec.{eqb, ltb}
 use borrow.Author.Tests.{eq-eqb, ne-eqb, lt-ltb, le-ltb, ltb-true, eqb-true}
-use Rattle.numbers.specs.Signal.{at, both, pick, spliced}
+use Rattle.numbers.specs.Signal.{at, both, pick}
 use Rattle.numbers.proofs.Sweep as sweep
 use Rattle.wavelet.specs.Limits.{maxHeight}
 use Rattle.wavelet.proofs.LimitLaws.{height-small}
@@ -22,20 +22,14 @@ use Rattle.analysis.proofs.ForwardLaws.{height-more, height-none}
 use Rattle.writer.specs.declared.Writer.{Writer}
 use Rattle.progress.specs.declared.waits.Wait.{Wait}
 use Rattle.writer.specs.Machine.{arrive}
-use Rattle.writer.specs.Taking.{kind, columnsOf, Taking, none, oneMore, takes, begun, atColumn, complete, heightPut, rowMakes, offering}
-use Rattle.writer.specs.Questions.{offerQuestion}
-use Rattle.writer.specs.Spare.{spareAt, spareRoom, holding, movedRow, moving}
-use Rattle.writer.specs.SpareSteps.{Holder, Mover, Moved}
-use Rattle.wavelet.proofs.LimitLaws.{width-small}
-use Rattle.wavelet.proofs.StoreLaws.{store-back}
-use Rattle.filters.specs.Filters.{filterOf}
-use Rattle.filters.specs.Figures.{storeBy, streamable}
-use Rattle.filters.proofs.FigureLaws.{Streams, streams}
-use Rattle.writer.specs.Calls.{offeredAt, offerReply, offerStore}
+use Rattle.writer.specs.Taking.{kind, columnsOf, Taking, none, oneMore, takes, begun, complete, heightPut, rowMakes, offering}
+use Rattle.writer.specs.Questions.{offerQuestion, either, inRanges, longEnough}
+use Rattle.writer.specs.Calls.{offerReply, offerStore}
 use Rattle.writer.specs.Steps.{Left}
-use Rattle.writer.proofs.GateLaws.{Sound, few-levels}
-use Rattle.writer.proofs.CallLaws.{offer-takes, moving-part, moving-whole, sound-room, unless-no, unless-yes, changed-no, changed-yes}
-use Rattle.writer.specs.Stretch.{nextCount, Roomy, Taker, Reaching, Stretched}
+use Rattle.writer.proofs.GateLaws.{Sound}
+use Rattle.writer.proofs.CallLaws.{sound-room, unless-no, unless-yes, changed-no, changed-yes}
+use Rattle.writer.specs.Stretch.{nextCount, atColumn, Taker, Stretched}
+use Rattle.wavelet.specs.Questions.{ask}
 
 -- n heights more
 abbrev pub plus : ℕ → Taking → Taking
@@ -96,16 +90,28 @@ module _ (s : Writer) where
       go true = sym none
       go false = refl
 
-  -- the first of an offer that passed the questions, nothing waiting
-  pub next-first : (l k n : ℕ) → offerQuestion s l k ≡ 0 → s .level ≡ 0 → n ≡ min (s .width - s .column) k → n ≡ nextCount s k
-  next-first l k n q z e =
-      elim (decLt 0 k) [
-        | yes p ↦ next-some k n (offer-takes s l k q z p) e
-        | no d ↦
-            let g : k ≡ 0 = omega (arith, d) in
-            let d : n ≡ 0 = omega (arith, e, g) in
-            d ∙ next-empty k g
-      ]
+  -- the first of an offer that passed the questions
+  pub next-first : (l k n : ℕ) → offerQuestion s l k ≡ 0 → n ≡ min (s .width - s .column) k → n ≡ nextCount s k
+  unfolding offerQuestion
+  next-first l k n q e =
+      let stored = passed (longEnough l s) _ _ (passed (inRanges s) _ _ q .1) in
+      go (ltb (s .rows) maxHeight) refl (passed (eqb (s .level) 0) _ _ (passed (not (s .finished)) _ _ (stored .1) .1))
+    where
+      passed : (a : Bool) (p x : ℕ) → ask a (suc p) x ≡ 0 → (a ≡ true) × (x ≡ 0)
+      passed true p x h = (refl, h)
+      passed false p x h = absurd (omega arith)
+
+      go : (t : Bool) → ltb (s .rows) maxHeight ≡ t → (eqb (s .level) 0 ≡ true) × (ask (either (eqb k 0) (ltb (s .rows) maxHeight)) 10 0 ≡ 0) →
+          n ≡ nextCount s k
+      go true f h = next-some k n (takes-yes (eqb-true _ _ (h .0)) (ltb-true _ _ f)) e
+      go false f h =
+          let z : k ≡ 0 = empty (eqb k 0) refl (rw f at (h .1)) in
+          let d : n ≡ 0 = omega (arith, e, z) in
+          d ∙ next-empty k z
+        where
+          empty : (t : Bool) → eqb k 0 ≡ t → ask (either t false) 10 0 ≡ 0 → k ≡ 0
+          empty true d h = eqb-true k 0 d
+          empty false d h = absurd (omega arith)
 
   pub record Next (k n : ℕ) : Type 0 where
     pub takes : takes s ≡ true
@@ -143,7 +149,7 @@ offer-used s x = refl
 
 -- ---- a stretch
 module _ (run : List ℕ) (s : Writer) (x : Memory) (t : takes s ≡ true) where
-  abbrev pub filled : ℕ → Memory
+  abbrev filled : ℕ → Memory
   filled n = heightsPut (s .filter) (columnsOf s) (s .y % 2 + s .rows) (s .column) n (heightAt run) x
 
   abbrev moved : ℕ → Writer
@@ -155,7 +161,7 @@ module _ (run : List ℕ) (s : Writer) (x : Memory) (t : takes s ≡ true) where
   moved-more : (n : ℕ) → begun (moved n) ≡ moved (suc n)
   moved-more n = ap (atColumn s) (omega arith)
 
-  pub inside : (n : ℕ) → n ≤ length run → s .column + n < s .width → offering (kind s) run s x ≡ plus n (offering (kind s) (drop n run) (moved n) (filled n))
+  inside : (n : ℕ) → n ≤ length run → s .column + n < s .width → offering (kind s) run s x ≡ plus n (offering (kind s) (drop n run) (moved n) (filled n))
   inside zero a b =
       let k : s .column + 0 ≡ s .column = omega arith in
       rw (k, height-none (s .filter) (columnsOf s) (s .y % 2 + s .rows) (s .column) (heightAt run) x) (plus-none (offering (kind s) run s x))
@@ -166,7 +172,7 @@ module _ (run : List ℕ) (s : Writer) (x : Memory) (t : takes s ≡ true) where
       ∙ plus-more n _
       ∙ cc (filled-more n, moved-more n)
 
-  pub whole : (n : ℕ) → 0 < n → n ≤ length run → s .column + n ≡ s .width →
+  whole : (n : ℕ) → 0 < n → n ≤ length run → s .column + n ≡ s .width →
       offering (kind s) run s x ≡ plus n (offering (kind s) (drop n run) (complete s (arrive (kind s) (s .levels) (columnsOf s) (s .y) (s .rows) (filled n)))
       (arrive (kind s) (s .levels) (columnsOf s) (s .y) (s .rows) (filled n) .store))
   whole zero g a b = absurd (omega arith)
@@ -195,13 +201,13 @@ module _ (run : List ℕ) (s₀ : Writer) (x₀ : Memory) (k : ℕ) (s : Writer)
   gone-on n l r y t h a b f =
       elim (decLt (s .column + n) (s .width)) [
         | yes d ↦
-            let q = f .reaching .inside d in
+            let q = f .inside d in
             g
             ∙ ap (plus k) (inside (drop k run) s x t n (left-over n a) d)
             ∙ plus-plus k n _
             ∙ cc (drop-drop n k run, from, q .0, q .1)
         | no d ↦
-            let q = f .reaching .whole (omega (arith, d)) in
+            let q = f .whole (omega (arith, d)) in
             g
             ∙ ap (plus k) (whole (drop k run) s x t n h (left-over n a) (omega (arith, d)))
             ∙ plus-plus k n _
@@ -241,7 +247,7 @@ offer-turn run s₀ m₀ m s k n r m′ n′ o h f z e =
     let q = next-is s (length run - k) n (o .next) h (o .taker .column) in
     record {
       gone = gone-on run s₀ (at m₀) k s (at m) (o .gone) n (length m) r (at m′) (q .takes) h (omega (arith, q .run, o .within)) (q .row) f;
-      taker = rw (o .size) at (f .reaching .taker);
+      taker = rw (o .size) at (f .taker);
       size = z ∙ o .size;
       within = omega (arith, q .run, o .within);
       next = e;
@@ -265,48 +271,29 @@ module _ (s : Writer) (l q : ℕ) (run : List ℕ) (x : Memory) (e : q ≡ offer
   unfolding offerReply offerStore
   offer-no h = rw (← e) (unless-no q _ h, changed-no q _ x h)
 
-  free : (v : ℕ) → v ≡ 0 → offeredAt v run s x ≡ offering (kind s) run s x
-  free zero z = refl
-  free (suc v) z = absurd (omega arith)
-
-  waits : (v : ℕ) → 0 < v → offeredAt v run s x ≡ holding run s x
-  waits zero z = absurd (omega arith)
-  waits (suc v) z = refl
-
-  given : (t : Taking) (k : ℕ) (r : Writer) (y : Memory) → q ≡ 0 → offeredAt (s .level) run s x ≡ record { taken = k; writer = r; store = y } →
+  pub offer-yes : (k : ℕ) (r : Writer) (y : Memory) → q ≡ 0 → offering (kind s) run s x ≡ record { taken = k; writer = r; store = y } →
       (gives (record { taken = k; writer = r }) ≡ offerReply s l run x) × (y ≡ offerStore s l run x)
   unfolding offerReply offerStore
-  given t k r y z f = rw (← e, f) (unless-yes q _ z, changed-yes q _ x z)
+  offer-yes k r y z f = rw (← e, f) (unless-yes q _ z, changed-yes q _ x z)
 
-  pub offer-yes : (k : ℕ) (r : Writer) (y : Memory) → q ≡ 0 → s .level ≡ 0 →
-      offering (kind s) run s x ≡ record { taken = k; writer = r; store = y } →
-      (gives (record { taken = k; writer = r }) ≡ offerReply s l run x) × (y ≡ offerStore s l run x)
-  offer-yes k r y z v f = given (none s x) k r y z (free (s .level) v ∙ f)
-
-  -- while rows wait
-  pub offer-held : (k : ℕ) (r : Writer) (y : Memory) → q ≡ 0 → 0 < s .level → k ≡ spareRoom s (length run) → r ≡ atColumn s (s .column + k) →
-      y ≡ spliced (spareAt s + s .column) k (heightAt run) x →
-      (gives (record { taken = k; writer = r }) ≡ offerReply s l run x) × (y ≡ offerStore s l run x)
-  unfolding holding
-  offer-held k r y z v ek er ey = given (none s x) k r y z (waits (s .level) v ∙ rw (er, ey, ek) refl)
-
-pub sound-taker : (s : Writer) (l : ℕ) → Sound s l → s .level ≡ 0 → Taker s l
-sound-taker s l f z =
+pub sound-taker : (s : Writer) (l : ℕ) → Sound s l → Taker s l
+sound-taker s l f =
     record {
       room = sound-room s l f;
-      column = f .column z;
+      column = f .column;
       deep = omega (arith, f .levels);
     }
 
--- ---- what the first c heights of a row come to
-module _ (s : Writer) (c : ℕ) (x : Memory) (l : ℕ) (t : Roomy s l) where
-  pub reaching-inside : c < s .width → Reaching s c x (atColumn s c) x l
-  reaching-inside h =
-      record { inside = λ g. (refl, refl); whole = λ g. absurd (omega arith); taker = record { room = t .room; column = h; deep = t .deep } }
+-- ---- what a stretch leaves
+module _ (s : Writer) (run : List ℕ) (k n : ℕ) (x y : Memory) (l : ℕ) (t : Taker s l)
+    (e : y ≡ heightsPut (s .filter) (columnsOf s) (s .y % 2 + s .rows) (s .column) n
+    (λ j. heightAt run (k + j)) x) where
+  pub stretched-inside : s .column + n < s .width → Stretched s run k n x (atColumn s (s .column + n)) y l
+  stretched-inside h = record { inside = λ g. (refl, e); whole = λ g. absurd (omega arith); taker = record { room = t .room; column = h; deep = t .deep } }
 
-  pub reaching-whole : (o : Wait) (z : Memory) → c ≡ s .width → s .rows < maxHeight →
-      Left (s .filter) (s .levels) (columnsOf s) (arrive (kind s) (s .levels) (columnsOf s) (s .y) (s .rows) x) o z →
-      Reaching s c x
+  pub stretched-whole : (o : Wait) (z : Memory) → s .column + n ≡ s .width → s .rows < maxHeight →
+      Left (s .filter) (s .levels) (columnsOf s) (arrive (kind s) (s .levels) (columnsOf s) (s .y) (s .rows) y) o z →
+      Stretched s run k n x
       (record {
         x = s .x;
         y = s .y;
@@ -321,73 +308,14 @@ module _ (s : Writer) (c : ℕ) (x : Memory) (l : ℕ) (t : Roomy s l) where
         offset = o .offset;
         filter = s .filter;
       }) z l
-  reaching-whole o z h b g =
+  stretched-whole o z h b f =
+      let g = rw e at f in
       record {
         inside = λ d. absurd (omega arith);
         whole = λ d. (rw (g .level, g .left, g .offset) refl, g .store);
         taker = record {
           room = record { room = t .room .room; wide = t .room .wide; rows = omega (arith, height-small); deep = t .room .deep };
-          column = t .wide;
+          column = omega arith;
           deep = t .deep;
         };
       }
-
--- a stretch: heights put, and what they come to
-pub stretched : (s : Writer) (run : List ℕ) (k n : ℕ) (x z : Memory) (r : Writer) (y : Memory) (l m : ℕ) →
-    z ≡ heightsPut (s .filter) (columnsOf s) (s .y % 2 + s .rows) (s .column) n (λ j. heightAt run (k + j)) x → m ≡ l →
-    Reaching s (s .column + n) z r y m → Stretched s run k n x r y l
-stretched s run k n x z r y l m e d f = record { reaching = subst₂ (λ v i. Reaching s (s .column + n) v r y i) e d f }
-
--- ---- the spare row
-module _ (s : Writer) (n l : ℕ) (h : Holder s n l) where
-  abbrev sizes : Streams (s .filter) (columnsOf s) (s .levels)
-  sizes = streams (s .filter) (columnsOf s) (s .levels) (h .sized)
-
-  pub holder-start : (a : ℕ) → a ≡ pick (streamable (s .filter) (columnsOf s) (s .levels)) (storeBy (s .filter) (columnsOf s) (s .levels)) 0 → a ≡ spareAt s
-  holder-start a e = e ∙ ap (λ b. pick b (storeBy (s .filter) (columnsOf s) (s .levels)) 0) (h .sized)
-
-  pub holder-roomy : s .rows < maxHeight → Roomy s l
-  holder-roomy p = record {
-    room = record {
-      room = omega (arith, h .room);
-      wide = omega (arith, sizes .width .1, width-small);
-      rows = omega (arith, height-small);
-      deep = few-levels (s .filter) (s .levels) (sizes .levels .1);
-    };
-    wide = omega (arith, sizes .width .0);
-    deep = omega (arith, sizes .levels .0);
-  }
-
-  pub holder-mover : (a : ℕ) → a ≡ spareAt s → Mover (s .filter) (s .width) a (s .column) l
-  holder-mover a e = record {
-    wide = omega (arith, sizes .width .1, width-small);
-    row = omega (arith, h .row);
-    past = omega (arith, e, store-back (filterOf (s .filter) .rows) (columnsOf s) (s .levels) (sizes .levels .0));
-    room = omega (arith, e, h .room, h .row);
-  }
-
--- its heights put, and what they come to
-pub moved-on : (s : Writer) (x z : Memory) (r : Writer) (y : Memory) (l a : ℕ) → a ≡ spareAt s →
-    z ≡ heightsPut (s .filter) (columnsOf s) (s .y % 2 + s .rows) 0 (s .column) (λ j. x (a + j)) x → s .column ≤ s .width →
-    Reaching s (s .column) z r y l → Moved s x r y
-moved-on s x z r y l a e g h f =
-    elim (decLt (s .column) (s .width)) [
-      | yes p ↦
-          let q = f .inside p in
-          let m = moving-part s x (lt-ltb (s .column) (s .width) p) in
-          record { writer = q .0 ∙ sym (ap (λ (k : Taking). k .writer) m); store = q .1 ∙ row ∙ sym (ap (λ (k : Taking). k .store) m) }
-      | no p ↦
-          let q = f .whole (omega (arith, p)) in
-          let m = moving-whole s x (le-ltb (s .column) (s .width) (omega (arith, p))) in
-          record {
-            writer = q .0 ∙ ap (λ (v : Memory). complete s (rowMakes (kind s) s v)) row ∙ sym (ap (λ (k : Taking). k .writer) m);
-            store = q .1 ∙ ap (λ (v : Memory). rowMakes (kind s) s v .store) row ∙ sym (ap (λ (k : Taking). k .store) m);
-          }
-    ]
-  where
-    row : z ≡ movedRow s x
-    row = g ∙ ap (λ (b : ℕ). heightsPut (s .filter) (columnsOf s) (s .y % 2 + s .rows) 0 (s .column) (λ j. x (b + j)) x) e
-
--- a store that is as long
-pub roomy-same : (s : Writer) (l m : ℕ) → m ≡ l → Roomy s l → Roomy s m
-roomy-same s l m e = subst (Roomy s) (sym e)

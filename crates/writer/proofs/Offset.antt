@@ -17,12 +17,9 @@ use Rattle.writer.specs.declared.Writer.{Writer}
 use Rattle.progress.specs.Counts.{startOf}
 use Rattle.writer.specs.Machine.{Out}
 use Rattle.writer.specs.Taking.{kind, columnsOf, Taking, takes, offering}
-use Rattle.writer.specs.Closing.{Shut}
-use Rattle.writer.specs.Spare.{holding, moving, movedOn}
-use Rattle.writer.specs.Questions.{mostColumn, inRanges, longEnough, setUpQuestion, offerQuestion, drawQuestion, waitsQuestion, finishQuestion}
+use Rattle.writer.specs.Questions.{inRanges, longEnough, setUpQuestion, offerQuestion, drawQuestion, waitsQuestion, finishQuestion}
 use Rattle.writer.specs.Holds.{left, after}
-use Rattle.writer.specs.Calls.{setUpStore, took, offeredAt, waits, closing, resumed}
-use Rattle.writer.specs.Calls.{handed, handedStore, handedArea, offerReply, offerStore, drawReply, drawStore}
+use Rattle.writer.specs.Calls.{setUpStore, took, waits, closing, resumed, handed, handedStore, handedArea, offerReply, offerStore, drawReply, drawStore}
 use Rattle.writer.specs.Calls.{drawArea, awaited, waitsReply, finishReply, finishStore}
 use Rattle.writer.specs.History.{Call, offer, draw, finish, look, offered, drew, finished, looked, World, given, event, next, events, final, freshWorld}
 use Rattle.writer.specs.Before as before
@@ -64,46 +61,15 @@ same-taking (h ∷ run) b x =
     go true true p q = ap more p
     go true false p q = ap more q
 
--- ---- the spare row
-same-moving : (b : Before) (x : Memory) → moving (carry b) x ≡ taking (before.moving b x)
-unfolding moving before.moving
-same-moving b x = go (ltb (b .column) (b .columns .length))
-  where
-    o : Out
-    o = before.rowMakes b (before.movedRow b x)
-
-    go : (t : Bool) →
-        pick t (record { taken = b .column; writer = carry b; store = before.movedRow b x })
-        (record { taken = b .column; writer = carry (before.complete b o); store = o .store })
-        ≡ taking (pick t (record { taken = b .column; writer = b; store = before.movedRow b x })
-        (record { taken = b .column; writer = before.complete b o; store = o .store }))
-    go true = refl
-    go false = refl
-
-same-moved : (v : ℕ) (b : Before) (x : Memory) → movedOn v (carry b) x ≡ taking (before.movedOn v b x)
-unfolding movedOn before.movedOn
-same-moved zero b x = same-moving b x
-same-moved (suc v) b x = refl
-
-same-offered : (v : ℕ) (run : List ℕ) (b : Before) (x : Memory) → offeredAt v run (carry b) x ≡ taking (before.offeredAt v run b x)
-unfolding holding before.holding
-same-offered zero run b x = same-taking run b x
-same-offered (suc v) run b x = refl
-
 -- ---- the questions: the offset is right, so question 1 asks nothing more
 both-yes : (t : Bool) → both t true ≡ t
 both-yes true = refl
 both-yes false = refl
 
 module _ (b : Before) where
-  same-most : (v : ℕ) → mostColumn (carry b) v ≡ before.mostColumn b v
-  unfolding mostColumn before.mostColumn
-  same-most zero = refl
-  same-most (suc v) = refl
-
   same-ranges : inRanges (carry b) ≡ before.inRanges b
   unfolding inRanges before.inRanges
-  same-ranges = simp (eq-eqb (carry b .offset) (startOf (b .filter) (columnsOf (carry b)) (b .level)) refl, both-yes, same-most (b .level))
+  same-ranges = simp (eq-eqb (carry b .offset) (startOf (b .filter) (columnsOf (carry b)) (b .level)) refl, both-yes)
 
   same-offer : (n k : ℕ) → offerQuestion (carry b) n k ≡ before.offerQuestion b n k
   unfolding offerQuestion before.offerQuestion longEnough before.longEnough
@@ -132,13 +98,13 @@ module _ (b : Before) (x : Memory) where
   abbrev w : before.World
   w = before.world b x
 
-  offer-event : (run : List ℕ) (q : ℕ) (t : Taking) → t ≡ taking (before.offeredAt (b .level) run b x) →
+  offer-event : (run : List ℕ) (q : ℕ) (t : Taking) → t ≡ taking (before.offering run b x) →
       offered run (seen (λ k. k .taken) (unless q (took t))) ≡ before.offerEvent w run q
   unfolding before.offerEvent
   offer-event run zero t e = ap (λ k. offered run (gives (k .taken))) e
   offer-event run (suc q) t e = refl
 
-  offer-next : (run : List ℕ) (q : ℕ) (t : Taking) → t ≡ taking (before.offeredAt (b .level) run b x) →
+  offer-next : (run : List ℕ) (q : ℕ) (t : Taking) → t ≡ taking (before.offering run b x) →
       record { writer = left (λ k. k .writer) (carry b) (unless q (took t)); store = changedUnless q (t .store) x } ≡ carries
       (before.offerNext w run q)
   unfolding before.offerNext
@@ -161,10 +127,8 @@ module _ (b : Before) (x : Memory) where
       ≡ carries (before.world (changedUnless q (before.handedWriter v b x) b) (changedUnless q (before.handedStore v b x) x))
   draw-next zero zero = refl
   draw-next zero (suc v) =
-      ap (λ (r : Shut). let t = movedOn (r .out .level) (waits (b .finished) (carry b) r) (r .out .store) in record { writer = t .writer; store = t .store })
-      (same-resumed b (b .finished) (before.pulled b x) (before.pulled b x .level))
-      ∙ ap (λ (t : Taking). record { writer = t .writer; store = t .store })
-      (same-moved (before.afterDraw b x .out .level) (before.waits (b .finished) b (before.afterDraw b x)) (before.afterDraw b x .out .store))
+      ap (λ r. record { writer = waits (b .finished) (carry b) r; store = r .out .store }) (same-resumed b (b .finished)
+      (before.pulled b x) (before.pulled b x .level))
   draw-next (suc q) v = refl
 
   finish-event : (q : ℕ) → finished (seen (λ _. tt) (unless q (waits true (carry b) (closing (carry b) x)))) ≡ before.finishEvent w q
@@ -189,14 +153,14 @@ module _ (b : Before) (x : Memory) where
 
   call-event : (k : Call) → event k (carries w) ≡ before.event k w
   unfolding event before.event offerReply drawReply drawArea waitsReply finishReply before.drawEvent
-  call-event (offer n run) = rw (same-offer b n (length run)) (offer-event run (before.offerQuestion b n (length run)) _ (same-offered (b .level) run b x))
+  call-event (offer n run) = rw (same-offer b n (length run)) (offer-event run (before.offerQuestion b n (length run)) _ (same-taking run b x))
   call-event (draw n a) = rw (same-draw b n (a .size)) (draw-event a (before.drawQuestion b n (a .size)) (b .level))
   call-event (finish n) = rw (same-finish b n) (finish-event (before.finishQuestion b n))
   call-event look = rw (same-look b) (look-event (before.lookQuestion b) (b .level))
 
   call-next : (k : Call) → next k (carries w) ≡ carries (before.next k w)
   unfolding next before.next offerReply offerStore drawReply drawStore finishReply finishStore before.drawNext
-  call-next (offer n run) = rw (same-offer b n (length run)) (offer-next run (before.offerQuestion b n (length run)) _ (same-offered (b .level) run b x))
+  call-next (offer n run) = rw (same-offer b n (length run)) (offer-next run (before.offerQuestion b n (length run)) _ (same-taking run b x))
   call-next (draw n a) = rw (same-draw b n (a .size)) (draw-next (before.drawQuestion b n (a .size)) (b .level))
   call-next (finish n) = rw (same-finish b n) (finish-next (before.finishQuestion b n))
   call-next look = refl

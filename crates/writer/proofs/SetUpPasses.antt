@@ -8,17 +8,16 @@ use mathlib.Core.Logic.{_↔_}
 use Prim.Native.Nat.{ℕ, _≤_}
 use native.Mathlib.Omega.{arith}
 use lib.Dec.{leb}
-use borrow.Author.Tests.{leb-true, leb-false, le-leb, eqb-true, eqb-false}
+use borrow.Author.Tests.{leb-true, leb-false, eqb-true, eqb-false}
 use Rattle.lifting.specs.Grid.{Side}
 use Rattle.wavelet.specs.Limits.{maxWidth}
 use Rattle.wavelet.specs.Questions.{within}
-use Rattle.wavelet.specs.Asks.{Width, Known, Levels}
+use Rattle.wavelet.specs.Asks.{Width, Known, Levels, needed, WriterSetUpAsks}
 use Rattle.wavelet.proofs.AskLaws.{went, passed, asked, width-exactly}
 use Rattle.filters.specs.Filters.{filterOf, isFilter}
-use Rattle.filters.specs.Figures.{writerStoreBy}
-use Rattle.filters.proofs.PlainFigures.{levels-exactly, needed-is}
+use Rattle.filters.specs.Figures.{storeBy}
+use Rattle.filters.proofs.PlainFigures.{levels-exactly, store-exactly}
 use Rattle.writer.specs.Questions.{known, setUpQuestion}
-use Rattle.writer.specs.Asks.{writerNeeded, WriterSetUpAsks}
 
 -- question 18
 known-is : (f : ℕ) → known f ≡ true ↔ Known f
@@ -30,21 +29,15 @@ known-is f = (λ e. omega (arith, leb-true, eqb-true), λ h. go (known f) refl h
     go false e h = absurd (omega (arith, leb-false, eqb-false))
 
 module _ (f : ℕ) (W : Side) (L n : ℕ) where
-  store-is : leb (writerStoreBy f W L) n ≡ true ↔ writerNeeded f W L ≤ n
-  store-is = (
-    λ e. omega (arith, leb-true (writerStoreBy f W L) n e, needed-is f W L),
-    λ h. le-leb (writerStoreBy f W L) n (omega (arith, h, needed-is f W L)),
-  )
-
   pub set-up-asks : WriterSetUpAsks f W L n (setUpQuestion f W L n)
   unfolding setUpQuestion
   set-up-asks =
       asked (within 1 maxWidth (W .length)) _ (width-exactly (W .length))
       (asked (known f) _ (known-is f)
       (asked (within 1 (filterOf f .levels) L) _ (levels-exactly f L)
-      (asked (leb (writerStoreBy f W L) n) _ store-is refl)))
+      (asked (leb (storeBy f W L) n) _ (store-exactly f W L n) refl)))
 
-  pub set-up-passes : setUpQuestion f W L n ≡ 0 ↔ Width (W .length) × Known f × Levels f L × (writerNeeded f W L ≤ n)
+  pub set-up-passes : setUpQuestion f W L n ≡ 0 ↔ Width (W .length) × Known f × Levels f L × (needed f W L ≤ n)
   set-up-passes = (
     λ e.
         let w = passed (omega arith) set-up-asks e in

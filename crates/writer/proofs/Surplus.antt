@@ -9,8 +9,8 @@ use native.Mathlib.Omega.{arith}
 use lib.IntN.{pos}
 use lib.ListN.{length}
 use lib.Dec.{ltb, leb}
-use borrow.Author.Tests.{le-leb, le-ltb, ltb-true}
-use Rattle.numbers.specs.Signal.{pick, both, spliced}
+use borrow.Author.Tests.{le-ltb, ltb-true}
+use Rattle.numbers.specs.Signal.{pick, both}
 use Rattle.lifting.specs.Line.{lo}
 use Rattle.lifting.specs.Grid.{Side, side, count}
 use Rattle.lifting.specs.Halves.{fronted}
@@ -23,7 +23,7 @@ use Rattle.filters.specs.Filters.{filterOf}
 use Rattle.level.specs.Level.{Memory, LevelKind, completes, prev, rest, joinAt, ahead}
 use Rattle.level.proofs.RestLaws.{rest-at, join-past}
 use Rattle.level.proofs.LevelLaws.{LevelLaws}
-use Rattle.filters.specs.Figures.{storeBy, writerStoreBy}
+use Rattle.filters.specs.Figures.{storeBy}
 use Rattle.analysis.specs.Forward.{kindOf, heldOf, endedOf}
 use Rattle.analysis.proofs.ForwardLaws.{laws-of}
 use Rattle.writer.specs.declared.Writer.{Writer}
@@ -31,13 +31,10 @@ use Rattle.progress.specs.Counts.{made, lowRows, most, skip}
 use Rattle.writer.specs.Machine.{Out, still, under, passed, settled, arrived, arrive, passOn}
 use Rattle.writer.specs.Draws.{pull}
 use Rattle.writer.specs.Closing.{Shut, stepped, onward, closeStep, closeLevel, shut}
-use Rattle.writer.specs.Taking.{kind, columnsOf, Taking, none, oneMore, takes, begun, complete, heightPut, rowMakes, offering}
-use Rattle.writer.specs.Spare.{spareAt, spareRoom, holding, movedRow, moving, movedOn}
-use Rattle.level.specs.Heights.{heightAt}
+use Rattle.writer.specs.Taking.{kind, columnsOf, none, oneMore, takes, begun, complete, heightPut, rowMakes, offering}
 use Rattle.writer.specs.Questions.{setUpQuestion, offerQuestion, drawQuestion, finishQuestion}
-use Rattle.writer.specs.Calls.{setUpStore, offeredAt, offerStore, resumed, waits, afterDraw, handedStore, drawStore, finishStore}
-use Rattle.writer.proofs.CallLaws.{offer-sound, draw-sound}
-use Rattle.writer.proofs.SpareLaws.{past-spliced, heights-past}
+use Rattle.writer.specs.Calls.{setUpStore, offerStore, resumed, handedStore, drawStore, finishStore}
+use Rattle.writer.proofs.CallLaws.{offer-sound}
 
 -- y is x from place n on
 abbrev Past : ℕ → Memory → Memory → Type 0
@@ -190,46 +187,40 @@ module _ (φ : ℕ) where
           ih (complete s o) (o .store) a b (omega arith) j p ∙ arrive-past (s .levels) (columnsOf s) (s .y) (s .rows) y j (omega arith) ∙ put
 
 -- ---- the calls
-pub set-up-surplus : (f : ℕ) (W : Side) (L n : ℕ) (x : Memory) (j : ℕ) → writerStoreBy f W L ≤ j → setUpStore f W L n x j ≡ x j
+pub set-up-surplus : (f : ℕ) (W : Side) (L n : ℕ) (x : Memory) (j : ℕ) → storeBy f W L ≤ j → setUpStore f W L n x j ≡ x j
 unfolding setUpStore fronted
 set-up-surplus f W L n x j p = go (setUpQuestion f W L n)
   where
-    go : (q : ℕ) → changedUnless q (fronted (writerStoreBy f W L) (λ _. pos 0) x) x j ≡ x j
-    go zero = unfold fronted in simp (le-ltb j (writerStoreBy f W L) p)
+    go : (q : ℕ) → changedUnless q (fronted (storeBy f W L) (λ _. pos 0) x) x j ≡ x j
+    go zero = unfold fronted in simp (le-ltb j (storeBy f W L) p)
     go (suc q) = refl
 
--- the stretch of the first level
-first-room : (f : ℕ) (W : Side) (l : ℕ) → 1 ≤ l → filterOf f .rows * W .length ≤ storeBy f W l
-first-room f W zero h = absurd (omega arith)
-first-room f W (suc l) h = omega (arith, store-below (filterOf f .rows) W l)
-
-pub offer-surplus : (s : Writer) (n : ℕ) (run : List ℕ) (x : Memory) (j : ℕ) → writerStoreBy (s .filter) (columnsOf s) (s .levels) ≤ j →
+pub offer-surplus : (s : Writer) (n : ℕ) (run : List ℕ) (x : Memory) (j : ℕ) → storeBy (s .filter) (columnsOf s) (s .levels) ≤ j →
     offerStore s n run x j ≡ x j
-unfolding offerStore holding spliced
-offer-surplus s n run x j p = go (offerQuestion s n (length run)) (s .level) refl refl
+unfolding offerStore
+offer-surplus s n run x j p = go (offerQuestion s n (length run)) refl
   where
-    go : (q v : ℕ) → offerQuestion s n (length run) ≡ q → s .level ≡ v → changedUnless q (offeredAt v run s x .store) x j ≡ x j
-    go zero zero e z =
-        let k = offer-sound s n (length run) e in
-        offering-past (s .filter) (storeBy (s .filter) (columnsOf s) (s .levels)) run s x
-        (first-room (s .filter) (columnsOf s) (s .levels) (k .levels .0)) (omega arith) (k .column z) j (omega arith)
-    go zero (suc v) e z =
-        let k = offer-sound s n (length run) e in
-        past-spliced (spareAt s + s .column) (spareRoom s (length run)) (heightAt run) x j (omega (arith, k .spare))
-    go (suc q) v e z = refl
+    wide : (l : ℕ) → 1 ≤ l → filterOf (s .filter) .rows * s .width ≤ storeBy (s .filter) (columnsOf s) l
+    wide zero h = absurd (omega arith)
+    wide (suc l) h = omega (arith, store-below (filterOf (s .filter) .rows) (columnsOf s) l)
 
-pub finish-surplus : (s : Writer) (n : ℕ) (x : Memory) (j : ℕ) → writerStoreBy (s .filter) (columnsOf s) (s .levels) ≤ j → finishStore s n x j ≡ x j
+    go : (q : ℕ) → offerQuestion s n (length run) ≡ q → changedUnless q (offering (kind s) run s x .store) x j ≡ x j
+    go zero e =
+        let k = offer-sound s n (length run) e in
+        offering-past (s .filter) (storeBy (s .filter) (columnsOf s) (s .levels)) run s x (wide (s .levels) (k .levels .0)) (omega arith) (k .column) j p
+    go (suc q) e = refl
+
+pub finish-surplus : (s : Writer) (n : ℕ) (x : Memory) (j : ℕ) → storeBy (s .filter) (columnsOf s) (s .levels) ≤ j → finishStore s n x j ≡ x j
 unfolding finishStore
 finish-surplus s n x j p = go (finishQuestion s n)
   where
     go : (q : ℕ) → changedUnless q (shut (kind s) (s .levels) (columnsOf s) (s .y) 0 (s .rows) x .out .store) x j ≡ x j
-    go zero = shut-past (s .filter) (s .levels) (columnsOf s) (s .y) 0 (s .rows) x j (omega arith)
+    go zero = shut-past (s .filter) (s .levels) (columnsOf s) (s .y) 0 (s .rows) x j p
     go (suc q) = refl
 
--- a draw leaves alone what stands past the levels' stretches
-pub after-past : (s : Writer) (x : Memory) (j : ℕ) → storeBy (s .filter) (columnsOf s) (s .levels) ≤ j → afterDraw s x .out .store j ≡ x j
-unfolding resumed
-after-past s x j p = on (s .finished) (o .level)
+pub draw-surplus : (s : Writer) (n k : ℕ) (x : Memory) (j : ℕ) → storeBy (s .filter) (columnsOf s) (s .levels) ≤ j → drawStore s n k x j ≡ x j
+unfolding drawStore resumed
+draw-surplus s n k x j p = go (drawQuestion s n k) (s .level)
   where
     o : Out
     o = pull (kind s) (s .levels) (columnsOf s) (s .y) (s .closed) (s .level) (s .left) (s .rows) x
@@ -242,39 +233,7 @@ after-past s x j p = on (s .finished) (o .level)
     on true zero = shut-past (s .filter) (s .levels) (columnsOf s) (s .y) (s .closed) (s .rows) (o .store) j p ∙ pulled-past
     on true (suc v) = pulled-past
 
--- and so do the heights of the spare row that it moves on
-moving-past : (s : Writer) (x : Memory) (j : ℕ) → s .column ≤ s .width → 1 ≤ s .levels → storeBy (s .filter) (columnsOf s) (s .levels) ≤ j →
-    moving s x .store j ≡ x j
-unfolding moving
-moving-past s x j c l p = go (ltb (s .column) (s .width))
-  where
-    put : movedRow s x j ≡ x j
-    put =
-        heights-past (s .filter) (columnsOf s) (s .y) (s .rows) 0 (s .column) (λ i. x (spareAt s + i)) x j (omega arith)
-        (omega (arith, first-room (s .filter) (columnsOf s) (s .levels) l))
-
-    go : (t : Bool) → pick {A = Taking} t (record { taken = s .column; writer = s; store = movedRow s x }) (record {
-      taken = s .column;
-      writer = complete s (rowMakes (kind s) s (movedRow s x));
-      store = rowMakes (kind s) s (movedRow s x) .store;
-    }) .store j ≡ x j
-    go true = put
-    go false = arrive-past (s .filter) (s .levels) (columnsOf s) (s .y) (s .rows) (movedRow s x) j p ∙ put
-
-pub draw-surplus : (s : Writer) (n k : ℕ) (x : Memory) (j : ℕ) → writerStoreBy (s .filter) (columnsOf s) (s .levels) ≤ j → drawStore s n k x j ≡ x j
-unfolding drawStore movedOn
-draw-surplus s n k x j p = go (drawQuestion s n k) (s .level) refl
-  where
-    t : Writer
-    t = waits (s .finished) s (afterDraw s x)
-
-    on : (v : ℕ) → drawQuestion s n k ≡ 0 → movedOn v t (afterDraw s x .out .store) .store j ≡ x j
-    on zero e =
-        let f = draw-sound s n k e in
-        moving-past t (afterDraw s x .out .store) j (f .spare) (f .levels .0) (omega arith) ∙ after-past s x j (omega arith)
-    on (suc v) e = after-past s x j (omega arith)
-
-    go : (q v : ℕ) → drawQuestion s n k ≡ q → changedUnless q (handedStore v s x) x j ≡ x j
-    go zero zero e = refl
-    go zero (suc v) e = on (afterDraw s x .out .level) e
-    go (suc q) v e = refl
+    go : (q v : ℕ) → changedUnless q (handedStore v s x) x j ≡ x j
+    go zero zero = refl
+    go zero (suc v) = on (s .finished) (o .level)
+    go (suc q) v = refl

@@ -1,12 +1,12 @@
--- The writer without an offset: for every row, the walk down the levels (`waiting`, `pull`) finds the level's stretch. It has the spare row of Q-2 too.
+-- The writer without an offset: for every row, the walk down the levels (`waiting`, `pull`) finds the level's stretch.
 -- It is the reference of `same-events` and `same-store` (proofs/Offset.antt); no contract cites it.
 use mathlib.Core.Bool.{Bool, true, false, not}
 use mathlib.Core.List.{List, [], _∷_}
-use Prim.Native.Nat.{ℕ, zero, suc, _+_, _-_, _*_, _/_, _%_, min}
+use Prim.Native.Nat.{ℕ, zero, suc, _+_, _*_}
 use lib.IntN.{pos}
 use lib.ListN.{length}
 use lib.Dec.{leb, ltb, eqb}
-use Rattle.numbers.specs.Signal.{pick, both, stored, spliced}
+use Rattle.numbers.specs.Signal.{pick, both, stored}
 use Rattle.lifting.specs.Grid.{Side}
 use Rattle.lifting.specs.Halves.{fronted}
 use Rattle.wavelet.specs.Limits.{maxHeight}
@@ -15,9 +15,8 @@ use Rattle.calls.specs.Lists.{unless, changedUnless, Area}
 use Rattle.calls.specs.Lists as lists
 use Rattle.filters.specs.Filters.{filterOf}
 use Rattle.level.specs.Level.{Memory, LevelKind, rest}
-use Rattle.level.specs.Heights.{heightAt}
-use Rattle.analysis.specs.Forward.{kindOf, heightsPut}
-use Rattle.filters.specs.Figures.{storeBy, writerStoreBy, streamable}
+use Rattle.analysis.specs.Forward.{kindOf}
+use Rattle.filters.specs.Figures.{storeBy, streamable}
 use Rattle.progress.specs.Counts.{mostLeft}
 use Rattle.writer.specs.Machine.{Out, arrive}
 use Rattle.writer.specs.Draws.{Waiting, waiting, pull}
@@ -83,58 +82,19 @@ offering (h ∷ run) s x =
     (offering run (complete s (rowMakes s (heightPut h s x))) (rowMakes s (heightPut h s x) .store))))
     (untaken s x)
 
--- ---- the spare row, as the writer's (Spare)
-abbrev pub spareAt : Before → ℕ
-spareAt s = storeBy (s .filter) (s .columns) (s .levels)
-
-abbrev pub spareRoom : Before → ℕ → ℕ
-spareRoom s k = min (s .columns .length - s .column) k
-
-abbrev pub atColumn : Before → ℕ → Before
-atColumn s c = at (s .filter) (s .columns) (s .start) (s .levels) (s .rows) c (s .finished) (s .closed) (s .level) (s .left)
-
-unfoldable pub holding : List ℕ → Before → Memory → Taking
-holding run s x = record {
-  taken = spareRoom s (length run);
-  writer = atColumn s (s .column + spareRoom s (length run));
-  store = spliced (spareAt s + s .column) (spareRoom s (length run)) (heightAt run) x;
-}
-
-abbrev pub movedRow : Before → Memory → Memory
-movedRow s x = heightsPut (s .filter) (s .columns) (s .start % 2 + s .rows) 0 (s .column) (λ j. x (spareAt s + j)) x
-
-unfoldable pub moving : Before → Memory → Taking
-moving s x =
-    pick (ltb (s .column) (s .columns .length))
-    (record { taken = s .column; writer = s; store = movedRow s x })
-    (record { taken = s .column; writer = complete s (rowMakes s (movedRow s x)); store = rowMakes s (movedRow s x) .store })
-
--- v is the writer's level: 0, and nothing waits
-unfoldable pub movedOn : ℕ → Before → Memory → Taking
-movedOn zero s x = moving s x
-movedOn (suc v) s x = untaken s x
-
-abbrev pub offeredAt : ℕ → List ℕ → Before → Memory → Taking
-offeredAt zero run s x = offering run s x
-offeredAt (suc v) run s x = holding run s x
-
 -- ---- the questions
-unfoldable pub mostColumn : Before → ℕ → ℕ
-mostColumn s zero = s .columns .length - 1
-mostColumn s (suc v) = pick (both (not (s .finished)) (ltb (s .rows) maxHeight)) (s .columns .length) 0
-
 unfoldable pub inRanges : Before → Bool
 inRanges s =
     both (onGrid (s .columns .start) (s .start))
     (both (streamable (s .filter) (s .columns) (s .levels))
     (both (leb (s .rows) maxHeight)
-    (both (leb (s .column) (mostColumn s (s .level)))
+    (both (ltb (s .column) (s .columns .length))
     (both (leb (s .closed) (filterOf (s .filter) .ahead * s .levels))
     (both (leb (s .level) (s .levels))
     (leb (s .left) (mostLeft (s .levels) (s .level))))))))
 
 unfoldable pub longEnough : ℕ → Before → Bool
-longEnough n s = leb (writerStoreBy (s .filter) (s .columns) (s .levels)) n
+longEnough n s = leb (storeBy (s .filter) (s .columns) (s .levels)) n
 
 abbrev pub waitingRow : Before → Waiting
 waitingRow s = waiting (kind s) (s .levels) (s .columns) (s .start) (s .closed) (s .level) (s .left) (s .rows)
@@ -144,8 +104,9 @@ offerQuestion s n k =
     ask (inRanges s) 1
     (ask (longEnough n s) 5
     (ask (not (s .finished)) 9
-    (ask (either (eqb k 0) (ltb (s .rows + s .column / s .columns .length) maxHeight)) 10
-    0)))
+    (ask (eqb (s .level) 0) 8
+    (ask (either (eqb k 0) (ltb (s .rows) maxHeight)) 10
+    0))))
 
 unfoldable pub drawQuestion : Before → ℕ → ℕ → ℕ
 drawQuestion s n k =
@@ -184,9 +145,6 @@ pulled s x = pull (kind s) (s .levels) (s .columns) (s .start) (s .closed) (s .l
 abbrev pub afterDraw : Before → Memory → Shut
 afterDraw s x = resumed (s .finished) s (pulled s x) (pulled s x .level)
 
-abbrev pub drawnOn : Before → Memory → Taking
-drawnOn s x = movedOn (afterDraw s x .out .level) (waits (s .finished) s (afterDraw s x)) (afterDraw s x .out .store)
-
 -- v is the writer's level: 0, and nothing waits
 abbrev pub handed : ℕ → Before → Given
 handed zero s = none
@@ -198,11 +156,11 @@ awaited (suc v) s = bandRow (waitingRow s)
 
 abbrev pub handedWriter : ℕ → Before → Memory → Before
 handedWriter zero s x = s
-handedWriter (suc v) s x = drawnOn s x .writer
+handedWriter (suc v) s x = waits (s .finished) s (afterDraw s x)
 
 abbrev pub handedStore : ℕ → Before → Memory → Memory
 handedStore zero s x = x
-handedStore (suc v) s x = drawnOn s x .store
+handedStore (suc v) s x = afterDraw s x .out .store
 
 abbrev pub handedArea : ℕ → Before → Memory → Memory → Memory
 handedArea zero s x z = z
@@ -225,10 +183,10 @@ module _ (w : World) where
   x = w .store
 
   unfoldable pub offerEvent : List ℕ → ℕ → Event
-  offerEvent run q = offered run (unless q (offeredAt (s .level) run s x .taken))
+  offerEvent run q = offered run (unless q (offering run s x .taken))
 
   unfoldable pub offerNext : List ℕ → ℕ → World
-  offerNext run q = world (changedUnless q (offeredAt (s .level) run s x .writer) s) (changedUnless q (offeredAt (s .level) run s x .store) x)
+  offerNext run q = world (changedUnless q (offering run s x .writer) s) (changedUnless q (offering run s x .store) x)
 
   unfoldable pub drawEvent : Area → ℕ → Event
   drawEvent a q =

@@ -9,7 +9,7 @@ use Rattle.wavelet.specs.Bands.{code}
 use Rattle.lifting.specs.Grid.{Side}
 use Rattle.calls.specs.Lists.{Reply, unless, changedUnless}
 use Rattle.level.specs.Level.{Memory, rest}
-use Rattle.filters.specs.Figures.{writerStoreBy}
+use Rattle.filters.specs.Figures.{storeBy}
 use Rattle.writer.specs.declared.Writer.{Writer}
 use Rattle.writer.specs.declared.BandRow.{BandRow}
 use Rattle.progress.specs.Counts.{startOf}
@@ -17,7 +17,6 @@ use Rattle.writer.specs.Machine.{Out}
 use Rattle.writer.specs.Draws.{Waiting, pull}
 use Rattle.writer.specs.Closing.{Shut, shut}
 use Rattle.writer.specs.Taking.{kind, columnsOf, Taking, offering}
-use Rattle.writer.specs.Spare.{holding, movedOn}
 use Rattle.writer.specs.Questions.{waitingRow, setUpQuestion, offerQuestion, drawQuestion, waitsQuestion, finishQuestion}
 use Rattle.writer.specs.Answers.{Took, Handed, aRow, nothing}
 
@@ -43,22 +42,17 @@ unfoldable pub setUpReply : ℕ → Side → ℕ → ℕ → ℕ → Reply Write
 setUpReply f W s L n = unless (setUpQuestion f W L n) (fresh f W s L)
 
 unfoldable pub setUpStore : ℕ → Side → ℕ → ℕ → Memory → Memory
-setUpStore f W L n x = changedUnless (setUpQuestion f W L n) (fronted (writerStoreBy f W L) (λ _. pos 0) x) x
+setUpStore f W L n x = changedUnless (setUpQuestion f W L n) (fronted (storeBy f W L) (λ _. pos 0) x) x
 
 -- ---- offer
 abbrev pub took : Taking → Took
 took t = record { taken = t .taken; writer = t .writer }
 
--- while rows wait (v, the writer's level, is above 0), into the spare row
-abbrev pub offeredAt : ℕ → List ℕ → Writer → Memory → Taking
-offeredAt zero run s x = offering (kind s) run s x
-offeredAt (suc v) run s x = holding run s x
-
 unfoldable pub offerReply : Writer → ℕ → List ℕ → Memory → Reply Took
-offerReply s n run x = unless (offerQuestion s n (length run)) (took (offeredAt (s .level) run s x))
+offerReply s n run x = unless (offerQuestion s n (length run)) (took (offering (kind s) run s x))
 
 unfoldable pub offerStore : Writer → ℕ → List ℕ → Memory → Memory
-offerStore s n run x = changedUnless (offerQuestion s n (length run)) (offeredAt (s .level) run s x .store) x
+offerStore s n run x = changedUnless (offerQuestion s n (length run)) (offering (kind s) run s x .store) x
 
 -- ---- finish: "At the finish level 1 closes first, then level 2, and so on."
 -- the writer with what waits, e: finished
@@ -99,21 +93,17 @@ pulled s x = pull (kind s) (s .levels) (columnsOf s) (s .y) (s .closed) (s .leve
 abbrev pub afterDraw : Writer → Memory → Shut
 afterDraw s x = resumed (s .finished) s (pulled s x) (pulled s x .level)
 
--- and once nothing waits, the heights of the spare row go on
-abbrev pub drawnOn : Writer → Memory → Taking
-drawnOn s x = movedOn (afterDraw s x .out .level) (waits (s .finished) s (afterDraw s x)) (afterDraw s x .out .store)
-
 abbrev pub bandRow : Waiting → BandRow
 bandRow r = record { level = r .level; band = code (r .band); row = r .row; length = r .length }
 
 -- v is the writer's level: 0, and nothing waits
 abbrev pub handed : ℕ → Writer → Memory → Handed
 handed zero s x = nothing
-handed (suc v) s x = aRow (bandRow (waitingRow s)) (drawnOn s x .writer)
+handed (suc v) s x = aRow (bandRow (waitingRow s)) (waits (s .finished) s (afterDraw s x))
 
 abbrev pub handedStore : ℕ → Writer → Memory → Memory
 handedStore zero s x = x
-handedStore (suc v) s x = drawnOn s x .store
+handedStore (suc v) s x = afterDraw s x .out .store
 
 abbrev pub handedArea : ℕ → Writer → Memory → Memory → Memory
 handedArea zero s x z = z

@@ -4,7 +4,7 @@
 use mathlib.Core.Path.{_≡_}
 use mathlib.Core.Bool.{Bool, true, false, not}
 use mathlib.Core.List.{List, [], _∷_, _++_, map}
-use Prim.Native.Nat.{ℕ, suc, _+_, _-_, _*_, _/_, _%_, _≤_, _<_}
+use Prim.Native.Nat.{ℕ, suc, _+_, _*_, _/_, _%_, _≤_, _<_}
 use lib.IntN.{pos}
 use lib.ListN.{length, take, drop, getD}
 use lib.Dec.{leb, ltb, eqb}
@@ -21,7 +21,7 @@ use Rattle.wavelet.specs.View.{bandColumns}
 use Rattle.wavelet.specs.ViewCall.{bandRowExists}
 use Rattle.calls.specs.Lists.{Reply, gives, refused, unless, Area, All}
 use Rattle.filters.specs.Filters.{filterOf}
-use Rattle.filters.specs.Figures.{writerStoreBy}
+use Rattle.filters.specs.Figures.{storeBy}
 use Rattle.writer.specs.declared.BandRow.{BandRow}
 use Rattle.writer.specs.Questions.{either}
 use Rattle.writer.specs.History.{Call, offer, draw, finish, look, Given, row, none, Event, offered, drew, finished, looked}
@@ -80,7 +80,7 @@ isNone (x ∷ l) = false
 
 -- question 5: a line store of n numbers is as long as is needed
 abbrev pub isLong : ℕ → Side → ℕ → ℕ → Bool
-isLong f W L n = leb (writerStoreBy f W L) n
+isLong f W L n = leb (storeBy f W L) n
 
 -- a draw into an area of k numbers: "Nothing is answered exactly when none waits." Else the next row that waits, or 12
 abbrev pub drawGives : Side → List RowName → ℕ → Reply Given
@@ -104,34 +104,24 @@ pub record DrawSeen (f : ℕ) (W : Side) (s L : ℕ) (es : List Event) (n : ℕ)
   pub size-is : area .size ≡ a .size
   pub surplus : (i : ℕ) → written (drawSays f W s L es n (a .size)) ≤ i → area .numbers i ≡ a .numbers i
 
--- Document 02, Q-2. While rows wait, one row of heights more is taken. It is complete where rows wait of those that the whole rows before it make: before a
--- row is taken else, all that these make is drawn.
-unfoldable pub spareFull : ℕ → Side → ℕ → ℕ → List Event → Bool
-spareFull f W s L es =
-    both (not (isNone (waitingOf f W s L es)))
-    (not (isNone (drop (length (drawn es)) (made (filterOf f .ahead) W s L (wholeRows W es - 1) false))))
-
--- after j heights more an offer takes on. None waiting: no row would wait, and the row limit is not reached. While rows wait: that row is not complete
+-- after j heights more no row would wait, and the row limit is not reached
 unfoldable pub takesOn : ℕ → Side → ℕ → ℕ → List Event → ℕ → Bool
 takesOn f W s L es j =
-    pick (isNone (waitingOf f W s L es))
-    (both (isNone (drop (length (drawn es)) (made (filterOf f .ahead) W s L ((length (taken es) + j) / W .length) false)))
-    (ltb ((length (taken es) + j) / W .length) maxHeight))
-    (both (not (spareFull f W s L es)) (ltb (length (taken es) % W .length + j) (W .length)))
+    both (isNone (drop (length (drawn es)) (made (filterOf f .ahead) W s L ((length (taken es) + j) / W .length) false)))
+    (ltb ((length (taken es) + j) / W .length) maxHeight)
 
--- an offer of k heights: 5, 9, 10, or it takes "heights until a band row waits, the row limit is reached or the run is used up"; while rows wait, until that
--- row is complete
+-- an offer of k heights: 5, 9, 8, 10, or it takes "heights until a band row waits, the row limit is reached or the run is used up"
 unfoldable pub offerTurned : ℕ → Side → ℕ → ℕ → List Event → ℕ → ℕ → ℕ
 offerTurned f W s L es n k =
     ask (isLong f W L n) 5
     (ask (not (finishedBy es)) 9
+    (ask (isNone (waitingOf f W s L es)) 8
     (ask (either (eqb k 0) (ltb (wholeRows W es) maxHeight)) 10
-    0))
+    0)))
 
 pub record Takes (f : ℕ) (W : Side) (s L : ℕ) (es : List Event) (k n : ℕ) : Type 0 where
   pub most : n ≤ k
-  -- "with that row complete the offer takes 0, else the progress promise holds with rows waiting too"
-  pub some : 0 < k → spareFull f W s L es ≡ false → 0 < n
+  pub some : 0 < k → 0 < n
   pub until : (j : ℕ) → j < n → takesOn f W s L es j ≡ true
   pub stop : n < k → takesOn f W s L es n ≡ false
 

@@ -18,8 +18,7 @@ use Rattle.analysis.specs.Forward.{heldOf, endedOf}
 use Rattle.writer.specs.declared.Writer.{Writer}
 use Rattle.writer.specs.declared.BandRow.{BandRow}
 use Rattle.progress.specs.Counts.{made, lowRows, mostLeft, bandAt, startOf}
-use Rattle.writer.specs.Taking.{kind, columnsOf, atColumn}
-use Rattle.writer.specs.Spare.{spareAt}
+use Rattle.writer.specs.Taking.{kind, columnsOf}
 use Rattle.writer.specs.Answers.{Took, Handed, aRow, nothing}
 use Rattle.level.specs.Level.{Memory, LevelKind, prev, rest, Meaning, Ending, SetStands, ahead}
 
@@ -72,25 +71,9 @@ pub record Holds (H : ℕ) (g : Grid) (s : Writer) (x : Memory) : Type 0 where
   -- after it the map has the rows taken, at least one, and once no band row waits all levels are closed
   pub ended : s .finished ≡ true → (s .rows ≡ H) × (0 < s .rows) × (s .level ≡ 0 → s .closed ≡ filterOf (s .filter) .ahead * s .levels)
 
--- with the heights of its spare row: how many `column` counts of the row begun, and how many of that row (v is the writer's level)
-abbrev pub begunCount : ℕ → ℕ → ℕ
-begunCount zero c = c
-begunCount (suc v) c = 0
-
-abbrev pub spareCount : ℕ → ℕ → ℕ
-spareCount zero c = 0
-spareCount (suc v) c = c
-
-pub record Stands (H : ℕ) (g : Grid) (s : Writer) (x : Memory) : Type 0 where
-  -- the levels hold what they would without them
-  pub holds : Holds H g (atColumn s (begunCount (s .level) (s .column))) x
-  -- and they are the next of the map, which has them
-  pub spare : (j : ℕ) → j < spareCount (s .level) (s .column) → x (spareAt s + j) ≡ g (s .rows) j
-  pub room : 0 < spareCount (s .level) (s .column) → s .rows < H
-
 -- ---- what a call keeps: for every map of which Map says what the call asks of it
 pub record Keeps (Map : ℕ → Grid → Type 0) (s : Writer) (x : Memory) (s′ : Writer) (x′ : Memory) : Type 0 where
-  pub keeps : (H : ℕ) (g : Grid) → Map H g → Stands H g s x → Stands H g s′ x′
+  pub keeps : (H : ℕ) (g : Grid) → Map H g → Holds H g s x → Holds H g s′ x′
 
 -- a draw asks nothing; a finish that the map has the rows taken; an offer that the map goes on with the k heights taken of the run
 abbrev pub AnyMap : ℕ → Grid → Type 0
@@ -124,7 +107,7 @@ tookOf (refused q) = 0
 pub record DrawKeeps (s : Writer) (x : Memory) (r : Reply Handed) (x′ y : Memory) : Type 0 where
   pub store : Keeps AnyMap s x (left (after s) s r) x′
   -- the row that is answered stands at the front of the area, and its values are the map's
-  pub values : (H : ℕ) (g : Grid) → Stands H g s x → (b : BandRow) (t : Writer) → r ≡ gives (aRow b t) → MapRow (s .filter) (columnsOf s) (side (s .y) H) g b y
+  pub values : (H : ℕ) (g : Grid) → Holds H g s x → (b : BandRow) (t : Writer) → r ≡ gives (aRow b t) → MapRow (s .filter) (columnsOf s) (side (s .y) H) g b y
 
 abbrev pub FinishKeeps : Writer → Memory → Reply Writer → Memory → Type 0
 FinishKeeps s x r x′ = Keeps (AllRows s) s x (left (λ t. t) s r) x′
@@ -134,4 +117,4 @@ OfferKeeps s run x r x′ = Keeps (GoesOn s run (tookOf r)) s x (left (λ t. t .
 
 -- the store that set-up leaves holds the beginning of every map
 pub record SetUpHolds (r : Reply Writer) (x : Memory) : Type 0 where
-  pub holds : (s : Writer) → r ≡ gives s → (H : ℕ) (g : Grid) → Stands H g s x
+  pub holds : (s : Writer) → r ≡ gives s → (H : ℕ) (g : Grid) → Holds H g s x

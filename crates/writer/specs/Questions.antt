@@ -1,13 +1,13 @@
 -- The gate questions of the writer's calls, in the order of document 01: 0, or the number of the first that says no. n is the length of the line store.
 use mathlib.Core.Bool.{Bool, true, not}
-use Prim.Native.Nat.{ℕ, zero, suc, _+_, _-_, _*_, _/_}
+use Prim.Native.Nat.{ℕ, _*_}
 use lib.Dec.{leb, ltb, eqb}
 use Rattle.numbers.specs.Signal.{pick, both}
 use Rattle.wavelet.specs.Limits.{maxWidth, maxHeight, maxOrigin}
 use Rattle.wavelet.specs.Questions.{ask, within}
 use Rattle.lifting.specs.Grid.{Side}
 use Rattle.filters.specs.Filters.{filterOf, isFilter}
-use Rattle.filters.specs.Figures.{writerStoreBy, streamable}
+use Rattle.filters.specs.Figures.{storeBy, streamable}
 use Rattle.writer.specs.declared.Writer.{Writer}
 use Rattle.progress.specs.Counts.{mostLeft, startOf}
 use Rattle.writer.specs.Draws.{Waiting, waiting}
@@ -20,19 +20,13 @@ either a b = pick a true b
 abbrev pub onGrid : ℕ → ℕ → Bool
 onGrid x y = both (leb x maxOrigin) (leb y maxOrigin)
 
--- `column` counts the heights of the row begun, fewer than it has; while band rows wait (v, the writer's level, is above 0), those of the spare row, of
--- which there is none where no height can come
-unfoldable pub mostColumn : Writer → ℕ → ℕ
-mostColumn s zero = s .width - 1
-mostColumn s (suc v) = pick (both (not (s .finished)) (ltb (s .rows) maxHeight)) (s .width) 0
-
 -- question 1: the ranges that docs/STATE.md lists
 unfoldable pub inRanges : Writer → Bool
 inRanges s =
     both (onGrid (s .x) (s .y))
     (both (streamable (s .filter) (columnsOf s) (s .levels))
     (both (leb (s .rows) maxHeight)
-    (both (leb (s .column) (mostColumn s (s .level)))
+    (both (ltb (s .column) (s .width))
     (both (leb (s .closed) (filterOf (s .filter) .ahead * s .levels))
     (both (leb (s .level) (s .levels))
     (both (leb (s .left) (mostLeft (s .levels) (s .level)))
@@ -40,7 +34,7 @@ inRanges s =
 
 -- question 5
 unfoldable pub longEnough : ℕ → Writer → Bool
-longEnough n s = leb (writerStoreBy (s .filter) (columnsOf s) (s .levels)) n
+longEnough n s = leb (storeBy (s .filter) (columnsOf s) (s .levels)) n
 
 -- the row that waits
 abbrev pub waitingRow : Writer → Waiting
@@ -56,21 +50,18 @@ setUpQuestion f W L n =
     ask (within 1 maxWidth (W .length)) 2
     (ask (known f) 18
     (ask (within 1 (filterOf f .levels) L) 4
-    (ask (leb (writerStoreBy f W L) n) 5
+    (ask (leb (storeBy f W L) n) 5
     0)))
 
--- the rows complete. Document 02, Q-2: "For number 10 they count as moved", the heights of the spare row
-abbrev pub rowsTaken : Writer → ℕ
-rowsTaken s = s .rows + s .column / s .width
-
--- an offer of k heights; "Question 8 no longer turns an offer away"
+-- an offer of k heights
 unfoldable pub offerQuestion : Writer → ℕ → ℕ → ℕ
 offerQuestion s n k =
     ask (inRanges s) 1
     (ask (longEnough n s) 5
     (ask (not (s .finished)) 9
-    (ask (either (eqb k 0) (ltb (rowsTaken s) maxHeight)) 10
-    0)))
+    (ask (eqb (s .level) 0) 8
+    (ask (either (eqb k 0) (ltb (s .rows) maxHeight)) 10
+    0))))
 
 -- a draw into an area of k numbers
 unfoldable pub drawQuestion : Writer → ℕ → ℕ → ℕ

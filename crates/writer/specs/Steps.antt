@@ -1,14 +1,12 @@
 -- What the private functions require and leave: the machine's steps at the level of the filter's number f. Nothing here needs to be believed.
 use mathlib.Core.Path.{_≡_}
-use mathlib.Core.Bool.{true}
 use Prim.Native.Nat.{ℕ, _+_, _-_, _*_, _^_, _<_, _≤_}
 use Rattle.lifting.specs.Grid.{Side, side, count}
 use Rattle.wavelet.specs.Bands.{across, code}
 use Rattle.wavelet.specs.Order.{setRow}
 use Rattle.filters.specs.Filters.{filterOf}
 use Rattle.level.specs.Level.{Memory, prev, rest, joinAt}
-use Rattle.wavelet.specs.Limits.{maxHeight}
-use Rattle.filters.specs.Figures.{storeBy, writerStoreBy, streamable}
+use Rattle.filters.specs.Figures.{storeBy}
 use Rattle.analysis.specs.Forward.{kindOf}
 use Rattle.progress.specs.declared.waits.Wait.{Wait}
 use Rattle.progress.specs.declared.levels.Level.{Level}
@@ -20,7 +18,7 @@ use Rattle.writer.specs.Machine.{Out, settled, passOn}
 use Rattle.writer.specs.Draws.{Waiting, waiting, pull}
 use Rattle.writer.specs.Closing.{Shut}
 use Rattle.writer.specs.Taking.{columnsOf}
-use Rattle.writer.specs.Calls.{waits, afterDraw, drawnOn}
+use Rattle.writer.specs.Calls.{waits, afterDraw}
 
 -- l levels, the first of the columns W, in a store of n numbers; m is a number of rows
 pub record Room (f l : ℕ) (W : Side) (m n : ℕ) : Type 0 where
@@ -123,15 +121,3 @@ pub record Drawable (s : Writer) (n : ℕ) : Type 0 where
 pub record Drew (s : Writer) (x : Memory) (r : Writer) (y : Memory) : Type 0 where
   pub writer : r ≡ waits (s .finished) s (afterDraw s x)
   pub store : y ≡ afterDraw s x .out .store
-
--- the spare row of a writer whose store has n numbers, and what question 1 says of the heights there
-pub record Spares (s : Writer) (n : ℕ) : Type 0 where
-  pub sized : streamable (s .filter) (columnsOf s) (s .levels) ≡ true
-  pub row : s .column ≤ s .width
-  pub room : writerStoreBy (s .filter) (columnsOf s) (s .levels) ≤ n
-  pub may : 0 < s .column → s .rows < maxHeight
-
--- what the draw leaves once the heights of the spare row have gone on where nothing waits
-pub record DrewOn (s : Writer) (x : Memory) (r : Writer) (y : Memory) : Type 0 where
-  pub writer : r ≡ drawnOn s x .writer
-  pub store : y ≡ drawnOn s x .store

@@ -37,7 +37,7 @@ oneMore t = record { taken = suc (t .taken); writer = t .writer; store = t .stor
 unfoldable pub takes : Writer → Bool
 takes s = both (eqb (s .level) 0) (ltb (s .rows) maxHeight)
 
--- the row begun has a height more; the writer at column c of its row; the row is complete, and o is what it makes
+-- the row begun has a height more; the row is complete, and o is what it makes
 abbrev pub begun : Writer → Writer
 begun s = record {
   x = s .x;
@@ -46,22 +46,6 @@ begun s = record {
   levels = s .levels;
   rows = s .rows;
   column = s .column + 1;
-  finished = s .finished;
-  closed = s .closed;
-  level = s .level;
-  left = s .left;
-  offset = s .offset;
-  filter = s .filter;
-}
-
-abbrev pub atColumn : Writer → ℕ → Writer
-atColumn s c = record {
-  x = s .x;
-  y = s .y;
-  width = s .width;
-  levels = s .levels;
-  rows = s .rows;
-  column = c;
   finished = s .finished;
   closed = s .closed;
   level = s .level;

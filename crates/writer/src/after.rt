@@ -2,11 +2,10 @@
 use crate::Writer;
 use crate::closing;
 use crate::draws;
-use crate::spare;
 use progress::levels::Level;
 ghost use lib.ListN.{length};
 ghost use Rattle.numbers.specs.Signal.{at};
-ghost use Rattle.writer.specs.Steps.{Drawable, Reached, Drew, Spares, DrewOn};
+ghost use Rattle.writer.specs.Steps.{Drawable, Reached, Drew};
 
 // The row that waits is drawn; once finished and nothing waits, the levels close on.
 pub fn draw_on(s: Writer, from: Level, store: &mut [i32]) -> Writer
@@ -56,18 +55,4 @@ pub fn draw_on(s: Writer, from: Level, store: &mut [i32]) -> Writer
         offset: r.offset,
         filter: s.filter,
     }
-}
-
-// The row that waits is drawn; once nothing waits, the heights of the spare row go on.
-pub fn draw_and_move(s: Writer, from: Level, store: &mut [i32]) -> Writer
-    requires { ⌜ Drawable s (length (now store)) × Reached s from × Spares s (length (now store)) ⌝ }
-    ensures { λ r. ⌜ DrewOn s (at (now (store .entry))) r (at (now (store .exit))) ⌝ }
-{
-    let t = draw_on(s, from, store);
-    if t.level == 0 {
-        if 0 < t.column {
-            return spare::move_on(t, store);
-        }
-    }
-    t
 }

@@ -9,11 +9,10 @@ ghost use Prim.Native.Nat.{_^_, _<_, _≤_};
 ghost use lib.Dec.{leb, eqb};
 ghost use Rattle.numbers.specs.Signal.{both};
 ghost use Rattle.lifting.specs.Grid.{side};
-ghost use Rattle.wavelet.specs.Limits.{maxHeight};
 ghost use Rattle.filters.specs.Figures.{streamable};
 ghost use Rattle.progress.specs.Counts.{mostLeft, startOf};
 ghost use Rattle.writer.specs.Taking.{columnsOf};
-ghost use Rattle.writer.specs.Questions.{onGrid, mostColumn, inRanges, rowsTaken, known, setUpQuestion, offerQuestion, finishQuestion};
+ghost use Rattle.writer.specs.Questions.{onGrid, inRanges, known, setUpQuestion, offerQuestion, finishQuestion};
 ghost use Rattle.writer.specs.Gate.{stateQuestion, openQuestion};
 
 // Does the stretch of level v begin at place o? The stretches before it are taken off: added up first, they would cost the short calls more.
@@ -78,22 +77,6 @@ fn is_sized(filter: usize, width: usize, x: usize, levels: usize) -> bool
     limits::is_within(levels, Writer::most_levels(filter))
 }
 
-// How many heights can be counted: of the row begun, or, while band rows wait, of the spare row. None where no height can come.
-fn most_column(s: Writer) -> usize
-    ensures { λ r. ⌜ r ≡ mostColumn s (s .level) ⌝ }
-{
-    if s.level == 0 {
-        return counts::minus(s.width, 1);
-    }
-    if s.finished {
-        return 0;
-    }
-    if Writer::MAX_HEIGHT <= s.rows {
-        return 0;
-    }
-    s.width
-}
-
 // Question 1: the counts' ranges.
 pub fn in_ranges(s: Writer) -> bool
     ensures { λ r. ⌜ r ≡ inRanges s ⌝ }
@@ -107,7 +90,7 @@ pub fn in_ranges(s: Writer) -> bool
     if Writer::MAX_HEIGHT < s.rows {
         return false;
     }
-    if most_column(s) < s.column {
+    if s.width <= s.column {
         return false;
     }
     if filters::look_ahead(s.filter) * s.levels < s.closed {
@@ -127,10 +110,10 @@ pub fn state_question(s: Writer, fits: bool, n: usize) -> u8
     if !fits {
         return 1;
     }
-    if filters::holds_any(s.filter, s.width, counts::minus(n, s.width)) {
+    if filters::holds_any(s.filter, s.width, n) {
         return 0;
     }
-    if n < filters::writer_store_length(s.filter, s.width, s.x, s.levels) {
+    if n < filters::store_length(s.filter, s.width, s.x, s.levels) {
         return 5;
     }
     0
@@ -169,21 +152,10 @@ pub fn set_up_question(filter: usize, width: usize, x: usize, levels: usize, n: 
     if !limits::is_within(levels, Writer::most_levels(filter)) {
         return 4;
     }
-    if n < filters::writer_store_length(filter, width, x, levels) {
+    if n < filters::store_length(filter, width, x, levels) {
         return 5;
     }
     0
-}
-
-// Whether the rows complete are as many as can be, that of the spare row among them.
-fn is_full(s: Writer) -> bool
-    requires { ⌜ (0 < s .width) × (s .column ≤ s .width) × (s .rows ≤ maxHeight) ⌝ }
-    ensures { λ r. ⌜ r ≡ leb maxHeight (rowsTaken s) ⌝ }
-{
-    if s.column < s.width {
-        return Writer::MAX_HEIGHT <= s.rows;
-    }
-    Writer::MAX_HEIGHT <= s.rows + 1
 }
 
 // An offer of k heights.
@@ -195,11 +167,12 @@ pub fn offer_question(s: Writer, n: usize, k: usize) -> u8
     if 0 < no {
         return no;
     }
-    if s.finished {
-        return 9;
+    let shut = open_question(s);
+    if 0 < shut {
+        return shut;
     }
     if 0 < k {
-        if is_full(s) {
+        if Writer::MAX_HEIGHT <= s.rows {
             return 10;
         }
     }

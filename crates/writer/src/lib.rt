@@ -6,7 +6,6 @@ mod copies;
 mod draws;
 mod gate;
 mod offers;
-mod spare;
 
 use progress::levels;
 use wavelet::shape::Shape;
@@ -30,7 +29,7 @@ pub struct Writer {
     pub y: usize,
     // rows taken whole
     pub rows: usize,
-    // heights taken of the row begun; while band rows wait none is begun, and these stand in the spare row
+    // heights taken of the row begun
     pub column: usize,
     pub finished: bool,
     // steps of the closing that the finish has done, as many a level as its look-ahead
@@ -140,7 +139,7 @@ impl Writer {
         if 0 < no {
             return SetUp::Refused(no);
         }
-        let n = filters::writer_store_length(filter, shape.width, x, shape.levels);
+        let n = filters::store_length(filter, shape.width, x, shape.levels);
         copies::clear(store, n);
         SetUp::Ready(Writer {
             width: shape.width,
@@ -158,8 +157,7 @@ impl Writer {
         })
     }
 
-    // Heights taken until a band row waits, the row limit is reached or the run is used up, and how many; while band rows wait, those that the spare row
-    // has room for.
+    // Heights taken until a band row waits, the row limit is reached or the run is used up, and how many.
     pub fn offer(self, store: &mut [i32], run: &[u16]) -> Offered
         ensures { λ r. ⌜ ofOffered r ≡ offerReply self (length (now (store .entry))) (now (run .entry)) (at (now (store .entry))) ⌝ }
         ensures { λ r. ⌜ at (now (store .exit)) ≡ offerStore self (length (now (store .entry))) (now (run .entry)) (at (now (store .entry))) ⌝ }
@@ -168,10 +166,6 @@ impl Writer {
         let no = gate::offer_question(self, store.len(), run.len());
         if 0 < no {
             return Offered::Refused(no);
-        }
-        if 0 < self.level {
-            let held = spare::room(self, run.len());
-            return Offered::Taken(held, spare::hold(self, store, run, held));
         }
         let mut s = self;
         let mut taken = 0;
@@ -184,7 +178,7 @@ impl Writer {
         Offered::Taken(taken, s)
     }
 
-    // The row that waits, its values at the front of `out`, or Nothing. Once nothing waits, the heights of the spare row go on.
+    // The row that waits, its values at the front of `out`, or Nothing.
     pub fn draw(self, store: &mut [i32], out: &mut [i32]) -> Drawn
         ensures { λ r. ⌜ ofDrawn r ≡ drawReply self (length (now (store .entry))) (length (now (out .entry))) (at (now (store .entry))) ⌝ }
         ensures { λ r. ⌜ at (now (store .exit)) ≡ drawStore self (length (now (store .entry))) (length (now (out .entry))) (at (now (store .entry))) ⌝ }
@@ -214,7 +208,7 @@ impl Writer {
             return Drawn::Refused(12);
         }
         copies::hand_out(store, spot.start, spot.length, out);
-        let next = after::draw_and_move(self, q, store);
+        let next = after::draw_on(self, q, store);
         Drawn::Row(
             BandRow {
                 level: spot.level,

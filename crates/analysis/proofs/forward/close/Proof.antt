@@ -1,36 +1,46 @@
--- `forward::close` meets its contract: the stretch lies in the store, or 5 is given. Assumes nothing.
-use mathlib.Core.Path.{sym, _∙_}
+-- `forward::close` meets its contract: the call is the filter's own. Assumes nothing.
+use native.Mathlib.Omega.{arith}
 use lib.ListN.{length}
+use Rattle.numbers.specs.Signal.{at}
 use Rattle.lifting.specs.Grid.{side}
-use Rattle.analysis.proofs.StretchLaws.{level-in}
+use Rattle.five_three_making.specs.Making as five
+use Rattle.nine_seven_making.specs.Making as nine
+use Rattle.filters.specs.Filters.{filterOf}
+use Rattle.analysis.specs.Forward.{kindOf, levelFits}
+use Rattle.analysis.proofs.ForwardLaws.{zero-both, other-both}
+use borrow.Author.Needs.{needs}
 use Rattle.analysis.proofs.forward.close.Statement.{statement}
 use Rattle.analysis.proofs.forward.close.Tie as tie
 
-level-fits-requires : tie.Need-level-fits-requires
-level-fits-requires c κs = tt
-
-make-set-requires : tie.Need-make-set-requires
-make-set-requires c κs =
-    let t = c .before in
-    let a = t .before .before .args in
-    level-in (a .filter) (length (a .store .now)) (side (a .x) (a .w)) (sym (t .before .level-fits .ensures (a .x)) ∙ t .if1 .taken)
+close-requires : tie.Need-close-requires
+close-requires c κs = tt
 
 same-length : tie.Need-same-length
-same-length c = c .before .make-set .kept .0
+same-length c = search needs
 
 returns : tie.Need-returns
+unfolding filterOf levelFits five.levelFits
 returns c =
-    let r = c .before in
-    let t = r .before .before in
-    let a = t .before .before .args in
-    let ok = sym (t .before .level-fits .ensures (a .x)) ∙ t .if1 .taken in
-    (simp ok, simp ok (r .make-set .ensures))
+    let a = c .before .before .before .before .args in
+    let k = length (a .store .now) in
+    let o = c .before .close .ensures in
+    zero-both (a .filter) (λ f. levelFits f k (side (a .x) (a .w)))
+    (λ f. kindOf f .close (side (a .x) (a .w)) (side (a .y) (a .m)) (a .n) (at (a .store .now))) (at (a .store .now)) _ _ (omega arith) (o .0) (o .1)
+
+close-requires-2 : tie.Need-close-requires-2
+close-requires-2 c κs = tt
+
+same-length-2 : tie.Need-same-length-2
+same-length-2 c = search needs
 
 returns-2 : tie.Need-returns-2
+unfolding filterOf levelFits nine.levelFits
 returns-2 c =
-    let a = c .before .before .args in
-    let bad = sym (c .before .level-fits .ensures (a .x)) ∙ c .if1 .left in
-    (simp bad, simp bad)
+    let a = c .before .before .before .before .args in
+    let k = length (a .store .now) in
+    let o = c .before .close2 .ensures in
+    other-both (a .filter) (λ f. levelFits f k (side (a .x) (a .w)))
+    (λ f. kindOf f .close (side (a .x) (a .w)) (side (a .y) (a .m)) (a .n) (at (a .store .now))) (at (a .store .now)) _ _ (omega arith) (λ _. o .0) (λ _. o .1)
 
 pub close-spec : {M : Type 1} → statement M
-close-spec = tie.close (tie.spec level-fits-requires make-set-requires same-length returns returns-2)
+close-spec = tie.close (tie.spec close-requires same-length returns close-requires-2 same-length-2 returns-2)

@@ -5,7 +5,7 @@ use native.Mathlib.Omega.{arith}
 use lib.ListN.{length, getD, length-set}
 use Rattle.numbers.specs.Signal.{at}
 use Rattle.lifting.specs.Grid.{side}
-use Rattle.level.specs.Cells.{spot}
+use Rattle.level.specs.Cells.{cellOf}
 use Rattle.level.specs.Heights.{heightAt, heightsPut}
 use Rattle.level.proofs.FillLaws.{height-fits, height-read, Put, put-none, put-pair, put-place}
 use Rattle.level.proofs.heights.fill_pairs.Statement.{statement}
@@ -13,13 +13,13 @@ use Rattle.level.proofs.heights.fill_pairs.Tie as tie
 
 -- the bounds, the two places, and the heights put
 abbrev Inv-loop : tie.InvT-loop
-Inv-loop row₀ x column run pairs w first second j₀ row j =
-    (j ≤ pairs) × (length row₀ < 2 ^ 62) × (column + 2 * pairs ≤ length row₀) × (2 * pairs ≤ length run)
-    × (first ≡ spot (side x (length row₀)) column) × (second ≡ spot (side x (length row₀)) (column + 1))
-    × Put (side x (length row₀)) column (2 * j) (heightAt run) row₀ row
+Inv-loop store₀ w x q column run pairs first second j₀ store j =
+    (j ≤ pairs) × (w < 2 ^ 62) × (column + 2 * pairs ≤ w) × (2 * pairs ≤ length run)
+    × (first ≡ cellOf (side x w) q column) × (second ≡ cellOf (side x w) q (column + 1))
+    × Put (side x w) q column (2 * j) (heightAt run) store₀ store
 
 abbrev μ-loop : tie.MeasureT-loop
-μ-loop row₀ x column run pairs w first second j₀ row j = pairs - j
+μ-loop store₀ w x q column run pairs first second j₀ store j = pairs - j
 
 cell-requires : tie.Need-cell-requires Inv-loop μ-loop
 cell-requires c κs = omega arith
@@ -39,77 +39,77 @@ loop-holds c =
       omega arith,
       c .before .cell .ensures,
       c .cell2 .ensures,
-      put-none (side (a .x) (length (a .row .now))) (a .column) _ (a .row .now) (omega arith),
+      put-none (side (a .x) (a .w)) (a .q) (a .column) _ (a .store .now) (omega arith),
     )
 
-mul-row : tie.Need-mul-row Inv-loop μ-loop
-mul-row c = omega arith
+mul-store : tie.Need-mul-store Inv-loop μ-loop
+mul-store c = omega arith
 
-mul-row-2 : tie.Need-mul-row-2 Inv-loop μ-loop
-mul-row-2 c = omega arith
+mul-store-2 : tie.Need-mul-store-2 Inv-loop μ-loop
+mul-store-2 c = omega arith
 
-shared-slice-read-row : tie.Need-shared-slice-read-row Inv-loop μ-loop
-shared-slice-read-row c = omega arith
+shared-slice-read-store : tie.Need-shared-slice-read-store Inv-loop μ-loop
+shared-slice-read-store c = omega arith
 
-cast-row : tie.Need-cast-row Inv-loop μ-loop
-cast-row c =
+cast-store : tie.Need-cast-store Inv-loop μ-loop
+cast-store c =
     let l = c .before .before .loop in
     let a = c .before .before .before .before .before .before .args in
     height-fits _ (omega (arith, c .shared-slice-known2 .given (2 * l .j)))
 
-add-row : tie.Need-add-row Inv-loop μ-loop
-add-row c =
+add-store : tie.Need-add-store Inv-loop μ-loop
+add-store c =
     let l = c .before .before .loop in
     let a = c .before .before .before .before .before .before .args in
-    omega (arith, put-place (side (a .x) (length (a .row .now))) (a .column) (l .j) _ (omega arith) (l .inv .4))
+    omega (arith, put-place (side (a .x) (a .w)) (a .q) (a .column) (l .j) _ (omega arith) (l .inv .4))
 
-mul-row-3 : tie.Need-mul-row-3 Inv-loop μ-loop
-mul-row-3 c =
+mul-store-3 : tie.Need-mul-store-3 Inv-loop μ-loop
+mul-store-3 c =
     let l = c .before .before .loop in
     let a = c .before .before .before .before .before .before .args in
-    omega (arith, put-place (side (a .x) (length (a .row .now))) (a .column) (l .j) _ (omega arith) (l .inv .4))
+    omega (arith, put-place (side (a .x) (a .w)) (a .q) (a .column) (l .j) _ (omega arith) (l .inv .4))
 
-slice-set-from-row : tie.Need-slice-set-from-row Inv-loop μ-loop
-slice-set-from-row c =
+slice-set-from-store : tie.Need-slice-set-from-store Inv-loop μ-loop
+slice-set-from-store c =
     let l = c .before .before .loop in
     let a = c .before .before .before .before .before .before .args in
-    omega (arith, put-place (side (a .x) (length (a .row .now))) (a .column) (l .j) _ (omega arith) (l .inv .4), l .inv .6 .room, l .inv .6 .size)
+    omega (arith, put-place (side (a .x) (a .w)) (a .q) (a .column) (l .j) _ (omega arith) (l .inv .4), l .inv .6 .room, l .inv .6 .size)
 
-mul-row-4 : tie.Need-mul-row-4 Inv-loop μ-loop
-mul-row-4 c = omega arith
+mul-store-4 : tie.Need-mul-store-4 Inv-loop μ-loop
+mul-store-4 c = omega arith
 
-add-row-2 : tie.Need-add-row-2 Inv-loop μ-loop
-add-row-2 c = omega arith
+add-store-2 : tie.Need-add-store-2 Inv-loop μ-loop
+add-store-2 c = omega arith
 
-mul-row-5 : tie.Need-mul-row-5 Inv-loop μ-loop
-mul-row-5 c = omega arith
+mul-store-5 : tie.Need-mul-store-5 Inv-loop μ-loop
+mul-store-5 c = omega arith
 
-shared-slice-read-row-2 : tie.Need-shared-slice-read-row-2 Inv-loop μ-loop
-shared-slice-read-row-2 c = omega arith
+shared-slice-read-store-2 : tie.Need-shared-slice-read-store-2 Inv-loop μ-loop
+shared-slice-read-store-2 c = omega arith
 
-cast-row-2 : tie.Need-cast-row-2 Inv-loop μ-loop
-cast-row-2 c =
+cast-store-2 : tie.Need-cast-store-2 Inv-loop μ-loop
+cast-store-2 c =
     let l = c .before .before .before .loop in
     let a = c .before .before .before .before .before .before .before .args in
     height-fits _ (omega (arith, c .shared-slice-known3 .given (2 * l .j + 1)))
 
-add-t13 : tie.Need-add-t13 Inv-loop μ-loop
-add-t13 c =
+add-t14 : tie.Need-add-t14 Inv-loop μ-loop
+add-t14 c =
     let l = c .before .before .before .loop in
     let a = c .before .before .before .before .before .before .before .args in
-    omega (arith, put-place (side (a .x) (length (a .row .now))) (a .column + 1) (l .j) _ (omega arith) (l .inv .5))
+    omega (arith, put-place (side (a .x) (a .w)) (a .q) (a .column + 1) (l .j) _ (omega arith) (l .inv .5))
 
-mul-t21 : tie.Need-mul-t21 Inv-loop μ-loop
-mul-t21 c =
+mul-t22 : tie.Need-mul-t22 Inv-loop μ-loop
+mul-t22 c =
     let l = c .before .before .before .loop in
     let a = c .before .before .before .before .before .before .before .args in
-    omega (arith, put-place (side (a .x) (length (a .row .now))) (a .column + 1) (l .j) _ (omega arith) (l .inv .5))
+    omega (arith, put-place (side (a .x) (a .w)) (a .q) (a .column + 1) (l .j) _ (omega arith) (l .inv .5))
 
-slice-set-from-row-2 : tie.Need-slice-set-from-row-2 Inv-loop μ-loop
-slice-set-from-row-2 c =
+slice-set-from-store-2 : tie.Need-slice-set-from-store-2 Inv-loop μ-loop
+slice-set-from-store-2 c =
     let l = c .before .before .before .loop in
     let a = c .before .before .before .before .before .before .before .args in
-    let p = put-place (side (a .x) (length (a .row .now))) (a .column + 1) (l .j) _ (omega arith) (l .inv .5) in
+    let p = put-place (side (a .x) (a .w)) (a .q) (a .column + 1) (l .j) _ (omega arith) (l .inv .5) in
     let r = l .inv .6 in
     simp length-set (omega (arith, p, r .room, r .size))
 
@@ -133,7 +133,7 @@ loop-again c =
       omega arith,
       i .4,
       i .5,
-      put-pair (side (a .x) (length (a .row .now))) (a .column) _ (a .row .now) (l .j) _ _ _ _ _ (i .6) (omega arith) (i .4) (i .5) v u,
+      put-pair (side (a .x) (a .w)) (a .q) (a .column) _ (a .store .now) (l .j) _ _ _ _ _ (i .6) (omega arith) (i .4) (i .5) v u,
     )
 
 same-length : tie.Need-same-length Inv-loop μ-loop
@@ -145,7 +145,7 @@ returns c =
     let a = c .before .before .before .before .before .args in
     let e : l .j ≡ a .pairs = omega arith in
     l .inv .6 .value
-    ∙ ap (λ (k : ℕ). heightsPut (side (a .x) (length (a .row .now))) (a .column) (2 * k) (heightAt (a .run .now)) (at (a .row .now))) e
+    ∙ ap (λ (k : ℕ). heightsPut (side (a .x) (a .w)) (a .q) (a .column) (2 * k) (heightAt (a .run .now)) (at (a .store .now))) e
 
 pub fill-pairs-spec : {M : Type 1} → statement M
 fill-pairs-spec =
@@ -157,21 +157,21 @@ fill-pairs-spec =
     add-cell
     cell-requires-2
     loop-holds
-    mul-row
-    mul-row-2
-    shared-slice-read-row
-    cast-row
-    add-row
-    mul-row-3
-    slice-set-from-row
-    mul-row-4
-    add-row-2
-    mul-row-5
-    shared-slice-read-row-2
-    cast-row-2
-    add-t13
-    mul-t21
-    slice-set-from-row-2
+    mul-store
+    mul-store-2
+    shared-slice-read-store
+    cast-store
+    add-store
+    mul-store-3
+    slice-set-from-store
+    mul-store-4
+    add-store-2
+    mul-store-5
+    shared-slice-read-store-2
+    cast-store-2
+    add-t14
+    mul-t22
+    slice-set-from-store-2
     add-j
     loop-less
     loop-again

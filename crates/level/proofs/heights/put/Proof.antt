@@ -2,7 +2,6 @@
 use mathlib.Core.Path.{sym, _∙_}
 use Prim.Native.Nat.{_+_, _-_}
 use native.Mathlib.Omega.{arith}
-use lib.ListN.{length}
 use Rattle.numbers.specs.Signal.{at}
 use Rattle.lifting.specs.Grid.{side}
 use Rattle.level.proofs.FillLaws.{heights-in, part-length, part-put}
@@ -13,12 +12,12 @@ heights-fit-requires : tie.Need-heights-fit-requires
 heights-fit-requires c κs = tt
 
 add-end : tie.Need-add-end
-add-end c = let k = heights-in _ _ _ _ _ (sym (c .before .heights-fit .ensures) ∙ c .if1 .taken) in omega (arith, k .heights)
+add-end c = let k = heights-in _ _ _ _ _ _ (sym (c .before .heights-fit .ensures) ∙ c .if1 .taken) in omega (arith, k .heights)
 
 mul-fill : tie.Need-mul-fill
 mul-fill c =
     let t = c .before in
-    let k = heights-in _ _ _ _ _ (sym (t .before .heights-fit .ensures) ∙ t .if1 .taken) in omega (arith, k .heights)
+    let k = heights-in _ _ _ _ _ _ (sym (t .before .heights-fit .ensures) ∙ t .if1 .taken) in omega (arith, k .heights)
 
 sub-fill : tie.Need-sub-fill
 sub-fill c = omega arith
@@ -29,15 +28,15 @@ part-fill-start c = omega arith
 part-fill-end : tie.Need-part-fill-end
 part-fill-end c =
     let t = c .before in
-    let k = heights-in _ _ _ _ _ (sym (t .before .heights-fit .ensures) ∙ t .if1 .taken) in omega (arith, k .heights)
+    let k = heights-in _ _ _ _ _ _ (sym (t .before .heights-fit .ensures) ∙ t .if1 .taken) in omega (arith, k .heights)
 
 fill-requires : tie.Need-fill-requires
 fill-requires c κs =
     let t = c .before .before in
     let a = t .before .before .before .args in
-    let k = heights-in _ _ _ _ _ (sym (t .before .heights-fit .ensures) ∙ t .if1 .taken) in
+    let k = heights-in _ _ _ _ _ _ (sym (t .before .heights-fit .ensures) ∙ t .if1 .taken) in
     let l = part-length (a .from) (a .from + a .n - a .from) (a .n) (a .run .now) (omega arith) (k .heights) in
-    omega (arith, l, k .columns)
+    (k .room, omega (arith, l, k .columns))
 
 same-length : tie.Need-same-length
 same-length c = c .before .fill .kept .0
@@ -47,9 +46,9 @@ returns c =
     let t = c .before .before .before .before in
     let a = t .before .before .before .args in
     let ok = sym (t .before .heights-fit .ensures) ∙ t .if1 .taken in
-    let k = heights-in _ _ _ _ _ ok in
-    let l = part-put (a .from) (a .from + a .n - a .from) (a .n) (a .run .now) (omega arith) (k .heights) (side (a .x) (length (a .row .now))) (a .column)
-    (at (a .row .now)) in
+    let k = heights-in _ _ _ _ _ _ ok in
+    let l = part-put (a .from) (a .from + a .n - a .from) (a .n) (a .run .now) (omega arith) (k .heights) (side (a .x) (a .w)) (a .q) (a .column)
+    (at (a .store .now)) in
     (simp ok, simp ok (c .before .fill .ensures ∙ l))
 
 returns-2 : tie.Need-returns-2

@@ -15,9 +15,9 @@ read-heights-requires : tie.Need-read-heights-requires
 read-heights-requires c κs =
     let t = c .before .before in
     let n = t .before in
-    let s = n .before .before .before in
+    let s = n .before .before in
     let f = n .are-next .ensures (t .if1 .taken) in
-    (s .pre .0, f .0, f .1, f .2, room-after (s .args .used) 2 (length (s .args .piece .now)) (s .pre .1) (f .3), f .4)
+    (s .pre .0, f .0, f .1, f .2, room-after (s .args .used) 2 (length (s .args .piece .now)) (s .pre .1) (f .3))
 
 same-length : tie.Need-same-length
 same-length c = c .before .before .read-heights .kept .1 .1 .1 .0
@@ -29,7 +29,7 @@ returns : tie.Need-returns
 returns c = c .before .before .read-heights .ensures
 
 read-byte-requires : tie.Need-read-byte-requires
-read-byte-requires c κs = c .before .before .before .before .before .before .pre
+read-byte-requires c κs = c .before .before .before .before .before .pre
 
 same-length-3 : tie.Need-same-length-3
 same-length-3 c = c .before .before .read-byte .kept .1 .1 .1 .0

@@ -145,7 +145,7 @@ returns-2 c =
     (st .pre .4) (r .read .ensures .0) (r .read .ensures .1) in
     let reply = sym (ap ofOffered (t .taken .given .1)) ∙ o .offer .ensures .0 in
     rw (c .size .ensures) (heights-on (length (a .store .now)) (length (a .row .now)) s _ _ _ _ _ run reply _ _ _ _ (st .pre .0) (st .pre .1) (st .pre .2)
-    (st .pre .6) (o .offer .kept .1 .0) (k .took .ensures) (o .offer .ensures .1 .0) (d .draw .ensures))
+    (o .offer .kept .1 .0) (k .took .ensures) (o .offer .ensures .1 .0) (d .draw .ensures))
 
 same-length-7 : tie.Need-same-length-7
 same-length-7 c =

@@ -4,8 +4,8 @@ use native.Mathlib.Omega.{arith}
 use borrow.Author.Needs.{needs}
 use borrow.Author.Tests.{not-true, not-false}
 use Rattle.lifting.specs.Grid.{side}
-use Rattle.nine_seven.specs.NineSevenFilter.{nineSevenFilter}
-use Rattle.nine_seven.proofs.NineSevenFilter.{nine-seven-laws}
+use Rattle.filters.specs.Filters.{filterOf}
+use Rattle.filters.proofs.Filters.{filter-laws}
 use Rattle.map_levels.proofs.LevelSteps.{next-side, rows-corner}
 use Rattle.map_levels.proofs.ForwardSteps.{goes-on, own-rows, forward-end, forward-step}
 use Prim.Native.Nat.{ℕ, _<_}
@@ -19,7 +19,7 @@ use Rattle.wavelet.proofs.sizes.next_start.Reads as next-start-reads
 use Rattle.map_levels.proofs.levels.goes_on.Reads as goes-on-reads
 use Rattle.map_levels.proofs.levels.save.Reads as save-reads
 use Rattle.map_levels.proofs.levels.spread.Reads as spread-reads
-use Rattle.map_levels.proofs.passes.lift_nine_seven.Reads as lift-nine-seven-reads
+use Rattle.map_levels.proofs.passes.lift_by.Reads as lift-by-reads
 use Rattle.map_levels.proofs.levels.+forward_levels.{statement}
 use Rattle.map_levels.proofs.levels.+forward_levels.Tie.{close}
 
@@ -44,8 +44,8 @@ forward-levels-below t =
 
 abbrev claims : ℕ → forward-levels-lts.Claims
 claims t = (
-  lift-nine-seven-reads.Asked,
-  lift-nine-seven-reads.Learnt,
+  lift-by-reads.Asked,
+  lift-by-reads.Learnt,
   low-count-reads.Asked,
   low-count-reads.Learnt,
   goes-on-reads.Asked,
@@ -60,8 +60,8 @@ claims t = (
   forward-levels.Post,
 )
 
-forward-levels-lift-nine-seven-requires : (t : ℕ) → forward-levels-lts.Need-lift-nine-seven-requires (claims t) (forward-levels-at t) forward-levels.Post
-forward-levels-lift-nine-seven-requires t c κs = c .before .pre .1 .0
+forward-levels-lift-by-requires : (t : ℕ) → forward-levels-lts.Need-lift-by-requires (claims t) (forward-levels-at t) forward-levels.Post
+forward-levels-lift-by-requires t c κs = c .before .pre .1 .0
 
 forward-levels-low-count-requires : (t : ℕ) → forward-levels-lts.Need-low-count-requires (claims t) (forward-levels-at t) forward-levels.Post
 forward-levels-low-count-requires t c κs = tt
@@ -84,11 +84,10 @@ forward-levels-returns t c =
     let start = lift .before .before in
     let R = start .pre .1 .0 in
     let W = side (start .args .x) (start .args .width) in
-    let F = nineSevenFilter in
-    let laws = nine-seven-laws in
+    let F = filterOf (start .args .filter) in
+    let laws = filter-laws (start .args .filter) in
     let H = side (start .args .y) (start .args .height) in (
-      forward-end F laws _ W H _ _ (R .wide) (R .apart) (lift .lift-nine-seven .ensures) _ _ _ (start .pre .1 .2) (low .low-count .ensures)
-          (low2 .low-count2 .ensures)
+      forward-end F laws _ W H _ _ (R .wide) (R .apart) (lift .lift-by .ensures) _ _ _ (start .pre .1 .2) (low .low-count .ensures) (low2 .low-count2 .ensures)
           (sym (goes .goes-on .ensures) ∙ not-true _ (c .if1 .taken)),
       record { kept = λ j b. refl },
     )
@@ -112,7 +111,7 @@ forward-levels-save-requires t c κs =
     let on = goes-on _ _ _ (sym (goes .goes-on .ensures) ∙ not-false _ (more .if1 .left)) in
     let W = side (start .args .x) (start .args .width) in
     let H = side (start .args .y) (start .args .height) in (
-      rows-corner _ _ _ W H _ _ (low .low-count .ensures) (low2 .low-count2 .ensures) (on .2) (start .pre .1 .0) (lift .lift-nine-seven .kept .0),
+      rows-corner _ _ _ W H _ _ (low .low-count .ensures) (low2 .low-count2 .ensures) (on .2) (start .pre .1 .0) (lift .lift-by .kept .0),
       own-rows _ _ W H _ _ refl (low .low-count .ensures) (low2 .low-count2 .ensures) (on .1) (on .2) (start .pre .1 .1),
     )
 
@@ -131,7 +130,7 @@ forward-levels-spread-requires t c κs =
     let W = side (start .args .x) (start .args .width) in
     let H = side (start .args .y) (start .args .height) in (
       own-rows _ _ W H _ _ (save .save .kept .1 .0) (low .low-count .ensures) (low2 .low-count2 .ensures) (on .1) (on .2) (start .pre .1 .1),
-      rows-corner _ _ _ W H _ _ (low .low-count .ensures) (low2 .low-count2 .ensures) (on .2) (start .pre .1 .0) (lift .lift-nine-seven .kept .0),
+      rows-corner _ _ _ W H _ _ (low .low-count .ensures) (low2 .low-count2 .ensures) (on .2) (start .pre .1 .0) (lift .lift-by .kept .0),
     )
 
 forward-levels-sub-forward-levels : (t : ℕ) → forward-levels-lts.Need-sub-forward-levels (claims t) (forward-levels-at t) forward-levels.Post
@@ -155,7 +154,7 @@ forward-levels-forward-levels-requires t c κs =
       omega arith,
       (
         rows-corner _ _ _ W H _ _ (low .low-count .ensures) (low2 .low-count2 .ensures) (on .2) (start .pre .1 .0)
-            (spread .spread .kept .1 .0 ∙ lift .lift-nine-seven .kept .0),
+            (spread .spread .kept .1 .0 ∙ lift .lift-by .kept .0),
         own-rows _ _ W H _ _ (save .save .kept .1 .0) (low .low-count .ensures) (low2 .low-count2 .ensures) (on .1) (on .2) (start .pre .1 .1),
         omega arith,
       ),
@@ -182,11 +181,11 @@ forward-levels-returns-2 t c =
     let start = lift .before .before in
     let on = goes-on _ _ _ (sym (goes .goes-on .ensures) ∙ not-false _ (more .if1 .left)) in
     let W = side (start .args .x) (start .args .width) in
-    let F = nineSevenFilter in
-    let laws = nine-seven-laws in
+    let F = filterOf (start .args .filter) in
+    let laws = filter-laws (start .args .filter) in
     let H = side (start .args .y) (start .args .height) in
     let R = start .pre .1 .0 in
-    forward-step F laws _ W H _ _ (R .wide) (R .apart) (lift .lift-nine-seven .ensures) _ _ _ _ _ _ _ _ _ (start .pre .1 .1) (on .0)
+    forward-step F laws _ W H _ _ (R .wide) (R .apart) (lift .lift-by .ensures) _ _ _ _ _ _ _ _ _ (start .pre .1 .1) (on .0)
     (next-side W _ _ (next .next-start .ensures) (low .low-count .ensures)) (next-side H _ _ (next2 .next-start2 .ensures) (low2 .low-count2 .ensures))
     (on .1) (on .2) (save .save .ensures) (spread .spread .ensures) (again .forward-levels .ensures .0) (again .forward-levels .ensures .1)
 
@@ -194,7 +193,7 @@ pub +forward-levels-spec : {M : Type 1} → statement M
 +forward-levels-spec = close μ-forward-levels λ t. forward-levels-lts.spec (claims t)
     (forward-levels-at t)
     forward-levels.Post
-    (forward-levels-lift-nine-seven-requires t)
+    (forward-levels-lift-by-requires t)
     (forward-levels-low-count-requires t)
     (forward-levels-low-count-requires-2 t)
     (forward-levels-goes-on-requires t)

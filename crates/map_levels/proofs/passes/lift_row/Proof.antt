@@ -1,8 +1,7 @@
 -- `passes::lift_row` meets its contract: the part lent, lifted and come back. Assumes nothing.
 use Prim.Native.Nat.{_+_, _-_, _*_}
 use native.Mathlib.Omega.{arith}
-use Rattle.lifting.specs.GridHalves.{liftedInPlace}
-use Rattle.map_levels.proofs.ForwardCalls.{changed-part}
+use Rattle.map_levels.proofs.ForwardCalls.{lifted-part}
 use borrow.Author.Needs.{needs}
 use Rattle.map_levels.proofs.passes.lift_row.Statement.{statement}
 use Rattle.map_levels.proofs.passes.lift_row.Tie as tie
@@ -37,8 +36,7 @@ returns c =
     let start = c .before .before .before in
     let args = start .args in
     let a = args .r * args .stride in
-    changed-part liftedInPlace (args .x) a (args .width) (a + args .width - a) (args .area .now) (called .last .0) (omega arith) (start .pre .1)
-    (called .kept .0)
+    lifted-part (args .x) a (args .width) (a + args .width - a) (args .area .now) (called .last .0) (omega arith) (start .pre .1) (called .kept .0)
     (called .ensures)
 
 pub lift-row-spec : {M : Type 1} → statement M

@@ -5,22 +5,25 @@ use borrow.Author.Needs.{needs}
 use Rattle.text.specs.Moves.{full, idle}
 use Rattle.text.proofs.MoveLaws.{went-not}
 use Rattle.picture.specs.Machine.{off}
-use Rattle.picture.proofs.GoneLaws.{reads-went, writes-went, reads-on, write-on}
+use Rattle.picture.proofs.GoneLaws.{read-went, writes-went, read-on, write-on}
 use Rattle.picture.proofs.rewriting.turn.Statement.{statement}
 use Rattle.picture.proofs.rewriting.turn.Tie as tie
 
 read-on-requires : tie.Need-read-on-requires
-read-on-requires c κs = (c .before .before .if1 .taken, omega (arith, c .before .if2 .taken))
+read-on-requires c κs = omega arith
+
+add-t16 : tie.Need-add-t16
+add-t16 c = omega arith
 
 same-length : tie.Need-same-length
-same-length c = c .before .before .before .read-on .kept .1 .1 .1 .0
+same-length c = c .before .before .read-on .kept .1 .1 .1 .0
 
 returns : tie.Need-returns
 returns c =
-    let d = c .before .before .before in
+    let d = c .before .before in
     let t = d .before .before in
     let s = t .before .before .before .before .before .before .before in
-    (reads-went (s .pre .1) (d .read-on .ensures), reads-on _ _ _ _ _ _ _ (d .read-on .ensures))
+    (read-went _ _ _ _ _ _ _ _ (t .before .if1 .taken) (t .if2 .taken) (s .pre .1) (d .read-on .ensures .0) (d .read-on .ensures .1), read-on _ _ _ _ _ _)
 
 write-on-requires : tie.Need-write-on-requires
 write-on-requires c κs = omega arith
@@ -53,6 +56,7 @@ turn-spec =
     tie.close
     (tie.spec
     read-on-requires
+    add-t16
     same-length
     returns
     write-on-requires

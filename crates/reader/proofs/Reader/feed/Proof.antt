@@ -1,52 +1,161 @@
--- `reader::Reader::feed` meets its contract: by its levels. Assumes nothing.
+-- `reader::Reader::feed` meets its contract: refused by a question, or fed, or ended. Assumes nothing.
+use mathlib.Core.Path.{_∙_, sym}
+use native.Mathlib.Nat.{le-trans, le-of-eq}
+use native.Mathlib.Omega.{arith}
 use lib.ListN.{length}
 use Rattle.numbers.specs.Signal.{at}
-use Rattle.reader.specs.Questions as levels
-use Rattle.reader.specs.Calls as levels-call
-use Rattle.reader.specs.Last as last
-use Rattle.reader.proofs.ByLevels.{by-none, by-some}
+use Rattle.reader.specs.State.{columns, rows}
+use Rattle.reader.specs.State as state
+use Rattle.reader.proofs.StepLaws.{near, fed-level}
+use Rattle.level.proofs.WorkLaws.{told-no, told-yes}
+use Rattle.reader.proofs.QuestionLaws.{counts-small, store-in, row-asked}
+use Rattle.reader.proofs.CallLaws.{store-14, row-14, feed-early, feed-late, feed-last, feed-no, feed-yes, feed-end}
+use Rattle.reader.proofs.CallLaws.{fits-yes, fits-no, fed-reader, zero-kept}
+use Rattle.reader.proofs.Keeps.{feed-also}
 use Rattle.reader.proofs.Reader.feed.Statement.{statement}
 use Rattle.reader.proofs.Reader.feed.Tie as tie
 
-feed-requires : tie.Need-feed-requires
-feed-requires c κs = tt
-
-same-length : tie.Need-same-length
-same-length c = c .before .feed .kept .1 .0
+store-question-requires : tie.Need-store-question-requires
+store-question-requires c κs = tt
 
 returns : tie.Need-returns
 returns c =
-    let call = c .before in
-    let t = call .before .before in
-    let a = t .before .before .args in
-    let s = a .self in
-    let x = at (a .store .now) in
+    let q = c .before .store-question .ensures in
+    let a = c .before .before .args in
+    let n = length (a .store .now) in
+    let m = length (a .run .now) in
     let v = at (a .run .now) in
-    let p = last.feedQuestion s (length (a .store .now)) (length (a .run .now)) v in
-    let q = levels.feedQuestion s (length (a .store .now)) x (length (a .run .now)) v in (
-      by-none (s .levels) (last.feedReply s) (levels-call.feedReply s) p q (t .if1 .taken) (call .feed .ensures .0),
-      by-none (s .levels) (λ i. last.feedStore s i v x) (λ i. levels-call.feedStore s i v x) p q (t .if1 .taken) (call .feed .ensures .1),
-    )
+    let x = at (a .store .now) in
+    let asked = q ∙ feed-early (a .self) n m v x (λ e. c .if1 .taken (q ∙ e)) in
+    feed-also (a .self) n m x v (feed-no (a .self) _ _ _ _ asked (c .if1 .taken) (λ e. store-14 (a .self) n m v x (sym q ∙ e)))
 
-feed-set-requires : tie.Need-feed-set-requires
-feed-set-requires c κs = tt
+next-of-requires : tie.Need-next-of-requires
+next-of-requires c κs = store-in _ _ (sym (c .before .store-question .ensures) ∙ c .if1 .left) .0
 
-same-length-2 : tie.Need-same-length-2
-same-length-2 c = c .before .feed-set .kept .1 .0
+row-question-requires : tie.Need-row-question-requires
+row-question-requires c κs =
+    let ok = c .before in
+    (store-in _ _ (sym (ok .before .store-question .ensures) ∙ ok .if1 .left) .0, c .next-of .ensures)
 
 returns-2 : tie.Need-returns-2
 returns-2 c =
-    let call = c .before in
-    let t = call .before .before in
-    let a = t .before .before .args in
-    let s = a .self in
-    let x = at (a .store .now) in
+    let r = c .before .row-question .ensures in
+    let ok = c .before .before .before in
+    let a = ok .before .before .args in
+    let n = length (a .store .now) in
+    let m = length (a .run .now) in
+    let one = sym (ok .before .store-question .ensures) ∙ ok .if1 .left in
     let v = at (a .run .now) in
-    let p = last.feedQuestion s (length (a .store .now)) (length (a .run .now)) v in
-    let q = levels.feedQuestion s (length (a .store .now)) x (length (a .run .now)) v in (
-      by-some (s .levels) (last.feedReply s) (levels-call.feedReply s) p q (t .if1 .left) (call .feed-set .ensures .0),
-      by-some (s .levels) (λ i. last.feedStore s i v x) (λ i. levels-call.feedStore s i v x) p q (t .if1 .left) (call .feed-set .ensures .1 .0),
-    )
+    let x = at (a .store .now) in
+    let asked = r ∙ feed-late (a .self) n m v x one (λ e. c .if2 .taken (r ∙ e)) in
+    feed-also (a .self) n m x v (feed-no (a .self) _ _ _ _ asked (c .if2 .taken) (λ e. row-14 (a .self) n m v x (sym r ∙ e)))
+
+completes-requires : tie.Need-completes-requires
+completes-requires c κs =
+    let next = c .before .before in
+    let ok = next .before in
+    let one = store-in _ _ (sym (ok .before .store-question .ensures) ∙ ok .if1 .left) in
+    let two = row-asked _ _ _ (sym (c .before .row-question .ensures) ∙ c .if2 .left) in
+    (one .0, next .next-of .ensures, omega (arith, next .next-of .ensures .spot .level, two .0))
+
+feed-row-requires : tie.Need-feed-row-requires
+feed-row-requires c κs =
+    let last = c .before in
+    let asked = last .before in
+    let next = asked .before .before in
+    let ok = next .before in
+    let one = store-in _ _ (sym (ok .before .store-question .ensures) ∙ ok .if1 .left) in
+    let two = row-asked _ _ _ (sym (asked .before .row-question .ensures) ∙ asked .if2 .left) in
+    (one .0, next .next-of .ensures, omega (arith, next .next-of .ensures .spot .level, two .0), last .completes .ensures, one .1, two .1)
+
+spot-fed-requires : tie.Need-spot-fed-requires
+spot-fed-requires c κs =
+    let last = c .before .before .before .before in
+    let asked = last .before in
+    let next = asked .before .before in
+    let one = store-in _ _ (sym (next .before .before .store-question .ensures) ∙ next .before .if1 .left) in
+    let two = row-asked _ _ _ (sym (asked .before .row-question .ensures) ∙ asked .if2 .left) in
+    (one .0, next .next-of .ensures, omega (arith, next .next-of .ensures .spot .level, two .0), last .completes .ensures)
+
+moved-requires : tie.Need-moved-requires
+moved-requires c κs =
+    let last = c .before .before .before .before .before in
+    let asked = last .before in
+    let next = asked .before .before in
+    let ok = next .before in
+    let s = ok .before .before .args .self in
+    let one = store-in s _ (sym (ok .before .store-question .ensures) ∙ ok .if1 .left) in
+    let deep = fed-level (s .filter) (columns s) (rows s) (s .levels) (state.next s .level) (state.next s .set) (state.next s .band)
+    (omega (arith, near s .within, one .0 .at)) in
+    (counts-small s (one .0), omega (arith, deep, c .spot-fed .ensures .level, one .0 .few))
+
+same-length : tie.Need-same-length
+same-length c = c .before .before .before .before .feed-row .kept .1 .0
+
+returns-3 : tie.Need-returns-3
+returns-3 c =
+    let there = c .before in
+    let fed = there .before in
+    let call = fed .before .before in
+    let asked = call .before .before .before in
+    let ok = asked .before .before .before in
+    let a = ok .before .before .args in
+    let n = length (a .store .now) in
+    let m = length (a .run .now) in
+    let one = sym (ok .before .store-question .ensures) ∙ ok .if1 .left in
+    let two = sym (asked .before .row-question .ensures) ∙ asked .if2 .left in
+    let made = told-yes (call .feed-row .result) (at (call .feed-row .last .1 .0)) _ (call .feed-row .ensures .0) (fed .if3 .taken) in
+    let v = at (a .run .now) in
+    let x = at (a .store .now) in
+    let goes = fed-reader (a .self) (c .moved .result) (there .spot-fed .result) (there .spot-fed .ensures) (c .moved .ensures) in
+    feed-also (a .self) n m x v (feed-yes (a .self) _ _ _ _ _ (fits-yes _ _ made ∙ feed-last (a .self) n m v x one two) goes made)
+
+over-requires : tie.Need-over-requires
+over-requires c κs =
+    let call = c .before .before .before in
+    let asked = call .before .before .before in
+    let ok = asked .before .before .before in
+    let one = store-in _ _ (sym (ok .before .store-question .ensures) ∙ ok .if1 .left) in
+    (one .0, le-trans (one .1) (le-of-eq (sym (call .feed-row .kept .1 .0))))
+
+same-length-2 : tie.Need-same-length-2
+same-length-2 c = let ended = c .before in ended .over .kept .1 .0 ∙ ended .before .before .before .before .feed-row .kept .1 .0
+
+returns-4 : tie.Need-returns-4
+returns-4 c =
+    let ended = c .before in
+    let failed = ended .before .before in
+    let call = failed .before .before in
+    let asked = call .before .before .before in
+    let ok = asked .before .before .before in
+    let a = ok .before .before .args in
+    let s = a .self in
+    let n = length (a .store .now) in
+    let m = length (a .run .now) in
+    let one = sym (ok .before .store-question .ensures) ∙ ok .if1 .left in
+    let two = sym (asked .before .row-question .ensures) ∙ asked .if2 .left in
+    let y = at (call .feed-row .last .1 .0) in
+    let made = told-no (call .feed-row .result) y _ (call .feed-row .ensures .0) (failed .if3 .left) in
+    let v = at (a .run .now) in
+    let x = at (a .store .now) in
+    let zeros = zero-kept (s .filter) (columns s) (s .levels) x y _ (call .feed-row .ensures .1) (ended .over .ensures .1) in
+    feed-also (a .self) n m x v (feed-end s _ _ _ _ _ (fits-no _ made ∙ feed-last s n m v x one two) (ended .over .ensures .0) zeros)
 
 pub feed-spec : {M : Type 1} → statement M
-feed-spec = tie.close (tie.spec feed-requires same-length returns feed-set-requires same-length-2 returns-2)
+feed-spec =
+    tie.close
+    (tie.spec
+    store-question-requires
+    returns
+    next-of-requires
+    row-question-requires
+    returns-2
+    completes-requires
+    feed-row-requires
+    spot-fed-requires
+    moved-requires
+    same-length
+    returns-3
+    over-requires
+    same-length-2
+    returns-4)

@@ -2,7 +2,7 @@
 use mathlib.Core.Path.{refl}
 use native.Mathlib.Omega.{arith}
 use lib.ListN.{length}
-use Rattle.reader.proofs.CallLaws.{drawn-reader, enter-is, row-counts, row-after, row-moves, row-places, row-long, row-handed}
+use Rattle.reader.proofs.CallLaws.{drawn-reader, enter-is, row-counts, row-after, row-moves, row-places, row-handed}
 use Rattle.reader.proofs.Reader.hand_out.Statement.{statement}
 use Rattle.reader.proofs.Reader.hand_out.Tie as tie
 
@@ -18,37 +18,32 @@ add-e c =
     let p = start .pre in
     row-places (start .args .self) (p .0) (p .1) (length (start .args .store .now)) (c .row-place .result) (p .2) (c .row-place .ensures .1) .0
 
-mul-draw-row : tie.Need-mul-draw-row
-mul-draw-row c =
+mul-draw-heights : tie.Need-mul-draw-heights
+mul-draw-heights c =
     let start = c .before .before .before .before in
     let p = start .pre in
     row-places (start .args .self) (p .0) (p .1) (length (start .args .store .now)) (c .row-place .result) (p .2) (c .row-place .ensures .1) .1
 
-sub-draw-row : tie.Need-sub-draw-row
-sub-draw-row c =
+sub-draw-heights : tie.Need-sub-draw-heights
+sub-draw-heights c =
     let start = c .before .before .before .before in
     let p = start .pre in
     row-places (start .args .self) (p .0) (p .1) (length (start .args .store .now)) (c .row-place .result) (p .2) (c .row-place .ensures .1) .2
 
-part-draw-row-start : tie.Need-part-draw-row-start
-part-draw-row-start c =
+part-draw-heights-start : tie.Need-part-draw-heights-start
+part-draw-heights-start c =
     let start = c .before .before .before .before in
     let p = start .pre in
     row-places (start .args .self) (p .0) (p .1) (length (start .args .store .now)) (c .row-place .result) (p .2) (c .row-place .ensures .1) .2
 
-part-draw-row-end : tie.Need-part-draw-row-end
-part-draw-row-end c =
+part-draw-heights-end : tie.Need-part-draw-heights-end
+part-draw-heights-end c =
     let start = c .before .before .before .before in
     let p = start .pre in
     row-places (start .args .self) (p .0) (p .1) (length (start .args .store .now)) (c .row-place .result) (p .2) (c .row-place .ensures .1) .3
 
-draw-row-requires : tie.Need-draw-row-requires
-draw-row-requires c κs =
-    let place = c .before .before in
-    let start = place .before .before .before .before in
-    let p = start .pre in
-    row-long (start .args .self) (p .0) (p .1) (place .row-place .result) (length (start .args .out .now)) (start .args .store .now) (p .2) (p .3)
-    (place .row-place .ensures .1)
+draw-heights-requires : tie.Need-draw-heights-requires
+draw-heights-requires c κs = tt
 
 add-d : tie.Need-add-d
 add-d c =
@@ -66,7 +61,7 @@ moved-requires c κs =
     row-moves (start .args .self) (start .pre .0) (start .pre .1) _ (c .dive-from .result) (omega arith) (c .dive-from .ensures)
 
 same-length : tie.Need-same-length
-same-length c = c .before .before .before .before .before .draw-row .kept .1 .1 .1 .0
+same-length c = c .before .before .before .before .before .draw-heights .kept .1 .1 .0
 
 returns : tie.Need-returns
 returns c =
@@ -78,8 +73,8 @@ returns c =
     let s = a .self in
     let p = start .pre in (
       drawn-reader s (c .moved .result) _ (enter .dive-from .result) refl (enter-is _ _ _ _ _ _ (enter .dive-from .ensures)) (c .moved .ensures),
-      row-handed s (p .0) (p .1) (place .row-place .result) (a .store .now) _ _ (p .2) (place .row-place .ensures .0)
-          (place .row-place .ensures .1) (drawing .draw-row .ensures),
+      row-handed s (p .0) (p .1) (place .row-place .result) (length (a .out .now)) (a .store .now) _ _ (p .2) (p .3) (place .row-place .ensures .0)
+          (place .row-place .ensures .1) (drawing .draw-heights .ensures .1),
     )
 
 pub hand-out-spec : {M : Type 1} → statement M
@@ -89,11 +84,11 @@ hand-out-spec =
     add-row-place
     row-place-requires
     add-e
-    mul-draw-row
-    sub-draw-row
-    part-draw-row-start
-    part-draw-row-end
-    draw-row-requires
+    mul-draw-heights
+    sub-draw-heights
+    part-draw-heights-start
+    part-draw-heights-end
+    draw-heights-requires
     add-d
     dive-from-requires
     moved-requires

@@ -9,7 +9,7 @@ zero-requires : tie.Need-zero-requires
 zero-requires c κs = let start = c .before in (counts-streams (start .args .self) (start .pre .0), start .pre .1)
 
 same-length : tie.Need-same-length
-same-length c = c .before .zero .kept .1 .1 .1 .1 .1 .0
+same-length c = c .before .zero .kept .1 .1 .1 .1 .0
 
 returns : tie.Need-returns
 unfolding endedReader

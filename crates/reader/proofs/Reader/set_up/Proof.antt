@@ -49,25 +49,38 @@ store-length-requires c κs = tt
 clear-requires : tie.Need-clear-requires
 clear-requires c κs = tt
 
-begun-requires : tie.Need-begun-requires
-begun-requires c κs =
+dive-from-requires : tie.Need-dive-from-requires
+dive-from-requires c κs =
     let passed = c .before .before .before .before in
     let a = passed .before .before .before .before .before .args in
     let ok = up-in (a .map .filter) (side (a .map .x) (a .map .width)) (side (a .map .y) (a .map .height)) (a .map .levels) _
     (sym (passed .before .set-up-question .ensures) ∙ passed .if1 .left) in
     let w = within-true 1 maxWidth (a .map .width) (ok .0) in
     let l = within-true 1 (filterOf (a .map .filter) .levels) (a .map .levels) (ok .1) in
-    let h = within-true 1 maxHeight (a .map .height) (ok .3) in (
+    let h = within-true 1 maxHeight (a .map .height) (ok .3) in
+    (omega arith, omega (arith, l .1, levels-most (a .map .filter)), omega (arith, w .1, width-small), omega (arith, h .1, height-small), omega arith)
+
+moved-requires : tie.Need-moved-requires
+moved-requires c κs =
+    let passed = c .before .before .before .before .before in
+    let a = passed .before .before .before .before .before .args in
+    let ok = up-in (a .map .filter) (side (a .map .x) (a .map .width)) (side (a .map .y) (a .map .height)) (a .map .levels) _
+    (sym (passed .before .set-up-question .ensures) ∙ passed .if1 .left) in
+    let w = within-true 1 maxWidth (a .map .width) (ok .0) in
+    let l = within-true 1 (filterOf (a .map .filter) .levels) (a .map .levels) (ok .1) in
+    let h = within-true 1 maxHeight (a .map .height) (ok .3) in
+    let deep = dive-level (a .map .filter) (a .map .levels - 0) 0 (side (a .map .x) (a .map .width)) (side (a .map .y) (a .map .height)) 0 0 in (
       (omega (arith, w .1, width-small), omega arith, omega (arith, h .1, height-small), omega arith, omega arith),
-      omega (arith, l .1, levels-most (a .map .filter)),
+      omega (arith, l .1, levels-most (a .map .filter), deep, c .dive-from .ensures .level),
     )
 
 same-length : tie.Need-same-length
-same-length c = c .before .before .clear .kept .0
+same-length c = c .before .before .before .clear .kept .0
 
 returns-2 : tie.Need-returns-2
 returns-2 c =
-    let call = c .before .before in
+    let dive = c .before in
+    let call = dive .before .before in
     let long = call .before .before in
     let passed = long .before in
     let a = passed .before .before .before .before .before .args in
@@ -77,8 +90,24 @@ returns-2 c =
     let ok = up-in _ W H (a .map .levels) _ asked in
     let n = long .store-length .ensures ∙ length-is _ W (a .map .levels) (ok .4) (ok .0) (ok .1) in
     let room = le-leb (long .store-length .result) (length (a .store .now)) (omega (arith, ok .2, n)) in
+    let s : Reader = record {
+      width = a .map .width;
+      height = a .map .height;
+      levels = a .map .levels;
+      x = a .map .x;
+      y = a .map .y;
+      drawn = 0;
+      level = 0;
+      back = 0;
+      band = 0;
+      ended = false;
+      filter = a .map .filter;
+    } in
+    let there = fresh-at _ W H (a .map .levels) s (c .moved .result) (dive .dive-from .result)
+    (enter-is _ W H (a .map .levels) 0 _ (dive .dive-from .ensures)) refl refl
+    refl refl (c .moved .ensures) in
     set-up-also _ W H (a .map .levels) (length (a .store .now)) (at (a .store .now))
-    (set-up-yes _ W H (a .map .levels) _ _ _ _ _ (c .begun .ensures) asked n (did _ _ _ _ room (call .clear .ensures .1)))
+    (set-up-yes _ W H (a .map .levels) _ _ _ _ _ there asked n (did _ _ _ _ room (call .clear .ensures .1)))
 
 pub set-up-spec : {M : Type 1} → statement M
 set-up-spec =
@@ -91,6 +120,7 @@ set-up-spec =
     returns
     store-length-requires
     clear-requires
-    begun-requires
+    dive-from-requires
+    moved-requires
     same-length
     returns-2)

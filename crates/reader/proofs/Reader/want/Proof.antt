@@ -1,26 +1,94 @@
--- `reader::Reader::want` meets its contract: by its levels. Assumes nothing.
-use Rattle.reader.specs.Questions as levels
-use Rattle.reader.specs.Calls as levels-call
-use Rattle.reader.specs.Last as last
-use Rattle.reader.proofs.ByLevels.{by-none, by-some}
+-- `reader::Reader::want` meets its contract: the definition's tests, in its order. Assumes nothing.
+use mathlib.Core.Path.{_∙_, sym, refl}
+use native.Mathlib.Omega.{arith}
+use borrow.Author.Tests.{not-true, not-false}
+use Rattle.reader.proofs.QuestionLaws.{counts-in}
+use Rattle.reader.specs.State.{columns, rows, next}
+use Rattle.reader.proofs.WalkLaws.{up-next}
+use Rattle.reader.proofs.CallLaws.{want-no, want-yes, wants-ended, wants-done, wants-top}
 use Rattle.reader.proofs.Reader.want.Statement.{statement}
 use Rattle.reader.proofs.Reader.want.Tie as tie
 
-want-requires : tie.Need-want-requires
-want-requires c κs = tt
+counts-fit-requires : tie.Need-counts-fit-requires
+counts-fit-requires c κs = tt
 
 returns : tie.Need-returns
-returns c =
-    let s = c .before .before .before .args .self in
-    by-none (s .levels) (last.wantReply s) (levels-call.wantReply s) (last.wantQuestion s) (levels.wantQuestion s) (c .before .if1 .taken) (c .want .ensures)
-
-want-row-requires : tie.Need-want-row-requires
-want-row-requires c κs = tt
+returns c = want-no _ (sym (c .before .counts-fit .ensures) ∙ not-true _ (c .if1 .taken))
 
 returns-2 : tie.Need-returns-2
 returns-2 c =
-    let s = c .before .before .before .args .self in
-    by-some (s .levels) (last.wantReply s) (levels-call.wantReply s) (last.wantQuestion s) (levels.wantQuestion s) (c .before .if1 .left) (c .want-row .ensures)
+    let fit = c .before in
+    want-yes _ _ (sym (fit .before .counts-fit .ensures) ∙ not-false _ (fit .if1 .left)) (wants-ended _ (c .if2 .taken))
+
+returns-3 : tie.Need-returns-3
+returns-3 c =
+    let live = c .before .before in
+    let fit = live .before in
+    want-yes _ _ (sym (fit .before .counts-fit .ensures) ∙ not-false _ (fit .if1 .left)) (wants-done _ (live .if2 .left) (c .if3 .taken))
+
+returns-4 : tie.Need-returns-4
+returns-4 c =
+    let live = c .before .before .before .before in
+    let fit = live .before in
+    want-yes _ _ (sym (fit .before .counts-fit .ensures) ∙ not-false _ (fit .if1 .left)) (wants-top _ (c .if4 .taken) (live .if2 .left) (omega arith))
+
+own-level-requires : tie.Need-own-level-requires
+own-level-requires c κs =
+    let fit = c .before .before .before .before .before in
+    (counts-in _ (sym (fit .before .counts-fit .ensures) ∙ not-false _ (fit .if1 .left)), omega arith)
+
+own-band-requires : tie.Need-own-band-requires
+own-band-requires c κs =
+    let fit = c .before .before .before .before .before .before in
+    (counts-in _ (sym (fit .before .counts-fit .ensures) ∙ not-false _ (fit .if1 .left)), omega arith, c .own-level .ensures)
+
+told-requires : tie.Need-told-requires
+told-requires c κs =
+    let band = c .before in
+    let level = band .before in
+    let live = level .before .before .before .before .before in
+    let s = live .before .before .before .args .self in (
+      up-next _ (columns s) (rows s) (s .levels) (s .drawn) (next s) (s .level) (band .own-band .result) (level .own-level .result)
+          (level .own-level .ensures .0)
+          (band .own-band .ensures (c .if5 .taken)),
+      live .if2 .left,
+      omega arith,
+    )
+
+returns-5 : tie.Need-returns-5
+returns-5 c =
+    let fit = c .before .before .before .before .before .before .before .before .before in
+    c .told .ensures ∙ want-yes _ _ (sym (fit .before .counts-fit .ensures) ∙ not-false _ (fit .if1 .left)) refl
+
+next-from-requires : tie.Need-next-from-requires
+next-from-requires c κs =
+    let level = c .before .before in
+    let fit = level .before .before .before .before .before .before in
+    (counts-in _ (sym (fit .before .counts-fit .ensures) ∙ not-false _ (fit .if1 .left)), omega arith, level .own-level .ensures)
+
+told-requires-2 : tie.Need-told-requires-2
+told-requires-2 c κs =
+    let live = c .before .before .before .before .before .before .before .before in
+    (c .next-from .ensures, live .if2 .left, omega arith)
+
+returns-6 : tie.Need-returns-6
+returns-6 c =
+    let fit = c .before .before .before .before .before .before .before .before .before .before in
+    c .told2 .ensures ∙ want-yes _ _ (sym (fit .before .counts-fit .ensures) ∙ not-false _ (fit .if1 .left)) refl
 
 pub want-spec : {M : Type 1} → statement M
-want-spec = tie.close (tie.spec want-requires returns want-row-requires returns-2)
+want-spec =
+    tie.close
+    (tie.spec
+    counts-fit-requires
+    returns
+    returns-2
+    returns-3
+    returns-4
+    own-level-requires
+    own-band-requires
+    told-requires
+    returns-5
+    next-from-requires
+    told-requires-2
+    returns-6)

@@ -13,13 +13,6 @@ use Rattle.reader.proofs.KeptLaws.{part-kept}
 use Rattle.reader.proofs.walk.work_at.Statement.{statement}
 use Rattle.reader.proofs.walk.work_at.Tie as tie
 
-add-level : tie.Need-add-level
-add-level c =
-    let a = c .args in
-    let p = c .pre in
-    work-places (a .filter) (a .base) (side (a .x) (a .width)) (side (a .y) (a .height)) (a .levels) (a .drawn) (a .k) (a .l) (a .store .now) (p .3)
-    (p .0 .0, p .0 .2) (p .1) (p .2) (p .4) .3
-
 is-there-requires : tie.Need-is-there-requires
 is-there-requires c κs = let p = c .pre in level-in _ _ _ _ _ (c .args .l) (p .3) (p .0 .0) (p .0 .2) .2
 
@@ -28,18 +21,15 @@ returns c =
     let asked = c .before in
     let start = asked .before in
     let a = start .args in
-    let none = sym (asked .is-there .ensures (a .l .x)) ∙ not-true _ (c .if1 .taken) in (
-      work-none (a .filter) (a .base) (side (a .x) (a .width)) (side (a .y) (a .height)) (a .levels) (a .drawn) (a .k) (a .l) _ (start .pre .3) none,
-      kept-none
-          _ _,
-    )
+    let none = sym (asked .is-there .ensures (a .l .x)) ∙ not-true _ (c .if1 .taken) in
+    (work-none (a .filter) (side (a .x) (a .width)) (side (a .y) (a .height)) (a .levels) (a .drawn) (a .k) (a .l) _ (start .pre .3) none, kept-none _ _)
 
 mul-work-set : tie.Need-mul-work-set
 mul-work-set c =
     let start = c .before .before in
     let a = start .args in
     let p = start .pre in
-    work-places (a .filter) (a .base) (side (a .x) (a .width)) (side (a .y) (a .height)) (a .levels) (a .drawn) (a .k) (a .l) (a .store .now) (p .3)
+    work-places (a .filter) (side (a .x) (a .width)) (side (a .y) (a .height)) (a .levels) (a .drawn) (a .k) (a .l) (a .store .now) (p .3)
     (p .0 .0, p .0 .2) (p .1) (p .2) (p .4) .0
 
 sub-work-set : tie.Need-sub-work-set
@@ -47,7 +37,7 @@ sub-work-set c =
     let start = c .before .before in
     let a = start .args in
     let p = start .pre in
-    work-places (a .filter) (a .base) (side (a .x) (a .width)) (side (a .y) (a .height)) (a .levels) (a .drawn) (a .k) (a .l) (a .store .now) (p .3)
+    work-places (a .filter) (side (a .x) (a .width)) (side (a .y) (a .height)) (a .levels) (a .drawn) (a .k) (a .l) (a .store .now) (p .3)
     (p .0 .0, p .0 .2) (p .1) (p .2) (p .4) .1
 
 part-work-set-start : tie.Need-part-work-set-start
@@ -55,7 +45,7 @@ part-work-set-start c =
     let start = c .before .before in
     let a = start .args in
     let p = start .pre in
-    work-places (a .filter) (a .base) (side (a .x) (a .width)) (side (a .y) (a .height)) (a .levels) (a .drawn) (a .k) (a .l) (a .store .now) (p .3)
+    work-places (a .filter) (side (a .x) (a .width)) (side (a .y) (a .height)) (a .levels) (a .drawn) (a .k) (a .l) (a .store .now) (p .3)
     (p .0 .0, p .0 .2) (p .1) (p .2) (p .4) .1
 
 part-work-set-end : tie.Need-part-work-set-end
@@ -66,7 +56,7 @@ add-work-set c =
     let start = c .before .before .before in
     let a = start .args in
     let p = start .pre in
-    work-places (a .filter) (a .base) (side (a .x) (a .width)) (side (a .y) (a .height)) (a .levels) (a .drawn) (a .k) (a .l) (a .store .now) (p .3)
+    work-places (a .filter) (side (a .x) (a .width)) (side (a .y) (a .height)) (a .levels) (a .drawn) (a .k) (a .l) (a .store .now) (p .3)
     (p .0 .0, p .0 .2) (p .1) (p .2) (p .4) .2
 
 work-set-requires : tie.Need-work-set-requires
@@ -90,7 +80,7 @@ returns-2 c =
     let W = side (a .x) (a .width) in
     let H = side (a .y) (a .height) in
     let there = sym (on .before .is-there .ensures (l .x)) ∙ not-false _ (on .if1 .left) in (
-      work-done (a .filter) (a .base) W H (a .levels) (a .drawn) (a .k) l s (p .3) (p .0 .0, p .0 .2) (p .1) (p .2) (p .4) (call .work-set .last .0)
+      work-done (a .filter) W H (a .levels) (a .drawn) (a .k) l s (p .3) (p .0 .0, p .0 .2) (p .1) (p .2) (p .4) (call .work-set .last .0)
           (eqb (call .work-set .result) 0) there (call .work-set .kept .0) (call .work-set .ensures .1 .0),
       part-kept (a .filter) W H (a .drawn) (a .k) (a .levels) l (p .3) s (call .work-set .last .0) (p .2) (p .4) (call .work-set .kept .0)
           (call .work-set .ensures .1 .1 .0),
@@ -100,7 +90,6 @@ pub work-at-spec : {M : Type 1} → statement M
 work-at-spec =
     tie.close
     (tie.spec
-    add-level
     is-there-requires
     returns
     mul-work-set

@@ -1,8 +1,6 @@
 -- `reader::walk::zero` meets its contract: the needed part cleared. Assumes nothing.
 use mathlib.Core.Path.{_∙_, ap}
 use mathlib.Core.Bool.{Bool}
-use Prim.Native.Nat.{ℕ, _+_}
-use native.Mathlib.Omega.{arith}
 use lib.ListN.{length}
 use Rattle.numbers.specs.Signal.{pick}
 use Rattle.lifting.specs.Grid.{side}
@@ -13,14 +11,6 @@ use Rattle.reader.proofs.walk.zero.Tie as tie
 
 store-length-requires : tie.Need-store-length-requires
 store-length-requires c κs = tt
-
-add-n : tie.Need-add-n
-add-n c =
-    let start = c .before in
-    let a = start .args in
-    let N = storeBy (a .filter) (side (a .x) (a .width)) (a .levels) in
-    let e = c .store-length .ensures ∙ ap (λ (b : Bool). pick b N 0) (start .pre .0) in
-    omega (arith, e, start .pre .1)
 
 clear-requires : tie.Need-clear-requires
 clear-requires c κs = tt
@@ -35,8 +25,8 @@ returns c =
     let start = long .before in
     let a = start .args in
     let N = storeBy (a .filter) (side (a .x) (a .width)) (a .levels) in
-    zero-front (a .spare + N) _ (length (a .store .now)) _ _
-    (ap (λ (n : ℕ). a .spare + n) (long .store-length .ensures ∙ ap (λ (b : Bool). pick b N 0) (start .pre .0))) (start .pre .1) (clear .clear .ensures .1)
+    zero-front (a .filter) (side (a .x) (a .width)) (a .levels) (long .store-length .result) (length (a .store .now)) _ _
+    (long .store-length .ensures ∙ ap (λ (b : Bool). pick b N 0) (start .pre .0)) (start .pre .1) (clear .clear .ensures .1)
 
 pub zero-spec : {M : Type 1} → statement M
-zero-spec = tie.close (tie.spec store-length-requires add-n clear-requires same-length returns)
+zero-spec = tie.close (tie.spec store-length-requires clear-requires same-length returns)

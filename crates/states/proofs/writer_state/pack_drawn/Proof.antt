@@ -25,12 +25,6 @@ element-write-s-3 c = search needs
 element-write-s-4 : tie.Need-element-write-s-4
 element-write-s-4 c = search needs
 
-element-write-s-5 : tie.Need-element-write-s-5
-element-write-s-5 c = search needs
-
-element-write-s-6 : tie.Need-element-write-s-6
-element-write-s-6 c = search needs
-
 enum-told : tie.Need-enum-told
 enum-told c = search needs
 
@@ -86,8 +80,6 @@ pack-drawn-spec =
     element-write-s-2
     element-write-s-3
     element-write-s-4
-    element-write-s-5
-    element-write-s-6
     enum-told
     enum-known-answer-2
     cast-result

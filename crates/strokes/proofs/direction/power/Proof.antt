@@ -1,21 +1,23 @@
--- `direction::power` meets its contract: of so few levels no bit is shifted out. Assumes nothing.
-use Prim.Native.Nat.{_^_, _≤_}
-use native.Mathlib.Nat.{pow-le-pow-right}
+-- `direction::power` meets its contract: case by case. Assumes nothing.
+use mathlib.Core.Path.{_≡_, refl}
 use native.Mathlib.Omega.{arith}
-use Rattle.wavelet.specs.Limits.{maxLevels}
-use Rattle.wavelet.proofs.LimitLaws.{unit-small}
 use Rattle.strokes.proofs.direction.power.Statement.{statement}
 use Rattle.strokes.proofs.direction.power.Tie as tie
 
-shl-result : tie.Need-shl-result
-unfolding maxLevels
-shl-result c = omega arith
-
 returns : tie.Need-returns
-returns c =
-    let small = unit-small (c .args .levels) (c .pre .1) in
-    let two : 2 ^ 1 ≤ 2 ^ c .args .levels = pow-le-pow-right {n = 2} (omega arith) (c .pre .0) in
-    (omega arith, omega arith, omega arith)
+returns c = let e : c .before .args .levels ≡ 1 = omega arith in rw e (refl, omega arith, omega arith)
+
+returns-2 : tie.Need-returns-2
+returns-2 c = let e : c .before .args .levels ≡ 2 = omega arith in rw e (refl, omega arith, omega arith)
+
+returns-3 : tie.Need-returns-3
+returns-3 c = let e : c .before .args .levels ≡ 3 = omega arith in rw e (refl, omega arith, omega arith)
+
+returns-4 : tie.Need-returns-4
+returns-4 c = let e : c .before .args .levels ≡ 4 = omega arith in rw e (refl, omega arith, omega arith)
+
+returns-5 : tie.Need-returns-5
+returns-5 c = let e : c .before .args .levels ≡ 5 = omega arith in rw e (refl, omega arith, omega arith)
 
 pub power-spec : {M : Type 1} → statement M
-power-spec = tie.close (tie.spec shl-result returns)
+power-spec = tie.close (tie.spec returns returns-2 returns-3 returns-4 returns-5)

@@ -9,10 +9,11 @@ lift-columns-requires : tie.Need-lift-columns-requires
 lift-columns-requires c κs = c .before .pre .0
 
 lift-rows-requires : tie.Need-lift-rows-requires
-lift-rows-requires c κs =
-    let columns = c .before .before in
-    let p = columns .before .before .pre in
-    (rows-kept (columns .lift-columns .kept .0) (p .0), p .1, p .2, p .3)
+lift-rows-requires c κs = (
+  rows-kept (c .before .before .lift-columns .kept .0)
+      (c .before .before .before .before .pre .0),
+  c .before .before .before .before .pre .1,
+)
 
 same-length : tie.Need-same-length
 same-length c = search needs
@@ -23,7 +24,7 @@ returns c =
     let columns = rows .before .before .before in
     let start = columns .before .before in
     let a = start .args in
-    lifted (a .stride) (a .width) (a .rows) _ _ _ (start .pre .0 .apart) (start .pre .0 .wide) (columns .lift-columns .ensures) (rows .lift-rows .ensures)
+    lifted (a .stride) (a .width) (a .height) _ _ _ (start .pre .0 .apart) (start .pre .0 .wide) (columns .lift-columns .ensures) (rows .lift-rows .ensures)
 
 pub lift-level-spec : {M : Type 1} → statement M
 lift-level-spec = tie.close (tie.spec lift-columns-requires lift-rows-requires same-length returns)

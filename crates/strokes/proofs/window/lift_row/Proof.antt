@@ -6,16 +6,13 @@ use lib.ListN.{length}
 use borrow.Author.Tests.{le-leb}
 use Rattle.numbers.specs.Signal.{at}
 use Rattle.areas.proofs.AreaLaws.{did}
-use Rattle.strokes.proofs.RowCalls.{forward-through, row-left, row-used}
+use Rattle.strokes.proofs.RowCalls.{forward-through}
 use borrow.Author.Needs.{needs}
 use Rattle.strokes.proofs.window.lift_row.Statement.{statement}
 use Rattle.strokes.proofs.window.lift_row.Tie as tie
 
-returns : tie.Need-returns
-returns c = let a = c .before .args in row-left (length (a .row .now)) (at (a .row .now)) (a .used) (c .if1 .taken)
-
 copy-requires : tie.Need-copy-requires
-copy-requires c κs = tt
+copy-requires c κs = search needs
 
 sub-forward : tie.Need-sub-forward
 sub-forward c = search needs
@@ -27,7 +24,7 @@ part-forward-end : tie.Need-part-forward-end
 part-forward-end c = search needs
 
 forward-requires : tie.Need-forward-requires
-forward-requires c κs = tt
+forward-requires c κs = search needs
 
 same-length : tie.Need-same-length
 same-length c = search needs
@@ -35,22 +32,19 @@ same-length c = search needs
 same-length-2 : tie.Need-same-length-2
 same-length-2 c = search needs
 
-returns-2 : tie.Need-returns-2
-returns-2 c =
+returns : tie.Need-returns
+returns c =
     let call = c .before .before .before .before .before .before in
-    let went = call .before .before .before in
-    let start = went .before in
+    let start = call .before .before .before in
     let row = start .args .row .now in
     let n = length row in
-    row-used n _ (at row) (start .args .used) (went .if1 .left)
-    (forward-through n (n - 0) n _ (at row) _ (call .copy .last .1 .0) (omega arith) (omega (arith, call .copy .kept .1 .0, start .pre)) refl
-    (did _ _ _ _ (le-leb n (length (start .args .other .now)) (start .pre)) (call .copy .ensures .1)) (c .before .forward .ensures .1))
+    forward-through n (n - 0) n _ (at row) _ (call .copy .last .1 .0) (omega arith) (omega (arith, call .copy .kept .1 .0, start .pre)) refl
+    (did _ _ _ _ (le-leb n (length (start .args .other .now)) (start .pre)) (call .copy .ensures .1)) (c .before .forward .ensures .1)
 
 pub lift-row-spec : {M : Type 1} → statement M
 lift-row-spec =
     tie.close
     (tie.spec
-    returns
     copy-requires
     sub-forward
     part-forward-start
@@ -58,4 +52,4 @@ lift-row-spec =
     forward-requires
     same-length
     same-length-2
-    returns-2)
+    returns)

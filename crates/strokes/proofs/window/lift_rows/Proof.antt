@@ -1,39 +1,34 @@
 -- `window::lift_rows` meets its contract: a pass over the rows, each lent as a part. Assumes nothing.
 use mathlib.Core.Path.{_≡_, refl, sym, _∙_}
-use Prim.Native.Nat.{_+_, _-_, _*_, _^_, _≤_}
+use Prim.Native.Nat.{_+_, _-_, _*_, _≤_}
 use native.Mathlib.Omega.{arith}
 use lib.ListN.{length}
 use Rattle.numbers.specs.Signal.{at}
 use Rattle.wavelet.specs.Limits.{maxWidth}
 use Rattle.wavelet.specs.Plane.{cells}
-use Rattle.map_levels.proofs.GridSweep.{Passed, pass-start, pass-room, pass-end, row-length}
-use Rattle.strokes.specs.Local.{rowsDone}
-use Rattle.strokes.proofs.RowCalls.{used-turn, rows-past}
+use Rattle.map_levels.specs.Passes.{rowsMapped}
+use Rattle.map_levels.proofs.GridSweep.{Passed, pass-start, pass-room, pass-end, row-length, map-turn, mapped-past}
+use Rattle.strokes.specs.Local.{rowDone}
 use Rattle.strokes.proofs.window.lift_rows.Statement.{statement}
 use Rattle.strokes.proofs.window.lift_rows.Tie as tie
 
 abbrev Inv-loop : tie.InvT-loop
-Inv-loop area₀ stride width rows other₀ height r₀ area other r =
+Inv-loop area₀ stride width height other₀ r₀ area other r =
     (r ≤ height)
     × (width ≤ maxWidth)
     × (length other ≡ maxWidth)
-    × Passed stride width (rows .size) (rowsDone width rows (cells stride (at area₀))) area₀ r area
-    × (height ≡ rows .size)
-    × (rows .start + rows .size ≤ 2 ^ 32)
-    × (rows .last ≤ 2 ^ 32)
+    × Passed stride width height (rowsMapped (rowDone width) width height (cells stride (at area₀))) area₀ r area
 
 abbrev μ-loop : tie.MeasureT-loop
-μ-loop area₀ stride width rows other₀ height r₀ area other r = height - r
+μ-loop area₀ stride width height other₀ r₀ area other r = height - r
 
 loop-holds : tie.Need-loop-holds Inv-loop μ-loop
 unfolding maxWidth
-loop-holds c =
-    let p = c .pre in
-    (omega arith, p .1, refl, pass-start _ _ _ _ _ 0 (p .0) (λ r k lt. absurd (omega arith)), refl, p .2, p .3)
+loop-holds c = (omega arith, c .pre .1, refl, pass-start _ _ _ _ _ 0 (c .pre .0) (λ r k lt. absurd (omega arith)))
 
 room : (c : tie.In-loop Inv-loop μ-loop) → c .before .loop .r * c .before .before .args .stride + c .before .before .args .width ≤ length
     (c .before .loop .area)
-room c = pass-room (c .before .loop .inv .3) (omega (arith, c .loop-test .taken, c .before .loop .inv .4))
+room c = pass-room (c .before .loop .inv .3) (c .loop-test .taken)
 
 mul-a : tie.Need-mul-a Inv-loop μ-loop
 mul-a c = omega (arith, room c)
@@ -57,19 +52,14 @@ slice-aggregate-lift-row : tie.Need-slice-aggregate-lift-row Inv-loop μ-loop
 unfolding maxWidth
 slice-aggregate-lift-row c = sym (c .before .before .before .loop .inv .2)
 
-is-used-requires : tie.Need-is-used-requires Inv-loop μ-loop
-is-used-requires c κs =
-    let inv = c .before .before .before .loop .inv in
-    (omega (arith, c .before .before .loop-test .taken, inv .4, inv .5), omega (arith, inv .6))
-
 lift-row-requires : tie.Need-lift-row-requires Inv-loop μ-loop
 lift-row-requires c κs =
-    let head = c .before .before .before .before in
+    let head = c .before .before .before in
     let a = head .loop .r * head .before .args .stride in
     omega (
       arith,
-      row-length _ _ _ _ _ _ (a + head .before .args .width - a) _ (omega arith)
-          (omega (arith, c .before .before .before .loop-test .taken, head .loop .inv .4)) (head .loop .inv .3),
+      row-length _ _ _ _ _ _ (a + head .before .args .width - a) _ (omega arith) (c .before .before .loop-test .taken)
+          (head .loop .inv .3),
       head .loop .inv .2,
       head .loop .inv .1,
     )
@@ -83,26 +73,22 @@ loop-less c = omega arith
 loop-again : tie.Need-loop-again Inv-loop μ-loop
 loop-again c =
     let part = c .before .before .lift-row in
-    let used = c .before .before .before in
-    let row = used .before .before .before in
+    let row = c .before .before .before .before .before in
     let head = row .before in
     let args = head .before .args in
     let a = head .loop .r * args .stride in (
       omega arith,
       head .loop .inv .1,
       part .kept .1 .0 ∙ head .loop .inv .2,
-      used-turn _ _ (args .rows) _ _ (a + args .width - a) _ (part .last .0) _ (omega arith) (omega (arith, row .loop-test .taken, head .loop .inv .4))
-          (used .is-used .ensures) (part .kept .0) (part .ensures) (head .loop .inv .3),
-      head .loop .inv .4,
-      head .loop .inv .5,
-      head .loop .inv .6,
+      map-turn rowDone _ _ _ _ _ (a + args .width - a) _ (part .last .0) (omega arith) (row .loop-test .taken) (part .kept .0)
+          (part .ensures) (head .loop .inv .3),
     )
 
 same-length : tie.Need-same-length Inv-loop μ-loop
 same-length c = c .before .loop .inv .3 .size
 
 returns : tie.Need-returns Inv-loop μ-loop
-returns c = pass-end (c .before .loop .inv .3) (λ r k le. rows-past _ _ _ r k (omega (arith, c .before .loop .inv .4)))
+returns c = pass-end (c .before .loop .inv .3) (λ r k le. mapped-past _ _ _ _ r k (omega arith))
 
 pub lift-rows-spec : {M : Type 1} → statement M
 lift-rows-spec =
@@ -118,7 +104,6 @@ lift-rows-spec =
     part-lift-row-start
     part-lift-row-end
     slice-aggregate-lift-row
-    is-used-requires
     lift-row-requires
     add-r
     loop-less

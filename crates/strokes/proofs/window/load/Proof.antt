@@ -1,115 +1,110 @@
--- `window::load` meets its contract: the patch of the window that is read. Assumes nothing.
-use mathlib.Core.Path.{_≡_, refl, ap₂}
-use Prim.Native.Nat.{ℕ, _+_, _-_}
+-- `window::load` meets its contract: a pass over the rows of the window, each from its row of the heights. Assumes nothing.
+use mathlib.Core.Path.{_≡_, refl, _∙_}
+use Prim.Native.Nat.{ℕ, _+_, _-_, _*_, _≤_, _<_}
 use native.Mathlib.Omega.{arith}
-use Rattle.areas.specs.Areas.{heightsAt}
+use lib.ListN.{length}
 use Rattle.numbers.specs.Signal.{at}
-use Rattle.strokes.proofs.MapCall.{load-place, load-asks, load-made}
+use Rattle.areas.specs.Areas.{heightsAt}
+use Rattle.wavelet.specs.Plane.{cells}
+use Rattle.map_levels.specs.Passes.{Rows, gridCopied}
+use Rattle.map_levels.proofs.GridSweep.{RowSwept, row-room, start, finish}
+use Rattle.map_levels.proofs.CellLaws.{copied-out, outside-rows}
+use Rattle.strokes.proofs.RowCalls.{loaded-turn}
 use Rattle.strokes.proofs.window.load.Statement.{statement}
 use Rattle.strokes.proofs.window.load.Tie as tie
 
-before-requires : tie.Need-before-requires
-before-requires c κs = tt
+abbrev Inv-loop : tie.InvT-loop
+Inv-loop heights across work₀ first top width height r₀ work r =
+    (r ≤ height)
+    × (length work ≡ length work₀)
+    × ((i : ℕ) → i < height → (top + i) * across + across ≤ length heights)
+    × Rows (length work₀) width width height
+    × (first + width ≤ across)
+    × RowSwept width (gridCopied width height (λ i j. cells across (heightsAt heights) (top + i) (first + j)) (cells width (at work₀))) (cells width
+    (at work₀)) r
+    (at work)
 
-before-requires-2 : tie.Need-before-requires-2
-before-requires-2 c κs = tt
+abbrev μ-loop : tie.MeasureT-loop
+μ-loop heights across work₀ first top width height r₀ work r = height - r
 
-sub-t10 : tie.Need-sub-t10
-sub-t10 c = let b = c .before in omega (arith, b .before3 .ensures, b .before .before .before .pre .7)
+loop-holds : tie.Need-loop-holds Inv-loop μ-loop
+loop-holds c =
+    let p = c .before .pre in (
+      omega arith,
+      refl,
+      λ i lt. row-room _ _ _ _ _ (p .0) (omega arith),
+      p .1,
+      p .2,
+      start _ _ 0 _ (λ r k lt. absurd (omega arith)),
+    )
 
-past-requires : tie.Need-past-requires
-past-requires c κs = let p = c .before .before .before .before .pre in omega (arith, p .3, p .5)
+room : (c : tie.In-loop Inv-loop μ-loop) →
+    (c .before .before .before .args .rows .start + c .before .loop .r) * c .before .before .before .args .across + c .before .before .before .args .across
+    ≤ length
+    (c .before .before .before .args .heights .now)
+room c = c .before .loop .inv .2 (c .before .loop .r) (c .loop-test .taken)
 
-sub-t12 : tie.Need-sub-t12
-sub-t12 c = let b = c .before .before in omega (arith, c .past .ensures, b .before3 .ensures, b .before .before .before .pre .7)
+rows-room : (c : tie.After-load-to-arg Inv-loop μ-loop) →
+    c .before .before .loop .r * c .before .before .before .before .args .columns .size + c .before .before .before .before .args .columns .size ≤ length
+    (c .before .before .loop .work)
+rows-room c = let head = c .before .before in omega (arith, row-room _ _ _ _ _ (head .loop .inv .3) (c .before .loop-test .taken), head .loop .inv .1)
 
-sub-a : tie.Need-sub-a
-sub-a c = let b = c .before .before .before .before in omega (arith, b .before2 .ensures, b .before .before .pre .6)
+add-load-to : tie.Need-add-load-to Inv-loop μ-loop
+add-load-to c = omega (arith, room c)
 
-past-requires-2 : tie.Need-past-requires-2
-past-requires-2 c κs = let p = c .before .before .before .before .before .before .pre in omega (arith, p .2, p .4)
+mul-load-to : tie.Need-mul-load-to Inv-loop μ-loop
+mul-load-to c = omega (arith, room c)
 
-sub-a-2 : tie.Need-sub-a-2
-sub-a-2 c = let b = c .before .before .before .before .before in omega (arith, c .past2 .ensures, b .before2 .ensures, b .before .before .pre .6)
+add-load-to-2 : tie.Need-add-load-to-2 Inv-loop μ-loop
+add-load-to-2 c = omega (arith, room c)
 
-add-a : tie.Need-add-a
-add-a c =
-    let top = c .before .before .before .before .before in
-    let p = top .before .before .before .pre in
-    omega (arith, top .before3 .ensures, p .3, p .5, p .7)
+mul-load-to-2 : tie.Need-mul-load-to-2 Inv-loop μ-loop
+mul-load-to-2 c = omega (arith, rows-room c)
 
-mul-a : tie.Need-mul-a
-mul-a c =
-    let top = c .before .before .before .before .before in
-    let start = top .before .before .before in
-    let p = start .pre in
-    let k = load-place (start .args .rows .start + top .before3 .result) (start .args .across) 0 (omega (arith, top .before3 .ensures, p .3, p .5, p .7))
-    (p .4) (omega arith) in
-    omega (arith, k)
+load-to-requires : tie.Need-load-to-requires Inv-loop μ-loop
+load-to-requires c κs = (omega (arith, room (c .before)), omega (arith, rows-room c))
 
-add-a-2 : tie.Need-add-a-2
-add-a-2 c =
-    let left = c .before .before .before .before .before .before .before in
-    let p = left .before .before .pre in
-    omega (arith, left .before2 .ensures, p .2, p .4, p .6)
+add-r : tie.Need-add-r Inv-loop μ-loop
+add-r c = omega arith
 
-add-a-3 : tie.Need-add-a-3
-add-a-3 c =
-    let top = c .before .before .before .before .before .before in
-    let left = top .before in
-    let start = left .before .before in
-    let p = start .pre in
-    let k = load-place (start .args .rows .start + top .before3 .result) (start .args .across) (start .args .columns .start + left .before2 .result)
-    (omega (arith, top .before3 .ensures, p .3, p .5, p .7)) (p .4) (omega (arith, left .before2 .ensures, p .2, p .4, p .6)) in
-    omega (arith, k)
+loop-less : tie.Need-loop-less Inv-loop μ-loop
+loop-less c = omega arith
 
-load-patch-requires : tie.Need-load-patch-requires
-load-patch-requires c κs =
-    let right = c .before .before .before in
-    let bottom = right .before .before in
-    let top = bottom .before .before in
-    let left = top .before in
-    let start = left .before .before in
-    let a = start .args in
-    let p = start .pre in
-    load-asks _ _ (a .across) (a .columns) (a .rows) (p .0) (p .1) (p .2) (p .3) _ _ _ _ _ (left .before2 .ensures) (top .before3 .ensures)
-    (ap₂ (λ (x y : ℕ). a .columns .size - x - y) (left .before2 .ensures) (right .past2 .ensures))
-    (ap₂ (λ (x y : ℕ). a .rows .size - x - y) (top .before3 .ensures) (bottom .past .ensures)) refl (p .6) (p .7)
+loop-again : tie.Need-loop-again Inv-loop μ-loop
+loop-again c =
+    let called = c .before in
+    let row = called .before .before in
+    let head = row .before in
+    let inv = head .loop .inv in
+    let args = head .before .before .args in (
+      omega arith,
+      called .load-to .kept .1 .1 .0 ∙ inv .1,
+      inv .2,
+      inv .3,
+      inv .4,
+      loaded-turn (args .across) _ _ _ _ _ (heightsAt (args .heights .now)) _ _ _ (inv .3 .wide) (row .loop-test .taken) (called .load-to .ensures) (inv .5),
+    )
 
-same-length : tie.Need-same-length
-same-length c = c .before .load-patch .kept .1 .1 .1 .0
+same-length : tie.Need-same-length Inv-loop μ-loop
+same-length c = c .before .loop .inv .1
 
-returns : tie.Need-returns
-returns c =
-    let call = c .before in
-    let right = call .before .before .before .before in
-    let bottom = right .before .before in
-    let top = bottom .before .before in
-    let left = top .before in
-    let start = left .before .before in
-    let a = start .args in
-    let p = start .pre in
-    load-made _ _ (a .across) (a .columns) (a .rows) (p .0) (p .1) (p .2) (p .3) _ _ _ _ 0 (left .before2 .ensures) (top .before3 .ensures)
-    (ap₂ (λ (x y : ℕ). a .columns .size - x - y) (left .before2 .ensures) (right .past2 .ensures))
-    (ap₂ (λ (x y : ℕ). a .rows .size - x - y) (top .before3 .ensures) (bottom .past .ensures)) (heightsAt (a .heights .now)) _ (at (a .work .now))
-    (call .load-patch .ensures)
+returns : tie.Need-returns Inv-loop μ-loop
+returns c = finish (c .before .loop .inv .3 .apart) (c .before .loop .inv .5) (λ r k le. copied-out _ _ _ _ r k (outside-rows _ _ r k (omega arith)))
 
 pub load-spec : {M : Type 1} → statement M
 load-spec =
     tie.close
     (tie.spec
-    before-requires
-    before-requires-2
-    sub-t10
-    past-requires
-    sub-t12
-    sub-a
-    past-requires-2
-    sub-a-2
-    add-a
-    mul-a
-    add-a-2
-    add-a-3
-    load-patch-requires
+    Inv-loop
+    μ-loop
+    loop-holds
+    add-load-to
+    mul-load-to
+    add-load-to-2
+    mul-load-to-2
+    load-to-requires
+    add-r
+    loop-less
+    loop-again
     same-length
     returns)

@@ -5,7 +5,8 @@ use Rattle.numbers.specs.Signal.{at}
 use Rattle.reader.specs.declared.Reader.{Reader}
 use Rattle.areas.specs.Areas.{heightsAt}
 use Rattle.reader.specs.Answers.{Reply, refused, number, Handed}
-use Rattle.reader.specs.Reading.{drawQuestion, drawReply, drawStore, drawArea}
+use Rattle.reader.specs.Questions.{drawQuestion}
+use Rattle.reader.specs.Calls.{drawReply, drawStore, drawArea}
 use Rattle.states.specs.ReaderAnswers.{countOf}
 use Rattle.terrain.specs.ReaderCalls.{drawing, stateDrawn}
 use Rattle.states.specs.ReaderState.{isReader, readerOf}
@@ -72,7 +73,7 @@ returns-2 c =
             sym (went (isReader (a .state .now)) (i .is-reader .result) (i .is-reader .ensures)
                 (λ (r : Reader). drawArea r (drawQuestion r (length (a .store .now)) (at (a .store .now)) (length (a .out .now))) (at (a .store .now))
                 (heightsAt (a .out .now))) (readerOf (a .state .now)) (u .unpack-reader .result) (heightsAt (a .out .now)) _ (u .before .before .if1 .left)
-                (u .unpack-reader .ensures) (d .draw .ensures .1 .1)),
+                (u .unpack-reader .ensures) (d .draw .ensures .1 .1 .0)),
             c .pack-drawn .ensures .1 .1 ∙ sym (ap (λ (q : Reply Handed). countOf q (a .drawn .now)) e),
           ),
         ),

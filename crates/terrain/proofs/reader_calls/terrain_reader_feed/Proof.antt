@@ -4,7 +4,8 @@ use lib.ListN.{length}
 use Rattle.numbers.specs.Signal.{at}
 use Rattle.reader.specs.declared.Reader.{Reader}
 use Rattle.reader.specs.Answers.{Reply, refused, number}
-use Rattle.reader.specs.Reading.{feedQuestion, feedReply, feedStore}
+use Rattle.reader.specs.Questions.{feedQuestion}
+use Rattle.reader.specs.Calls.{feedReply, feedStore}
 use Rattle.terrain.specs.ReaderCalls.{feeding, stateOf}
 use Rattle.states.specs.ReaderState.{isReader, readerOf}
 use Rattle.terrain.proofs.CallLaws.{turned, went}
@@ -56,7 +57,7 @@ returns-2 c =
         sym (went (isReader (a .state .now)) (i .is-reader .result) (i .is-reader .ensures)
             (λ (r : Reader). feedStore r (feedQuestion r (length (a .store .now)) (at (a .store .now)) (length (a .run .now)) (at (a .run .now)))
             (at (a .run .now)) (at (a .store .now))) (readerOf (a .state .now)) (u .unpack-reader .result) (at (a .store .now)) _
-            (u .before .before .if1 .left) (u .unpack-reader .ensures) (d .feed .ensures .1)),
+            (u .before .before .if1 .left) (u .unpack-reader .ensures) (d .feed .ensures .1 .0)),
       ),
     )
 

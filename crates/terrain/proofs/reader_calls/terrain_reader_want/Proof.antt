@@ -3,7 +3,8 @@ use mathlib.Core.Path.{_≡_, sym, ap, _∙_}
 use borrow.Author.Needs.{needs}
 use Rattle.reader.specs.declared.Reader.{Reader}
 use Rattle.reader.specs.Answers.{Reply, refused, number, Want, ofWanted}
-use Rattle.reader.specs.Reading.{wantQuestion, wantReply}
+use Rattle.reader.specs.Questions.{wantQuestion}
+use Rattle.reader.specs.Calls.{wantReply}
 use Rattle.terrain.specs.ReaderCalls.{wanting, wantOf}
 use Rattle.states.specs.ReaderState.{isReader, readerOf}
 use Rattle.terrain.proofs.CallLaws.{turned, went}

@@ -7,7 +7,7 @@ use Rattle.level.specs.Level.{rest}
 use Rattle.writer.specs.Gate.{stateQuestion}
 use Rattle.writer.proofs.GateLaws.{sound}
 use Rattle.writer.proofs.DrawLaws.{reached}
-use Rattle.writer.proofs.CallLaws.{sound-walk, sound-drawable, sound-spares, draw-refused, draw-nothing, draw-no-room, draw-row}
+use Rattle.writer.proofs.CallLaws.{sound-walk, sound-drawable, draw-refused, draw-nothing, draw-no-room, draw-row}
 use Rattle.writer.proofs.CallsKeep.{draw-kept}
 use Rattle.writer.proofs.Writer.draw.Statement.{statement}
 use Rattle.writer.proofs.Writer.draw.Tie as tie
@@ -52,19 +52,16 @@ hand-out-requires c κs =
     let f = sound (a .self) (length (a .store .now)) q in
     omega arith
 
-draw-and-move-requires : tie.Need-draw-and-move-requires
-draw-and-move-requires c κs =
+draw-on-requires : tie.Need-draw-on-requires
+draw-on-requires c κs =
     let a = c .before .before .before .before .before .before .before .before .before .before .before .before .before .before .args in
     let q : stateQuestion (a .self) (length (a .store .now)) ≡ 0 = omega arith in
     let f = sound (a .self) (length (a .store .now)) q in
-    let d = sound-drawable (a .self) (length (a .store .now)) f (omega arith) in (
-      d,
-      reached (a .self .filter) _ _ _ _ _ _ _ (d .walk) (c .before .before .before .before .before .before .before .before .level-of .ensures),
-      sound-spares (a .self) (length (a .store .now)) f (omega arith),
-    )
+    let d = sound-drawable (a .self) (length (a .store .now)) f (omega arith) in
+    (d, reached (a .self .filter) _ _ _ _ _ _ _ (d .walk) (c .before .before .before .before .before .before .before .before .level-of .ensures))
 
 same-length : tie.Need-same-length
-same-length c = c .before .draw-and-move .kept .1 .1 .0
+same-length c = c .before .draw-on .kept .1 .1 .0
 
 same-length-2 : tie.Need-same-length-2
 same-length-2 c = c .before .before .before .before .hand-out .kept .1 .1 .1 .0
@@ -76,7 +73,7 @@ returns-4 c =
     let t = draw-row (a .self) (length (a .store .now)) (length (a .out .now)) _ (at (a .store .now)) (at (a .out .now))
     (c .before .before .before .before .before .before .before .before .before .before .before .before .before .before .state-question .ensures) _
     (c .before .before .before .before .before .before .before .before .before .waiting .ensures) (omega arith) (omega arith) _ _ _
-    (omega arith) (c .before .before .before .before .hand-out .ensures) (c .before .draw-and-move .ensures) in
+    (omega arith) (c .before .before .before .before .hand-out .ensures) (c .before .draw-on .ensures) in
     (t .0, (t .1, (t .2, draw-kept _ _ _ _ _ _ _ _ (t .0) (t .1) (t .2))))
 
 pub draw-spec : {M : Type 1} → statement M
@@ -91,7 +88,7 @@ draw-spec =
     waiting-requires
     returns-3
     hand-out-requires
-    draw-and-move-requires
+    draw-on-requires
     same-length
     same-length-2
     returns-4)

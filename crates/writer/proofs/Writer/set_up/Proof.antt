@@ -18,12 +18,12 @@ set-up-question-requires c κs = tt
 returns : tie.Need-returns
 returns c = let t = set-up-no _ _ _ _ _ (c .before .set-up-question .ensures) _ _ (omega arith) in (t .0, (t .1, set-up-kept _ _ _ _ _ _ _ (t .0)))
 
-writer-store-length-requires : tie.Need-writer-store-length-requires
-writer-store-length-requires c κs = tt
+store-length-requires : tie.Need-store-length-requires
+store-length-requires c κs = tt
 
 clear-requires : tie.Need-clear-requires
 clear-requires c κs =
-    let f = set-up-fits _ _ _ _ _ (c .before .before .before .set-up-question .ensures) _ (omega arith) (c .before .writer-store-length .ensures) in
+    let f = set-up-fits _ _ _ _ _ (c .before .before .before .set-up-question .ensures) _ (omega arith) (c .before .store-length .ensures) in
     omega arith
 
 cast-t7 : tie.Need-cast-t7
@@ -36,7 +36,7 @@ returns-2 : tie.Need-returns-2
 returns-2 c =
     let t = set-up-yes _ _ _ _ _ (c .before .before .before .before .before .before .set-up-question .ensures) _ _ _ _ (omega arith)
     (set-up-fits _ _ _ _ _ (c .before .before .before .before .before .before .set-up-question .ensures) _ (omega arith)
-    (c .before .before .before .before .writer-store-length .ensures)) (c .before .before .clear .ensures) in
+    (c .before .before .before .before .store-length .ensures)) (c .before .before .clear .ensures) in
     (t .0, (t .1, set-up-kept _ _ _ _ _ _ _ (t .0)))
 
 pub set-up-spec : {M : Type 1} → statement M
@@ -47,7 +47,7 @@ set-up-spec =
     cast-x
     set-up-question-requires
     returns
-    writer-store-length-requires
+    store-length-requires
     clear-requires
     cast-t7
     same-length

@@ -1,7 +1,7 @@
 -- `gate::in_ranges` meets its contract: each test is the definition's, in its order. Assumes nothing.
 use mathlib.Core.Path.{sym, _∙_}
 use native.Mathlib.Omega.{arith}
-use borrow.Author.Tests.{not-true, not-false, le-leb, lt-leb}
+use borrow.Author.Tests.{not-true, not-false, le-leb, lt-leb, lt-ltb, le-ltb}
 use Rattle.wavelet.specs.Limits.{maxHeight}
 use Rattle.wavelet.proofs.LimitLaws.{width-small}
 use Rattle.lifting.specs.Grid.{side}
@@ -36,17 +36,14 @@ returns-3 c = simp (
   lt-leb _ _ (c .if3 .taken),
 )
 
-most-column-requires : tie.Need-most-column-requires
-most-column-requires c κs = tt
-
 returns-4 : tie.Need-returns-4
 unfolding inRanges maxHeight
 returns-4 c = simp (
-  sym (c .before .before .before .before .before .before .before .before .on-grid .ensures)
-      ∙ not-false _ (c .before .before .before .before .before .before .before .if1 .left),
-  sym (c .before .before .before .before .before .before .is-sized .ensures) ∙ not-false _ (c .before .before .before .before .before .if2 .left),
-  le-leb _ _ (c .before .before .before .if3 .left),
-  lt-leb _ _ (rw (c .before .before .most-column .ensures) at (c .if4 .taken)),
+  sym (c .before .before .before .before .before .before .before .on-grid .ensures)
+      ∙ not-false _ (c .before .before .before .before .before .before .if1 .left),
+  sym (c .before .before .before .before .before .is-sized .ensures) ∙ not-false _ (c .before .before .before .before .if2 .left),
+  le-leb _ _ (c .before .before .if3 .left),
+  le-ltb _ _ (c .if4 .taken),
 )
 
 look-ahead-requires : tie.Need-look-ahead-requires
@@ -54,7 +51,7 @@ look-ahead-requires c κs = tt
 
 mul-if5 : tie.Need-mul-if5
 mul-if5 c =
-    let d = c .before .before .before .before .before .before .before in
+    let d = c .before .before .before .before .before .before in
     let s = d .before .before .before .before .args .s in
     let t = streams (s .filter) (side (s .x) (s .width)) (s .levels) (sym (d .before .is-sized .ensures) ∙ not-false _ (d .if2 .left)) in
     rw (c .before .look-ahead .ensures) (omega (arith, steps-few (s .filter) (s .levels), few-levels (s .filter) (s .levels) (t .levels .1)))
@@ -62,32 +59,31 @@ mul-if5 c =
 returns-5 : tie.Need-returns-5
 unfolding inRanges maxHeight
 returns-5 c = simp (
-  sym (c .before .before .before .before .before .before .before .before .before .before .before .before .on-grid .ensures)
-      ∙ not-false _ (c .before .before .before .before .before .before .before .before .before .before .before .if1 .left),
-  sym (c .before .before .before .before .before .before .before .before .before .before .is-sized .ensures)
-      ∙ not-false _ (c .before .before .before .before .before .before .before .before .before .if2 .left),
-  le-leb _ _ (c .before .before .before .before .before .before .before .if3 .left),
-  le-leb _ _ (rw (c .before .before .before .before .before .before .most-column .ensures) at (c .before .before .before .before .if4 .left)),
+  sym (c .before .before .before .before .before .before .before .before .before .before .before .on-grid .ensures)
+      ∙ not-false _ (c .before .before .before .before .before .before .before .before .before .before .if1 .left),
+  sym (c .before .before .before .before .before .before .before .before .before .is-sized .ensures)
+      ∙ not-false _ (c .before .before .before .before .before .before .before .before .if2 .left),
+  le-leb _ _ (c .before .before .before .before .before .before .if3 .left),
+  lt-ltb _ _ (c .before .before .before .before .if4 .left),
   lt-leb _ _ (rw (c .before .before .before .look-ahead .ensures) at (c .if5 .taken)),
 )
 
 returns-6 : tie.Need-returns-6
 unfolding inRanges maxHeight
 returns-6 c = simp (
-  sym (c .before .before .before .before .before .before .before .before .before .before .before .before .before .before .on-grid .ensures)
-      ∙ not-false _ (c .before .before .before .before .before .before .before .before .before .before .before .before .before .if1 .left),
-  sym (c .before .before .before .before .before .before .before .before .before .before .before .before .is-sized .ensures)
-      ∙ not-false _ (c .before .before .before .before .before .before .before .before .before .before .before .if2 .left),
-  le-leb _ _ (c .before .before .before .before .before .before .before .before .before .if3 .left),
-  le-leb _ _ (rw (c .before .before .before .before .before .before .before .before .most-column .ensures) at
-      (c .before .before .before .before .before .before .if4 .left)),
+  sym (c .before .before .before .before .before .before .before .before .before .before .before .before .before .on-grid .ensures)
+      ∙ not-false _ (c .before .before .before .before .before .before .before .before .before .before .before .before .if1 .left),
+  sym (c .before .before .before .before .before .before .before .before .before .before .before .is-sized .ensures)
+      ∙ not-false _ (c .before .before .before .before .before .before .before .before .before .before .if2 .left),
+  le-leb _ _ (c .before .before .before .before .before .before .before .before .if3 .left),
+  lt-ltb _ _ (c .before .before .before .before .before .before .if4 .left),
   le-leb _ _ (rw (c .before .before .before .before .before .look-ahead .ensures) at (c .before .before .if5 .left)),
   lt-leb _ _ (c .if6 .taken),
 )
 
 waits-in-range-requires : tie.Need-waits-in-range-requires
 waits-in-range-requires c κs =
-    let d = c .before .before .before .before .before .before .before .before .before .before .before in
+    let d = c .before .before .before .before .before .before .before .before .before .before in
     let s = d .before .before .before .before .args .s in
     let t = streams (s .filter) (side (s .x) (s .width)) (s .levels) (sym (d .before .is-sized .ensures) ∙ not-false _ (d .if2 .left)) in
     (omega (arith, t .width .1, width-small), omega arith)
@@ -95,12 +91,10 @@ waits-in-range-requires c κs =
 returns-7 : tie.Need-returns-7
 unfolding maxHeight
 returns-7 c =
-    let d = c .before .before .before .before .before .before .before .before .before .before .before .before in
+    let d = c .before .before .before .before .before .before .before .before .before .before .before in
     let g = d .before .before in
     ranges-last (g .before .before .args .s) (sym (g .before .on-grid .ensures) ∙ not-false _ (g .if1 .left))
-    (sym (d .before .is-sized .ensures) ∙ not-false _ (d .if2 .left)) (omega arith)
-    (rw (c .before .before .before .before .before .before .before .before .before .most-column .ensures) at
-    (c .before .before .before .before .before .before .before .if4 .left))
+    (sym (d .before .is-sized .ensures) ∙ not-false _ (d .if2 .left)) (omega arith) (omega arith)
     (rw (c .before .before .before .before .before .before .look-ahead .ensures) at (c .before .before .before .if5 .left))
     (omega arith) _ (c .waits-in-range .ensures)
 
@@ -113,7 +107,6 @@ in-ranges-spec =
     is-sized-requires
     returns-2
     returns-3
-    most-column-requires
     returns-4
     look-ahead-requires
     mul-if5

@@ -1,8 +1,8 @@
 -- `gate::offer_question` meets its contract: the questions in the definition's order. Assumes nothing.
-use mathlib.Core.Path.{_≡_, _∙_}
+use mathlib.Core.Path.{_∙_}
 use native.Mathlib.Omega.{arith}
-use Rattle.writer.specs.Gate.{stateQuestion}
-use Rattle.writer.proofs.GateLaws.{sound, offer-state, offer-finished, offer-limit, offer-passes, offer-empty}
+use Rattle.wavelet.specs.Limits.{maxHeight}
+use Rattle.writer.proofs.GateLaws.{offer-state, offer-open, offer-limit, offer-passes, offer-empty}
 use Rattle.writer.proofs.gate.offer_question.Statement.{statement}
 use Rattle.writer.proofs.gate.offer_question.Tie as tie
 
@@ -15,24 +15,22 @@ state-question-requires c κs = c .in-ranges .ensures
 returns : tie.Need-returns
 returns c = c .before .state-question .ensures ∙ offer-state _ _ _ (λ z. omega arith)
 
-returns-2 : tie.Need-returns-2
-returns-2 c = offer-finished _ _ _ (omega arith) (c .if2 .taken)
+open-question-requires : tie.Need-open-question-requires
+open-question-requires c κs = tt
 
-is-full-requires : tie.Need-is-full-requires
-is-full-requires c κs =
-    let a = c .before .before .before .before .before .args in
-    let q : stateQuestion (a .s) (a .n) ≡ 0 = omega arith in
-    let f = sound (a .s) (a .n) q in
-    (omega (arith, f .width .0), f .spare, f .rows)
+returns-2 : tie.Need-returns-2
+returns-2 c = c .before .open-question .ensures ∙ offer-open _ _ _ (omega arith) (λ z. omega arith)
 
 returns-3 : tie.Need-returns-3
-returns-3 c = offer-limit _ _ _ _ (c .before .is-full .ensures) (omega arith) (c .before .before .before .if2 .left) (omega arith) (c .if4 .taken)
+unfolding maxHeight
+returns-3 c = offer-limit _ _ _ (omega arith) (omega arith) (omega arith) (omega arith)
 
 returns-4 : tie.Need-returns-4
-returns-4 c = offer-passes _ _ _ _ (c .before .is-full .ensures) (omega arith) (c .before .before .before .if2 .left) (c .if4 .left)
+unfolding maxHeight
+returns-4 c = offer-passes _ _ _ (omega arith) (omega arith) (omega arith)
 
 returns-5 : tie.Need-returns-5
-returns-5 c = offer-empty _ _ _ (omega arith) (c .before .if2 .left) (omega arith)
+returns-5 c = offer-empty _ _ _ (omega arith) (omega arith) (omega arith)
 
 pub offer-question-spec : {M : Type 1} → statement M
 offer-question-spec =
@@ -41,8 +39,8 @@ offer-question-spec =
     in-ranges-requires
     state-question-requires
     returns
+    open-question-requires
     returns-2
-    is-full-requires
     returns-3
     returns-4
     returns-5)

@@ -9,25 +9,25 @@ use Rattle.lifting.specs.Grid.{Side}
 use Rattle.wavelet.specs.Limits.{maxWidth}
 use Rattle.wavelet.specs.Questions.{within}
 use Rattle.filters.specs.Filters.{filterOf}
-use Rattle.filters.specs.Figures.{writerStoreBy, streamable}
+use Rattle.filters.specs.Figures.{storeBy, streamable}
 use Rattle.writer.specs.Questions.{known, setUpQuestion}
 use Rattle.writer.proofs.GateLaws.{known-filter}
 use Rattle.writer.proofs.gate.set_up_question.Statement.{statement}
 use Rattle.writer.proofs.gate.set_up_question.Tie as tie
 
 module _ (f : ℕ) (W : Side) (L n k : ℕ) (w : within 1 maxWidth (W .length) ≡ true) (i : known f ≡ true) (l : within 1 (filterOf f .levels) L ≡ true)
-    (e : k ≡ pick (streamable f W L) (writerStoreBy f W L) 0) where
-  needed : k ≡ writerStoreBy f W L
+    (e : k ≡ pick (streamable f W L) (storeBy f W L) 0) where
+  needed : k ≡ storeBy f W L
   unfolding streamable
   needed = e ∙ simp (known-filter f i, w, l)
 
   short : n < k → 5 ≡ setUpQuestion f W L n
   unfolding setUpQuestion
-  short g = simp (w, i, l, lt-leb (writerStoreBy f W L) n (omega (arith, needed)))
+  short g = simp (w, i, l, lt-leb (storeBy f W L) n (omega (arith, needed)))
 
   long : k ≤ n → 0 ≡ setUpQuestion f W L n
   unfolding setUpQuestion
-  long g = simp (w, i, l, le-leb (writerStoreBy f W L) n (omega (arith, needed)))
+  long g = simp (w, i, l, le-leb (storeBy f W L) n (omega (arith, needed)))
 
 is-within-requires : tie.Need-is-within-requires
 is-within-requires c κs = tt
@@ -64,8 +64,8 @@ returns-3 c =
       sym (c .before .is-within2 .ensures ∙ ap (λ m. within 1 m (a .levels)) (c .before .before .most-levels .ensures)) ∙ not-true _ (c .if3 .taken),
     )
 
-writer-store-length-requires : tie.Need-writer-store-length-requires
-writer-store-length-requires c κs = tt
+store-length-requires : tie.Need-store-length-requires
+store-length-requires c κs = tt
 
 returns-4 : tie.Need-returns-4
 unfolding maxWidth
@@ -76,7 +76,7 @@ returns-4 c =
     let a = e .before .before .args in
     short _ _ _ _ _ (sym (e .before .is-within .ensures) ∙ not-false _ (e .if1 .left)) (sym (d .before .is-filter .ensures) ∙ not-false _ (d .if2 .left))
     (sym (b .before .is-within2 .ensures ∙ ap (λ m. within 1 m (a .levels)) (b .before .before .most-levels .ensures)) ∙ not-false _ (b .if3 .left))
-    (c .before .writer-store-length .ensures) (omega arith)
+    (c .before .store-length .ensures) (omega arith)
 
 returns-5 : tie.Need-returns-5
 unfolding maxWidth
@@ -87,7 +87,7 @@ returns-5 c =
     let a = e .before .before .args in
     long _ _ _ _ _ (sym (e .before .is-within .ensures) ∙ not-false _ (e .if1 .left)) (sym (d .before .is-filter .ensures) ∙ not-false _ (d .if2 .left))
     (sym (b .before .is-within2 .ensures ∙ ap (λ m. within 1 m (a .levels)) (b .before .before .most-levels .ensures)) ∙ not-false _ (b .if3 .left))
-    (c .before .writer-store-length .ensures) (omega arith)
+    (c .before .store-length .ensures) (omega arith)
 
 pub set-up-question-spec : {M : Type 1} → statement M
 set-up-question-spec =
@@ -100,6 +100,6 @@ set-up-question-spec =
     most-levels-requires
     is-within-requires-2
     returns-3
-    writer-store-length-requires
+    store-length-requires
     returns-4
     returns-5)

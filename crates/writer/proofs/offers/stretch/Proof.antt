@@ -15,7 +15,7 @@ use Rattle.analysis.proofs.ForwardLaws.{heights-done}
 use Rattle.writer.specs.declared.Writer.{Writer}
 use Rattle.writer.specs.Taking.{columnsOf}
 use Rattle.writer.specs.Stretch.{Taker}
-use Rattle.writer.proofs.OfferLaws.{stretched}
+use Rattle.writer.proofs.OfferLaws.{stretched-inside, stretched-whole}
 use borrow.Author.Needs.{needs}
 use Rattle.writer.proofs.offers.stretch.Statement.{statement}
 use Rattle.writer.proofs.offers.stretch.Tie as tie
@@ -35,35 +35,53 @@ add-q c = omega (arith, height-small)
 put-requires : tie.Need-put-requires
 put-requires c κs = tt
 
-add-reach : tie.Need-add-reach
-add-reach c = search needs
-
-reach-requires : tie.Need-reach-requires
-reach-requires c κs =
-    let put = c .before .before .before in
-    let t = put .before .before .before .before .before .pre .0 in
-    let room = t .room in (
-      record {
-        room = record { room = omega (arith, room .room, put .put .kept .1 .0); wide = room .wide; rows = room .rows; deep = room .deep };
-        wide = omega (arith, t .column);
-        deep = t .deep;
-      },
-      omega arith,
-      omega arith,
-    )
+add-column : tie.Need-add-column
+add-column c = search needs
 
 same-length : tie.Need-same-length
-same-length c = c .before .reach .kept .1 .0 ∙ c .before .before .before .before .before .put .kept .1 .0
+same-length c = c .before .before .before .before .put .kept .1 .0
 
 returns : tie.Need-returns
 returns c =
-    let put = c .before .before .before .before .before in
+    let put = c .before .before .before .before in
     let start = put .before .before .before .before .before in
     let a = start .args in
     let t = start .pre .0 in
-    stretched (a .s) (a .run .now) (a .from) (a .n) _ _ _ _ (length (a .store .now)) _
-    (put-there (a .s) (a .run .now) (a .from) (a .n) (length (a .store .now)) _ _ t (omega arith) (omega arith) (put .put .ensures .1))
-    (put .put .kept .1 .0) (c .before .reach .ensures)
+    stretched-inside (a .s) (a .run .now) (a .from) (a .n) _ _ (length (a .store .now)) t
+    (put-there (a .s) (a .run .now) (a .from) (a .n) (length (a .store .now)) _ _ t (omega arith) (omega arith) (put .put .ensures .1)) (omega arith)
+
+arrive-requires : tie.Need-arrive-requires
+arrive-requires c κs =
+    let put = c .before .before .before .before .before in
+    let room = put .before .before .before .before .before .pre .0 .room in
+    record { room = omega (arith, room .room, put .put .kept .1 .0); wide = room .wide; rows = room .rows; deep = room .deep }
+
+add-t9 : tie.Need-add-t9
+add-t9 c = omega (arith, height-small)
+
+same-length-2 : tie.Need-same-length-2
+same-length-2 c = c .before .before .arrive .kept .1 .0 ∙ c .before .before .before .before .before .before .before .before .put .kept .1 .0
+
+returns-2 : tie.Need-returns-2
+returns-2 c =
+    let put = c .before .before .before .before .before .before .before .before in
+    let start = put .before .before .before .before .before in
+    let a = start .args in
+    let t = start .pre .0 in
+    stretched-whole (a .s) (a .run .now) (a .from) (a .n) _ _ (length (a .store .now)) t
+    (put-there (a .s) (a .run .now) (a .from) (a .n) (length (a .store .now)) _ _ t (omega arith) (omega arith) (put .put .ensures .1)) _ _
+    (omega arith) (omega arith) (c .before .before .arrive .ensures)
 
 pub stretch-spec : {M : Type 1} → statement M
-stretch-spec = tie.close (tie.spec add-q put-requires add-reach reach-requires same-length returns)
+stretch-spec =
+    tie.close
+    (tie.spec
+    add-q
+    put-requires
+    add-column
+    same-length
+    returns
+    arrive-requires
+    add-t9
+    same-length-2
+    returns-2)

@@ -1,3 +1,0 @@
-pub mod LastLists
-pub mod LevelsOn
-pub mod Distant

@@ -1,2 +1,0 @@
-pub mod LastLists
-pub mod Distant

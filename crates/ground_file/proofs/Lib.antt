@@ -1,9 +1,0 @@
-pub mod Digits
-pub mod GroupLaws
-pub mod FileLaws
-pub mod FileTheorems
-pub mod MapFiles
-pub mod SamplesHold
-pub mod Packing
-pub mod WidthLaws
-pub mod PutLaws

@@ -1,5 +1,0 @@
-pub mod Groups
-pub mod File
-pub mod Maps
-pub mod Samples
-pub mod Local

@@ -1,0 +1,4 @@
+pub mod PlaneAtZero
+pub mod AtZero
+pub mod ViewAtZero
+pub mod OrderAtZero

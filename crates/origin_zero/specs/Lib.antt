@@ -1,0 +1,9 @@
+pub mod Bands
+pub mod Levels
+pub mod Plane
+pub mod Maps
+pub mod View
+pub mod ViewCall
+pub mod Store
+pub mod Order
+pub mod Steps

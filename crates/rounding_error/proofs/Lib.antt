@@ -1,4 +1,0 @@
-pub mod LevelApart
-pub mod LimitedWords
-pub mod Rounded
-pub mod RoundingError

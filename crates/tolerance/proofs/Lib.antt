@@ -1,3 +1,0 @@
-pub mod LimitLaws
-pub mod LineApart
-pub mod Sample
