@@ -199,6 +199,8 @@ static inline size_t model_store(const Map *m)
 static inline size_t model_writer_store(const Map *m)
 {
     return streamable(m) ? 0 : stretches(m, m->levels) + m->across.length;
+}
+
 /* ---- rounding, and its figure: the 5/3, origin 0 */
 
 static inline int in_last_ll(const Map *m, size_t i)

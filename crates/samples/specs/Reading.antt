@@ -32,7 +32,7 @@ pub record Reading : Type 0 where
 pub data AllRead : List Reading → Type 0 where
   none : AllRead []
   also : {x : Reading} {l : List Reading} →
-      each outcome (events (x .calls) (freshWorld (x .filter) (x .columns) (x .rows) (x .levels) (λ _. pos 0))) ≡ x .answers → AllRead l → AllRead (x ∷ l)
+      each outcome (events (x .calls) (freshWorld (x .filter) 0 0 (x .columns) (x .rows) (x .levels) (λ _. pos 0))) ≡ x .answers → AllRead l → AllRead (x ∷ l)
 
 abbrev pub readings : List Reading
 readings =
