@@ -50,7 +50,7 @@ unfolding signal.windowed signal.spliced signal.stored word.wrap32 tests.every l
     nine-rows.rowsBy nine-passes.farLeft nine-passes.farRight nine-memory.unliftedInPlace heights.height16 limits.maxWidth limits.maxHeight
     limits.maxSample limits.maxOrigin limits.range questions.within bands.code bands.across bands.down bands.bandOf levels.next levels.sideAt
     order.firstSet order.lastSet order.setRow order.setHas steps.setTo steps.setOf steps.setsBefore widths.widths widths.storeLength widths.anyWidths
-    widths.anyLength view.bandColumns maps.valueFits filters.filterOf filters.isFilter lists.events cells.slot cells.cellOf rebuilding.workableBy
+    widths.anyLength view.bandColumns maps.valueFits filters.filterOf filters.isFilter lists.events cells.spot rebuilding.workableBy
     rebuilding.workLeftBy rebuilding.lowestBy opening.opens stretch.local stretch.rowOfSet stretch.halfPlace stretch.endOf stretch.hasLow
     stretch.rowPlace stretch.bandFed stretch.rowIn stretch.rowHasLine stretch.rowBy stretch.rowHalved stretch.rowIsEven stretch.lowRowTaken
     stretch.lowTaken stretch.loneMade stretch.rowFits stretch.admitted stretch.rowUnlifted stretch.lineTried stretch.lowTried stretch.highTried
@@ -59,9 +59,10 @@ unfolding signal.windowed signal.spliced signal.stored word.wrap32 tests.every l
     places.spotFed places.enter sets.hasRow sets.rowOf sets.taking sets.needed sets.firstRow sets.makes sets.waiting sets.waitsAt back.backOf
     back.standsOf back.rowPlaceOf columns.rowBefore columns.rowAfter columns.rowByFour columns.alongOf columns.unupdatedOf columns.evenOf
     columns.oddOf work.ownEven work.pairOf work.evenDone work.pairMade work.firstMade work.pairBefore work.pairsMade work.lastMade work.restMade
-    work.mostMade work.rowsMade work.setMade work.setWorked calls.fresh calls.setUpStore calls.feedReply calls.storeAfter calls.feedStore
+    work.mostMade work.rowsMade work.setMade work.setWorked calls.freshOver calls.setUpStore calls.feedReply calls.storeAfter calls.feedStore
     calls.drawReply calls.drawStore calls.heightRow calls.drawArea demand.event demand.next machine.settled machine.finished machine.fedOn
-    gate.countsFit gate.storeFits gate.runFits gate.feedQuestion gate.drawQuestion state.next state.nextRow state.nextLength state.unfinished
+    gate.countsFit gate.countsInside gate.stopFits gate.storeFits gate.runFits gate.feedQuestion gate.drawQuestion state.next state.nextRow state.nextLength
+    state.unfinished
     state.rowDue state.drawDue state.wants state.settles state.feeds state.fedReader state.drawnReader state.endedReader store.stretchAt store.from
     store.behind store.zeroed store.fedAt store.hasSet store.workedAt outcome
 readings-hold = also refl (also refl (also refl (also refl (also refl none))))
