@@ -1,11 +1,12 @@
 # fish completion of the command terrain: commands, options, files by what a command takes.
-set -l commands check sum compare shade bands near convert tile list rewrite help
+set -l commands check sum compare shade bands near far convert tile list rewrite help
 complete -c terrain -n "not __fish_seen_subcommand_from $commands" -f -a check -d "there and back through writer and reader"
 complete -c terrain -n "not __fish_seen_subcommand_from $commands" -f -a sum -d "one line that is equal exactly when two maps are"
 complete -c terrain -n "not __fish_seen_subcommand_from $commands" -f -a compare -d "how many heights differ, where and by how much"
 complete -c terrain -n "not __fish_seen_subcommand_from $commands" -f -a shade -d "the ground as people see it"
 complete -c terrain -n "not __fish_seen_subcommand_from $commands" -f -a bands -d "a picture of the coefficients"
 complete -c terrain -n "not __fish_seen_subcommand_from $commands" -f -a near -d "how near each cell of the coarse ground is to changing"
+complete -c terrain -n "not __fish_seen_subcommand_from $commands" -f -a far -d "the distant ground of a map"
 complete -c terrain -n "not __fish_seen_subcommand_from $commands" -f -a convert -d "between PGM, PNG and RAW"
 complete -c terrain -n "not __fish_seen_subcommand_from $commands" -f -a tile -d "a map cut into tiles, and back"
 complete -c terrain -n "not __fish_seen_subcommand_from $commands" -f -a list -d "every band row as a line of numbers"

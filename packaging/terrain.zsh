@@ -9,6 +9,7 @@ _terrain()
         'shade:the ground as people see it'
         'bands:a picture of the coefficients'
         'near:how near each cell of the coarse ground is to changing'
+        'far:the distant ground of a map'
         'convert:between PGM, PNG and RAW'
         'tile:a map cut into tiles, and back'
         'list:every band row as a line of numbers'
