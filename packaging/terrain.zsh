@@ -30,7 +30,7 @@ _terrain()
     check) options+=(--seed) ;;
     convert) options+=(--from --to --size) ;;
     tile) options+=(--size --join) ;;
-    bands | list)
+    bands | far | list)
         if ((CURRENT == 3)); then compadd -- 1 2 3 4 5 --help && return; fi
         ;;
     help) _describe command commands && return ;;
