@@ -306,7 +306,8 @@ uint32_t terrain_reader_want(const uint64_t state[16], uint64_t want[5]);
 TERRAIN_CHECKED
 uint32_t terrain_reader_feed(uint64_t state[16], int32_t *store, size_t store_len, const int32_t *run, size_t run_len);
 
-/* The next height row, at the front of `out`, and its length (the width, or the columns of the level of a stop) in *drawn; where none can be drawn, 0, and `out` is untouched.
+/* The next height row, at the front of `out`, and its length (the width, or the columns of the level of a stop) in *drawn; where none can be
+ * drawn, 0, and `out` is untouched.
  * 1; 5; 9 (ended by 14); 12 (`out` is shorter than the row); 14 as in a feed, with `out` and *drawn untouched. */
 TERRAIN_CHECKED
 uint32_t terrain_reader_draw(uint64_t state[16], int32_t *store, size_t store_len, uint16_t *out, size_t out_len, size_t *drawn);
