@@ -10,6 +10,7 @@ void roundings(void)
     for (uint32_t i = 0; i < shown; i++) plane[i] = any_word();
     say(terrain_round(plane, room, s.width, s.height, s.levels, step));
     add32(plane, shown);
-    say(terrain_error_bound(below(7), below(68), &bound));
+    size_t levels = below(7), other = below(68); /* not in the call: compilers differ in which argument they take first */
+    say(terrain_error_bound(levels, other, &bound));
     add((uint64_t)bound);
 }
