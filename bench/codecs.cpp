@@ -54,7 +54,7 @@ static Bytes terrain_write()
     Bytes bytes;
     bytes.reserve(4 * count() + 64);
     if (write_plane(map.heights, map.width, map.height, 5, plane.data())) failed("writing");
-    if (save_plane(put_bytes, &bytes, plane.data(), map.width, map.height, 5)) failed("saving");
+    if (save_plane(put_bytes, &bytes, plane.data(), map.width, map.height, 5, 1)) failed("saving");
     return bytes;
 }
 
@@ -89,7 +89,7 @@ static void terrain_read(const Bytes &bytes)
 
 static Bytes packed_write(int effort)
 {
-    if (write_compressed(packed_file, map.heights, map.width, map.height, 5, effort)) failed("packing");
+    if (write_compressed(packed_file, map.heights, map.width, map.height, 5, 1, effort)) failed("packing");
     FILE *file = fopen(packed_file, "rb");
     if (!file || fseek(file, 0, SEEK_END) != 0) failed("packing");
     Bytes bytes(static_cast<size_t>(ftell(file))); // its length; it is read from the file

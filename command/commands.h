@@ -13,6 +13,7 @@ int compare(const Words *words);
 int shade(const Words *words);
 int near(const Words *words);
 int far(const Words *words);
+int rounding(const Words *words); /* round.c: C has a function of that name */
 int convert(const Words *words);
 int tile(const Words *words);
 

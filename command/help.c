@@ -14,6 +14,7 @@ static const char overview[] =
     "  bands LEVELS FILE OUT   a picture of the coefficients, band by band\n"
     "  near FILE OUT.png       how near each cell of the coarse ground is to changing\n"
     "  far LEVEL FILE OUT      the distant ground, without the finer levels\n"
+    "  round STEP FILE OUT     what rounding saves, and by how much heights are off\n"
     "  convert FILE OUT        between PGM, PNG and RAW, every height as it is\n"
     "  tile FILE FOLDER        a map of any size cut into tiles, and back (--join)\n"
     "  list LEVELS FILE.pgm    every band row as a line of numbers\n"
@@ -23,8 +24,8 @@ static const char overview[] =
     "  terrain --version       the version of the library\n"
     "\n"
     "FILE is a height map: a binary PGM (P5) or a grey PNG, of 8 or 16 bits. check,\n"
-    "bands, near and far take at most 2,049 columns; list and rewrite, which are\n"
-    "proved programs, a PGM of at most 1,025 columns and 65,535 rows. `-` is\n"
+    "bands, near, far and round take at most 2,049 columns; list and rewrite, which\n"
+    "are proved programs, a PGM of at most 1,025 columns and 65,535 rows. `-` is\n"
     "standard input, or standard output. A file is replaced when what takes its\n"
     "place is whole, and not before: it may be the input itself.\n"
     "\n";
@@ -109,6 +110,20 @@ static const struct {
      "\n"
      "  terrain far 3 map.pgm far.png\n"
      "  terrain far 2 map.pgm quarter.pgm\n"},
+    {"round",
+     "usage: terrain round [--levels N] STEP FILE OUT.png\n"
+     "       terrain round [--levels N] STEP FILE OUT.pgm\n"
+     "\n"
+     "Rounds the map's coefficients at 5 levels, or N, by a step of 1 to 64, and\n"
+     "rebuilds the ground from them by the tolerant reader. It tells how many bytes\n"
+     "they take, packed by deflate in as few bytes a number as it needs, with and\n"
+     "without rounding; how far a height can be off, which is promised for every map;\n"
+     "and how far heights of this map are off at most and on average. OUT.png shows\n"
+     "where: orange to red where the ground is now higher, light to deep blue where it\n"
+     "is lower, on the map in grey. OUT.pgm has the ground as it comes back.\n"
+     "\n"
+     "  terrain round 8 map.pgm off.png\n"
+     "  terrain round --levels 3 16 map.pgm rounded.pgm\n"},
     {"convert",
      "usage: terrain convert [--from FORM] [--to FORM] [--size WxH] FILE OUT\n"
      "\n"

@@ -7,6 +7,7 @@
 #include "end.h"
 
 static const char *const check_options[] = {"--seed", NULL};
+static const char *const round_options[] = {"--levels", NULL};
 static const char *const convert_options[] = {"--from", "--to", "--size", NULL};
 static const char *const tile_options[] = {"--size", "!--join", NULL};
 
@@ -18,6 +19,7 @@ static const Command commands[] = {
     {"bands", "LEVELS FILE OUT.png (or OUT.pgm)", 3, 3, NULL, bands},
     {"near", "FILE OUT.png", 2, 2, NULL, near},
     {"far", "LEVEL FILE OUT.png (or OUT.pgm)", 3, 3, NULL, far},
+    {"round", "[--levels N] STEP FILE OUT.png (or OUT.pgm)", 3, 3, round_options, rounding},
     {"convert", "[--from FORM] [--to FORM] [--size WxH] FILE OUT", 2, 2, convert_options, convert},
     {"tile", "[--size WxH] FILE FOLDER, or terrain tile --join FOLDER OUT.pgm", 2, 2, tile_options, tile},
     {"list", "LEVELS FILE.pgm", 2, 2, NULL, list},

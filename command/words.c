@@ -81,6 +81,14 @@ uint64_t number_of(const char *what, const char *text, uint64_t most)
     return n;
 }
 
+size_t step_of(const char *word)
+{
+    const char *after;
+    uint64_t n = digits(word, &after);
+    if (after == word || *after || n < 1 || n > 64) fail(STATUS_USAGE, "STEP is 1 to 64, not '%s'", word);
+    return (size_t)n;
+}
+
 void size_of(const char *text, uint64_t *width, uint64_t *height)
 {
     const char *after, *end;

@@ -34,6 +34,9 @@ __attribute__((noreturn)) void usage_is(const Words *words);
 /* 1 to 5, or the end. */
 size_t levels_of(const char *word);
 
+/* 1 to 64, or the end. */
+size_t step_of(const char *word);
+
 /* WIDTHxHEIGHT, or a side alone, or the end. */
 void size_of(const char *text, uint64_t *width, uint64_t *height);
 

@@ -29,6 +29,28 @@ static inline const char *sentence(uint32_t number)
 typedef int PutRow(void *to, const int32_t *row, size_t length);
 typedef int GetRow(void *from, int32_t *row, size_t length);
 
+/* A row in as few bytes as its numbers need; how many there are. Number n becomes 2n, or -2n - 1 below 0, so that numbers near 0 are small; then
+ * seven bits go into a byte, the lowest first, and 128 is added to each byte but the last. */
+enum { NUMBER_BYTES = 5 }; /* at most, a number */
+
+static inline size_t short_numbers(const int32_t *row, size_t length, unsigned char *bytes)
+{
+    size_t n = 0;
+    for (size_t i = 0; i < length; i++) {
+        uint32_t z = row[i] < 0 ? ~((uint32_t)row[i] << 1) : (uint32_t)row[i] << 1;
+        for (; z > 127; z >>= 7) bytes[n++] = (unsigned char)(z | 128);
+        bytes[n++] = (unsigned char)z;
+    }
+    return n;
+}
+
+/* A fresh reader: a tolerant one of a plane that was rounded by a step above 1, since such a plane is no map's. */
+static inline uint32_t set_up_reader(uint64_t state[16], terrain_shape shape, size_t step, int32_t *store, size_t store_len)
+{
+    if (step > 1) return terrain_tolerant_set_up(state, shape.width, shape.height, shape.levels, store, store_len);
+    return terrain_reader_set_up(state, shape, store, store_len);
+}
+
 /* ---- writing */
 
 /* Every row that waits goes to its place in the plane. `line` has `width` numbers. */
@@ -85,13 +107,14 @@ static inline uint32_t save_rows(PutRow *put, void *to, const int32_t *plane, si
     }
 }
 
-static inline uint32_t save_plane(PutRow *put, void *to, const int32_t *plane, size_t width, size_t height, size_t levels)
+/* Of a plane as a writer made it the step is 1. */
+static inline uint32_t save_plane(PutRow *put, void *to, const int32_t *plane, size_t width, size_t height, size_t levels, size_t step)
 {
     uint64_t state[TERRAIN_STATE_LENGTH];
     size_t store_len = terrain_store_length(terrain_shape_of(width, height, levels));
     int32_t *store = (int32_t *)malloc((store_len + 1) * sizeof *store);
     uint16_t *line = (uint16_t *)malloc(width * sizeof *line);
-    uint32_t no = store && line ? terrain_reader_set_up(state, terrain_shape_of(width, height, levels), store, store_len) : NO_MEMORY;
+    uint32_t no = store && line ? set_up_reader(state, terrain_shape_of(width, height, levels), step, store, store_len) : NO_MEMORY;
     const int32_t size[3] = {(int32_t)width, (int32_t)height, (int32_t)levels};
     if (!no && !put(to, size, 3)) no = NO_FILE;
     if (!no) no = save_rows(put, to, plane, width, height, levels, state, store, store_len, line);
@@ -113,7 +136,7 @@ static inline uint32_t write_coefficients(const char *path, const uint16_t *heig
     int32_t *plane = (int32_t *)malloc(width * height * sizeof *plane);
     uint32_t no = plane ? write_plane(heights, width, height, levels, plane) : NO_MEMORY;
     FILE *file = no ? NULL : fopen(path, "wb");
-    if (!no) no = file ? save_plane(put_numbers, file, plane, width, height, levels) : NO_FILE;
+    if (!no) no = file ? save_plane(put_numbers, file, plane, width, height, levels, 1) : NO_FILE;
     if (file) {
         int lost = ferror(file);
         if (fclose(file) != 0) lost = 1;
@@ -170,8 +193,8 @@ static inline uint32_t load_rows(GetRow *get, void *from, size_t width, uint64_t
     }
 }
 
-/* The map's size and its heights; the caller frees them. */
-static inline uint32_t load_map(GetRow *get, void *from, size_t *width, size_t *height, uint16_t **heights)
+/* The map's size and its heights, the plane being rounded by that step; the caller frees them. */
+static inline uint32_t load_map(GetRow *get, void *from, size_t step, size_t *width, size_t *height, uint16_t **heights)
 {
     uint64_t state[TERRAIN_STATE_LENGTH];
     int32_t size[3];
@@ -182,7 +205,7 @@ static inline uint32_t load_map(GetRow *get, void *from, size_t *width, size_t *
     int32_t *store = (int32_t *)malloc((store_len + 1) * sizeof *store);
     if (!store) return NO_MEMORY;
     /* the reader's own questions tell a good header from a bad one: nothing is allocated by a size that it turned away */
-    uint32_t no = terrain_reader_set_up(state, terrain_shape_of(*width, *height, levels), store, store_len);
+    uint32_t no = set_up_reader(state, terrain_shape_of(*width, *height, levels), step, store, store_len);
     if (!no) {
         int32_t *run = (int32_t *)malloc(*width * sizeof *run);
         *heights = (uint16_t *)malloc(*width * *height * sizeof **heights);
@@ -197,7 +220,7 @@ static inline uint32_t load_coefficients(const char *path, size_t read_size, siz
 {
     Source from = {fopen(path, "rb"), (unsigned char *)malloc(read_size), read_size, 0, 0};
     *heights = NULL;
-    uint32_t no = !from.file ? NO_FILE : !from.bytes ? NO_MEMORY : load_map(get_numbers, &from, width, height, heights);
+    uint32_t no = !from.file ? NO_FILE : !from.bytes ? NO_MEMORY : load_map(get_numbers, &from, 1, width, height, heights);
     if (from.file) fclose(from.file);
     free(from.bytes);
     if (no) {

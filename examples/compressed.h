@@ -1,8 +1,10 @@
 /* A file of a map's coefficients that zstd packs (libzstd-dev): the rows of coefficients.h in the reader's order, each number in as few bytes
  * as it needs, and what zstd makes of them, with its checksum. It is loaded from front to back in constant memory. C and C++.
  *
- * A number n becomes 2n, or -2n - 1 below 0, so that numbers near 0 are small; then seven bits go into a byte, the lowest first, and 128 is
- * added to each byte but the last. Each function answers as in coefficients.h, or DAMAGED. */
+ * Its first number is the step by which the plane was rounded, 1 to 64: by 1 the map comes back as it was, by more the file is smaller and no
+ * height is off by more than `terrain_error_bound` says.
+ *
+ * Each function answers as in coefficients.h, or DAMAGED. */
 #ifndef COMPRESSED_H
 #define COMPRESSED_H
 
@@ -10,7 +12,7 @@
 
 #include "coefficients.h"
 
-enum { NUMBER_BYTES = 5, BUFFER = 1 << 16 };
+enum { BUFFER = 1 << 16 };
 
 /* ---- writing */
 
@@ -36,31 +38,26 @@ static inline int pack(Packer *to, size_t n, ZSTD_EndDirective end)
 static inline int put_packed(void *packer, const int32_t *row, size_t length)
 {
     Packer *to = (Packer *)packer;
-    size_t n = 0;
-    for (size_t i = 0; i < length; i++) {
-        uint32_t z = row[i] < 0 ? ~((uint32_t)row[i] << 1) : (uint32_t)row[i] << 1;
-        for (; z > 127; z >>= 7) to->row[n++] = (unsigned char)(z | 128);
-        to->row[n++] = (unsigned char)z;
-    }
-    return pack(to, n, ZSTD_e_continue);
+    return pack(to, short_numbers(row, length, to->row), ZSTD_e_continue);
 }
 
-static inline uint32_t save_packed(Packer *to, const char *path, const int32_t *plane, size_t width, size_t height, size_t levels, int effort)
+static inline uint32_t save_packed(Packer *to, const char *path, const int32_t *plane, size_t width, size_t height, size_t levels, size_t step, int effort)
 {
+    const int32_t first = (int32_t)step;
     uint32_t no;
     int lost;
     ZSTD_CCtx_setParameter(to->zstd, ZSTD_c_compressionLevel, effort);
     ZSTD_CCtx_setParameter(to->zstd, ZSTD_c_checksumFlag, 1);
     to->file = fopen(path, "wb");
     if (!to->file) return NO_FILE;
-    no = save_plane(put_packed, to, plane, width, height, levels);
+    no = put_packed(to, &first, 1) ? save_plane(put_packed, to, plane, width, height, levels, step) : NO_FILE;
     lost = !no && !pack(to, 0, ZSTD_e_end);
     if (fclose(to->file) != 0) lost = 1;
     return lost && !no ? (uint32_t)NO_FILE : no;
 }
 
-/* `effort` is zstd's level, 1 to 22. */
-static inline uint32_t write_compressed(const char *path, const uint16_t *heights, size_t width, size_t height, size_t levels, int effort)
+/* `effort` is zstd's level, 1 to 22. The map is rounded before it is packed. */
+static inline uint32_t write_compressed(const char *path, const uint16_t *heights, size_t width, size_t height, size_t levels, size_t step, int effort)
 {
     int32_t *plane = (int32_t *)malloc(width * height * sizeof *plane);
     Packer *to = (Packer *)malloc(sizeof *to);
@@ -68,7 +65,8 @@ static inline uint32_t write_compressed(const char *path, const uint16_t *height
     if (to) to->zstd = ZSTD_createCCtx();
     if (plane && to && to->zstd) {
         no = write_plane(heights, width, height, levels, plane);
-        if (!no) no = save_packed(to, path, plane, width, height, levels, effort);
+        if (!no) no = terrain_round(plane, width * height, width, height, levels, step);
+        if (!no) no = save_packed(to, path, plane, width, height, levels, step, effort);
     }
     if (to) ZSTD_freeCCtx(to->zstd);
     free(to);
@@ -131,10 +129,11 @@ static inline int get_packed(void *unpacker, int32_t *row, size_t length)
     return 1;
 }
 
-/* The map and nothing else. */
+/* The map and nothing else. A step that no rounding has is no such file's. */
 static inline uint32_t load_packed(Unpacker *from, size_t *width, size_t *height, uint16_t **heights)
 {
-    uint32_t no = load_map(get_packed, from, width, height, heights);
+    int32_t step;
+    uint32_t no = !get_packed(from, &step, 1) ? NO_FILE : step < 1 || step > 64 ? DAMAGED : load_map(get_packed, from, (size_t)step, width, height, heights);
     if (!no && (next_byte(from) != EOF || from->left > 0)) from->damaged = 1;
     return from->damaged ? (uint32_t)DAMAGED : no;
 }

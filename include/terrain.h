@@ -199,15 +199,15 @@ uint32_t terrain_map_mend(const uint16_t *heights, size_t heights_len, size_t wi
                           terrain_rectangle rectangle, int32_t *plane, size_t plane_len, int32_t *work, size_t work_len);
 
 /* A smaller download: the plane of a map by the 5/3, from the origin, with each HL, LH and HH value rounded toward zero to the nearest
- * multiple of `step`, 1 to 64; LL and the surplus stay. Any 32-bit number is rounded. Heights that are rebuilt from such a plane, each value
- * limited to its level's range as it is made, are off by no more than `terrain_error_bound` says. A step of 1 changes nothing.
+ * multiple of `step`, 1 to 64; LL and the surplus stay. Any 32-bit number is rounded. Heights that a tolerant reader (terrain_tolerant_set_up)
+ * rebuilds from such a plane are off by no more than `terrain_error_bound` says. A step of 1 changes nothing.
  *
  * It answers 2, 3, 4 (1 to 5 levels) as above, 20 (the step), then 5 (the plane is too short). A call that is turned away changes nothing. */
 TERRAIN_CHECKED
 uint32_t terrain_round(int32_t *plane, size_t plane_len, size_t width, size_t height, size_t levels, size_t step);
 
 /* By how much such a height can be off, from a map's plane of `levels` levels rounded by `step`. It is a promise for every map: most heights
- * are off by far less. 4 (levels), 20 (step): *bound stays. */
+ * are off by far less, and by a step of 1 none is off. 4 (levels), 20 (step): *bound stays. */
 TERRAIN_CHECKED
 uint32_t terrain_error_bound(size_t levels, size_t step, size_t *bound);
 
@@ -295,20 +295,31 @@ uint32_t terrain_level_size(terrain_shape shape, size_t level, size_t *columns, 
 TERRAIN_CHECKED
 uint32_t terrain_reader_set_up_at(uint64_t state[16], terrain_shape shape, size_t stop, int32_t *store, size_t store_len);
 
+/* A fresh tolerant reader, for the plane of a map by the 5/3, from the origin, that was rounded (terrain_round): each value that it rebuilds is
+ * limited to its level's range, a height to 0 to 65,535, before anything is rebuilt from it, and 14 is not asked. Fed as it wants from the
+ * rounded plane of a map it draws all rows, and says Done; no height is off by more than `terrain_error_bound` says. Any other rows within
+ * question 7's ranges it turns into heights as well: it notices no damage. Store and calls are those of terrain_reader_set_up; but no call on
+ * it gives 9 or 14, and its want is never 3 (Ended).
+ * 2, 3, 4 (1 to 5 levels), 5. */
+TERRAIN_CHECKED
+uint32_t terrain_tolerant_set_up(uint64_t state[16], size_t width, size_t height, size_t levels, int32_t *store, size_t store_len);
+
 /* What the reader wants: want[0] is 0 for a band row, whose level, band, number and length follow, 1 for a draw, 2 when all height rows
- * are drawn (Done), 3 after a 14 (Ended). Where no band row is wanted the last four numbers are 0. 1. */
+ * are drawn (Done), 3 after a 14 (Ended; never of a tolerant reader). Where no band row is wanted the last four numbers are 0. 1. */
 TERRAIN_CHECKED
 uint32_t terrain_reader_want(const uint64_t state[16], uint64_t want[5]);
 
 /* The band row that is wanted.
  * 1; 5; 9 (ended by 14); 8 (no band row is wanted); 13 (the run has not the wanted length); 7 (a coefficient is out of its level's range);
- * 14 (no map has the rows fed). 14 alone changes what was lent: the needed part of the store is zeroed and the reader is ended. */
+ * 14 (no map has the rows fed). 14 alone changes what was lent: the needed part of the store is zeroed and the reader is ended. A tolerant
+ * reader gives neither 9 nor 14. */
 TERRAIN_CHECKED
 uint32_t terrain_reader_feed(uint64_t state[16], int32_t *store, size_t store_len, const int32_t *run, size_t run_len);
 
 /* The next height row, at the front of `out`, and its length (the width, or the columns of the level of a stop) in *drawn; where none can be
  * drawn, 0, and `out` is untouched.
- * 1; 5; 9 (ended by 14); 12 (`out` is shorter than the row); 14 as in a feed, with `out` and *drawn untouched. */
+ * 1; 5; 9 (ended by 14); 12 (`out` is shorter than the row); 14 as in a feed, with `out` and *drawn untouched. A tolerant reader gives
+ * neither 9 nor 14. */
 TERRAIN_CHECKED
 uint32_t terrain_reader_draw(uint64_t state[16], int32_t *store, size_t store_len, uint16_t *out, size_t out_len, size_t *drawn);
 

@@ -1,5 +1,5 @@
 # fish completion of the command terrain: commands, options, files by what a command takes.
-set -l commands check sum compare shade bands near far convert tile list rewrite help
+set -l commands check sum compare shade bands near far round convert tile list rewrite help
 complete -c terrain -n "not __fish_seen_subcommand_from $commands" -f -a check -d "there and back through writer and reader"
 complete -c terrain -n "not __fish_seen_subcommand_from $commands" -f -a sum -d "one line that is equal exactly when two maps are"
 complete -c terrain -n "not __fish_seen_subcommand_from $commands" -f -a compare -d "how many heights differ, where and by how much"
@@ -7,6 +7,7 @@ complete -c terrain -n "not __fish_seen_subcommand_from $commands" -f -a shade -
 complete -c terrain -n "not __fish_seen_subcommand_from $commands" -f -a bands -d "a picture of the coefficients"
 complete -c terrain -n "not __fish_seen_subcommand_from $commands" -f -a near -d "how near each cell of the coarse ground is to changing"
 complete -c terrain -n "not __fish_seen_subcommand_from $commands" -f -a far -d "the distant ground of a map"
+complete -c terrain -n "not __fish_seen_subcommand_from $commands" -f -a round -d "what rounding saves, and by how much heights are off"
 complete -c terrain -n "not __fish_seen_subcommand_from $commands" -f -a convert -d "between PGM, PNG and RAW"
 complete -c terrain -n "not __fish_seen_subcommand_from $commands" -f -a tile -d "a map cut into tiles, and back"
 complete -c terrain -n "not __fish_seen_subcommand_from $commands" -f -a list -d "every band row as a line of numbers"
@@ -19,4 +20,6 @@ complete -c terrain -n "__fish_seen_subcommand_from convert tile" -l size -x
 complete -c terrain -n "__fish_seen_subcommand_from convert" -l from -x -a "pgm png png8 raw raw-big"
 complete -c terrain -n "__fish_seen_subcommand_from convert" -l to -x -a "pgm png png8 raw raw-big"
 complete -c terrain -n "__fish_seen_subcommand_from tile" -l join
-complete -c terrain -n "__fish_seen_subcommand_from bands list" -a "1 2 3 4 5"
+complete -c terrain -n "__fish_seen_subcommand_from bands far list" -a "1 2 3 4 5"
+complete -c terrain -n "__fish_seen_subcommand_from round" -a "2 4 8 16 32 64"
+complete -c terrain -n "__fish_seen_subcommand_from round" -l levels -x -a "1 2 3 4 5"

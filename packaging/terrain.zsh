@@ -10,6 +10,7 @@ _terrain()
         'bands:a picture of the coefficients'
         'near:how near each cell of the coarse ground is to changing'
         'far:the distant ground of a map'
+        'round:what rounding saves, and by how much heights are off'
         'convert:between PGM, PNG and RAW'
         'tile:a map cut into tiles, and back'
         'list:every band row as a line of numbers'
@@ -24,12 +25,17 @@ _terrain()
     case $words[CURRENT - 1] in
     --from | --to) compadd -- pgm png png8 raw raw-big && return ;;
     --seed | --size) return ;;
+    --levels) compadd -- 1 2 3 4 5 && return ;;
     esac
     local -a options=(--help)
     case $words[2] in
     check) options+=(--seed) ;;
     convert) options+=(--from --to --size) ;;
     tile) options+=(--size --join) ;;
+    round)
+        options+=(--levels)
+        if ((CURRENT == 3)); then compadd -- 2 4 8 16 32 64 $options && return; fi
+        ;;
     bands | far | list)
         if ((CURRENT == 3)); then compadd -- 1 2 3 4 5 --help && return; fi
         ;;

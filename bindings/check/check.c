@@ -1,4 +1,4 @@
-/* Some maps through every binding's way: whole map, profile, writer, reader. One hash, which the checks of the other languages must print too. */
+/* Some maps through every binding's way: whole map, profile, writer, readers. One hash, which the checks of the other languages must print too. */
 #include "terrain.h"
 #include <stdio.h>
 #include <stdlib.h>
@@ -77,16 +77,10 @@ static void written(terrain_shape s, size_t n)
     drawn(state, room);
 }
 
-/* the whole map where `stop` is 0 */
-static void read_back(terrain_shape s, size_t n, size_t stop)
+static void read_on(uint64_t *state, terrain_shape s, size_t n)
 {
-    uint64_t state[16], want[5] = {0};
+    uint64_t want[5] = {0};
     size_t room = terrain_store_length(s), start = 0, length = 0;
-    if (stop) {
-        passed(terrain_level_size(s, stop, &start, &length));
-        add(start), add(length);
-    }
-    passed(stop ? terrain_reader_set_up_at(state, s, stop, store, room) : terrain_reader_set_up(state, s, store, room));
     for (;;) {
         passed(terrain_reader_want(state, want));
         add(want[0]);
@@ -101,6 +95,38 @@ static void read_back(terrain_shape s, size_t n, size_t stop)
     }
 }
 
+static void read_back(terrain_shape s, size_t n)
+{
+    uint64_t state[16];
+    passed(terrain_reader_set_up(state, s, store, terrain_store_length(s)));
+    read_on(state, s, n);
+}
+
+static void read_far(terrain_shape s, size_t n, size_t stop)
+{
+    uint64_t state[16];
+    size_t columns = 0, rows = 0;
+    passed(terrain_level_size(s, stop, &columns, &rows));
+    add(columns), add(rows);
+    passed(terrain_reader_set_up_at(state, s, stop, store, terrain_store_length(s)));
+    read_on(state, s, n);
+}
+
+/* the map of that size from the origin by the 5/3, rounded, through a tolerant reader */
+static void read_rounded(terrain_shape s, size_t n, size_t step)
+{
+    uint64_t state[16];
+    size_t bound = 0;
+    s = terrain_shape_of(s.width, s.height, s.levels);
+    passed(terrain_map_forward(heights, n, s, plane, n, work, n));
+    passed(terrain_round(plane, n, s.width, s.height, s.levels, step));
+    for (size_t i = 0; i < n; i++) add((uint32_t)plane[i]);
+    passed(terrain_error_bound(s.levels, step, &bound));
+    add(bound);
+    passed(terrain_tolerant_set_up(state, s.width, s.height, s.levels, store, terrain_store_length(s)));
+    read_on(state, s, n);
+}
+
 int main(void)
 {
     for (int i = 0; i < MAPS; i++) {
@@ -108,8 +134,9 @@ int main(void)
         size_t n = s.width * s.height;
         whole_map(s, n);
         written(s, n);
-        read_back(s, n, 0);
-        read_back(s, n, 1 + below((uint32_t)s.levels));
+        read_back(s, n);
+        read_far(s, n, 1 + below((uint32_t)s.levels));
+        read_rounded(s, n, 1 + below(64));
     }
     add(terrain_map_forward(heights, 1, terrain_shape_of(2050, 1, 1), plane, 1, work, 1));
     printf("%08lx%08lx\n", (unsigned long)(hash >> 32), (unsigned long)(hash & 0xffffffffu));

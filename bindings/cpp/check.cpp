@@ -95,6 +95,17 @@ void read_far(terrain::Shape s, const std::vector<std::int32_t> &plane, std::siz
     add(size.columns), add(size.rows);
     read_on(terrain::Reader(s, stop), s, plane);
 }
+
+void read_rounded(terrain::Shape s, const std::vector<std::uint16_t> &heights, std::size_t step)
+{
+    s = terrain_shape_of(s.width, s.height, s.levels);
+    std::vector<std::int32_t> plane(heights.size()), work(heights.size());
+    terrain::map_forward(heights, s, plane, work);
+    terrain::round(plane, s.width, s.height, s.levels, step);
+    for (auto value : plane) add(static_cast<std::uint32_t>(value));
+    add(terrain::error_bound(s.levels, step));
+    read_on(terrain::Reader::tolerant(s.width, s.height, s.levels), s, plane);
+}
 } // namespace
 
 int main()
@@ -109,6 +120,7 @@ int main()
         written(s, heights);
         read_on(terrain::Reader(s), s, plane);
         read_far(s, plane, 1 + below(static_cast<std::uint32_t>(s.levels)));
+        read_rounded(s, heights, 1 + below(64));
     }
     try {
         std::vector<std::int32_t> work(plane.size());

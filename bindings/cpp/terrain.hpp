@@ -105,6 +105,19 @@ inline LevelSize level_size(Shape shape, std::size_t level)
     return size;
 }
 
+// A plane of the 5/3, from the origin, rounded by a step for a smaller download; and by how much a height can be off that Reader::tolerant rebuilds from it.
+inline void round(Area<std::int32_t> plane, std::size_t width, std::size_t height, std::size_t levels, std::size_t step)
+{
+    detail::passed(terrain_round(plane.data(), plane.size(), width, height, levels, step));
+}
+
+inline std::size_t error_bound(std::size_t levels, std::size_t step)
+{
+    std::size_t bound = 0;
+    detail::passed(terrain_error_bound(levels, step, &bound));
+    return bound;
+}
+
 inline void profile(Area<const std::uint16_t> row, Area<float> out) { detail::passed(terrain_profile(row.data(), row.size(), out.data(), out.size())); }
 
 // What writer and reader share: sixteen numbers and a line store, both their own.
@@ -156,6 +169,14 @@ public:
         detail::passed(terrain_reader_set_up_at(state_.data(), shape, stop, store_.data(), store_.size()));
     }
 
+    // One for a rounded plane, of the 5/3, from the origin: each value that it rebuilds is limited to its level's range, and nothing is refused by 14.
+    static Reader tolerant(std::size_t width, std::size_t height, std::size_t levels)
+    {
+        Reader reader(Unset{terrain_shape_of(width, height, levels)});
+        detail::passed(terrain_tolerant_set_up(reader.state_.data(), width, height, levels, reader.store_.data(), reader.store_.size()));
+        return reader;
+    }
+
     // What it wants; the band row, where that is what it wants.
     Want want(BandRow &row) const
     {
@@ -178,6 +199,12 @@ public:
         detail::passed(terrain_reader_draw(state_.data(), store_.data(), store_.size(), detail::lent(out), out.size(), &drawn));
         return drawn;
     }
+
+private:
+    struct Unset {
+        Shape shape;
+    };
+    explicit Reader(Unset room) : Stream(room.shape) {}
 };
 
 } // namespace terrain

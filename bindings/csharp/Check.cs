@@ -77,6 +77,16 @@ static class Check
         }
     }
 
+    static void ReadRounded(ushort[] heights, long width, long height, long step)
+    {
+        Shape shape = new Shape(width, height, levels);
+        int[] plane = Map.Forward(heights, shape);
+        Map.Round(plane, width, height, levels, step);
+        foreach (int value in plane) Add((uint)value);
+        Add((ulong)Map.ErrorBound(levels, step));
+        ReadBack(Reader.Tolerant(width, height, levels), shape, plane);
+    }
+
     static void Main()
     {
         ushort[] heights = null;
@@ -91,6 +101,7 @@ static class Check
             Map.LevelSize(shape, stop, out columns, out rows);
             Add((ulong)columns); Add((ulong)rows);
             ReadBack(new Reader(shape, stop), shape, plane);
+            ReadRounded(heights, shape.Width, shape.Height, 1 + Below(64));
         }
         try { Map.Forward(heights, new Shape(2050, 1, 1)); } catch (Refused refused) { Add(refused.Question); }
         Console.WriteLine("{0:x16}", hash);

@@ -77,6 +77,21 @@ namespace Terrain
             columns = (long)(ulong)across; rows = (long)(ulong)down;
         }
 
+        // A plane of the 5/3, from the origin, rounded by a step for a smaller download.
+        public static void Round(int[] plane, long width, long height, long levels, long step)
+        {
+            UIntPtr columns = (UIntPtr)(ulong)width, rows = (UIntPtr)(ulong)height;
+            Refused.IfNot(Native.terrain_round(plane, Size(plane), columns, rows, (UIntPtr)(ulong)levels, (UIntPtr)(ulong)step));
+        }
+
+        // By how much a height can be off that Reader.Tolerant rebuilds from a plane rounded so.
+        public static long ErrorBound(long levels, long step)
+        {
+            UIntPtr bound = UIntPtr.Zero;
+            Refused.IfNot(Native.terrain_error_bound((UIntPtr)(ulong)levels, (UIntPtr)(ulong)step, ref bound));
+            return (long)(ulong)bound;
+        }
+
         public static float[] Profile(ushort[] row, int count)
         {
             float[] profile = new float[count];
@@ -141,6 +156,16 @@ namespace Terrain
             Refused.IfNot(Native.terrain_reader_set_up_at(state, shape, (UIntPtr)(ulong)stop, store, Map.Size(store)));
         }
 
+        // One for a rounded plane, of the 5/3, from the origin: each value that it rebuilds is limited to its level's range, and nothing is refused by 14.
+        public static Reader Tolerant(long width, long height, long levels) { return new Reader(width, height, levels); }
+
+        Reader(long width, long height, long levels)
+        {
+            store = new int[new Shape(width, height, levels).StoreLength + 1];
+            UIntPtr columns = (UIntPtr)(ulong)width, rows = (UIntPtr)(ulong)height;
+            Refused.IfNot(Native.terrain_tolerant_set_up(state, columns, rows, (UIntPtr)(ulong)levels, store, Map.Size(store)));
+        }
+
         public Want Want(out BandRow row)
         {
             Refused.IfNot(Native.terrain_reader_want(state, wanted));
@@ -179,6 +204,10 @@ namespace Terrain
         [DllImport(Library)]
         internal static extern uint terrain_band_row(UIntPtr plane, Shape shape, UIntPtr level, UIntPtr band, UIntPtr row, ref UIntPtr start, ref UIntPtr length);
         [DllImport(Library)]
+        internal static extern uint terrain_round(int[] plane, UIntPtr n, UIntPtr width, UIntPtr height, UIntPtr levels, UIntPtr step);
+        [DllImport(Library)]
+        internal static extern uint terrain_error_bound(UIntPtr levels, UIntPtr step, ref UIntPtr bound);
+        [DllImport(Library)]
         internal static extern uint terrain_profile(ushort[] row, UIntPtr n, float[] profile, UIntPtr m);
         [DllImport(Library)]
         internal static extern uint terrain_level_size(Shape shape, UIntPtr level, ref UIntPtr columns, ref UIntPtr rows);
@@ -194,6 +223,8 @@ namespace Terrain
         internal static extern uint terrain_reader_set_up(ulong[] state, Shape shape, int[] store, UIntPtr n);
         [DllImport(Library)]
         internal static extern uint terrain_reader_set_up_at(ulong[] state, Shape shape, UIntPtr stop, int[] store, UIntPtr n);
+        [DllImport(Library)]
+        internal static extern uint terrain_tolerant_set_up(ulong[] state, UIntPtr width, UIntPtr height, UIntPtr levels, int[] store, UIntPtr n);
         [DllImport(Library)]
         internal static extern uint terrain_reader_want(ulong[] state, ulong[] want);
         [DllImport(Library)]

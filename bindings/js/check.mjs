@@ -61,6 +61,12 @@ class Check {
       else return reader.close();
     }
   }
+
+  readRounded({ width, height, levels }, heights, step) {
+    const shape = { width, height, levels }, plane = this.terrain.round(this.terrain.mapForward(heights, shape), shape, step);
+    this.add(...plane, this.terrain.errorBound(levels, step));
+    this.readBack(this.terrain.tolerantReader(shape), shape, plane);
+  }
 }
 
 export async function check(bytes) {
@@ -72,6 +78,7 @@ export async function check(bytes) {
     const stop = 1 + run.below(shape.levels), { columns, rows } = run.terrain.levelSize(shape, stop);
     run.add(columns, rows);
     run.readBack(run.terrain.reader(shape, stop), shape, plane);
+    run.readRounded(shape, heights, 1 + run.below(64));
   }
   try {
     run.terrain.mapForward(new Uint16Array(1), { width: 2050, height: 1, levels: 1 });

@@ -29,9 +29,12 @@ export interface Terrain {
   mapBackward(plane: Int32Array, shape: Shape): Uint16Array;
   bandRow(planeLength: number, shape: Shape, level: number, band: number, row: number): { start: number; length: number };
   levelSize(shape: Shape, level: number): { columns: number; rows: number };
+  round(plane: Int32Array, shape: Shape, step: number): Int32Array;
+  errorBound(levels: number, step: number): number;
   profile(row: Uint16Array): Float32Array;
   writer(shape: Shape): Writer;
   reader(shape: Shape, stop?: number): Reader;
+  tolerantReader(shape: Shape): Reader;
 }
 
 export function load(bytes: BufferSource): Promise<Terrain>;

@@ -135,6 +135,26 @@ class Terrain {
     });
   }
 
+  // a plane of the 5/3, from the origin, rounded by a step for a smaller download: another one
+  round(plane, { width, height, levels }, step) {
+    const { memory, exports } = this;
+    return memory.during(() => {
+      const at = memory.lent(plane);
+      passed(exports.terrain_round(at, plane.length, width, height, levels, step));
+      return memory.view(Int32Array, at, plane.length).slice();
+    });
+  }
+
+  // by how much a height can be off that a tolerant reader rebuilds from a plane rounded so
+  errorBound(levels, step) {
+    const { memory, exports } = this;
+    return memory.during(() => {
+      const bound = memory.area(4);
+      passed(exports.terrain_error_bound(levels, step, bound));
+      return memory.view(Uint32Array, bound, 1)[0];
+    });
+  }
+
   profile(row) {
     const { memory, exports } = this;
     return memory.during(() => {
@@ -151,6 +171,13 @@ class Terrain {
   // with a stop it hands out that level's LL as heights, without the finer rows
   reader(shape, stop) {
     return new Reader(this, shape, stop);
+  }
+
+  // for a rounded plane, of the 5/3, from the origin: each value that it rebuilds is limited to its level's range, and nothing is refused by 14
+  tolerantReader({ width, height, levels }) {
+    const { terrain_tolerant_set_up } = this.exports;
+    const setUp = (state, of, store, room) => terrain_tolerant_set_up(state, width, height, levels, store, room);
+    return new Reader(this, { width, height, levels }, undefined, setUp);
   }
 }
 
@@ -206,10 +233,9 @@ class Writer extends Stream {
 }
 
 class Reader extends Stream {
-  constructor(terrain, shape, stop) {
-    const { terrain_reader_set_up, terrain_reader_set_up_at } = terrain.exports;
-    const atStop = (state, of, store, room) => terrain_reader_set_up_at(state, of, stop, store, room);
-    super(terrain, shape, stop === undefined ? terrain_reader_set_up : atStop);
+  constructor(terrain, shape, stop, setUp = terrain.exports.terrain_reader_set_up) {
+    const atStop = (state, of, store, room) => terrain.exports.terrain_reader_set_up_at(state, of, stop, store, room);
+    super(terrain, shape, stop === undefined ? setUp : atStop);
   }
 
   want() {

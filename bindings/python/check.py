@@ -66,6 +66,14 @@ def read_back(reader, shape, plane):
             return
 
 
+def read_rounded(shape, heights, step):
+    shape = terrain.Shape(shape.width, shape.height, shape.levels)
+    plane = terrain.map_forward(heights, shape)
+    terrain.round_plane(plane, shape, step)
+    add(*plane, terrain.error_bound(shape.levels, step))
+    read_back(terrain.TolerantReader(shape.width, shape.height, shape.levels), shape, plane)
+
+
 def main():
     for _ in range(60):
         shape = some_shape()
@@ -75,6 +83,7 @@ def main():
         stop = 1 + below(shape.levels)
         add(*terrain.level_size(shape, stop))
         read_back(terrain.Reader(shape, stop), shape, plane)
+        read_rounded(shape, heights, 1 + below(64))
     try:
         terrain.map_forward(array.array("H", [0]), terrain.Shape(2050, 1, 1))
     except terrain.Refused as refused:

@@ -97,6 +97,18 @@ def level_size(shape, level):
     return columns.value, rows.value
 
 
+def round_plane(plane, shape, step):
+    """Rounds a plane of the 5/3, from the origin, by a step for a smaller download, where it stands."""
+    _passed(_call("round", *_lent(plane, 4), shape.width, shape.height, shape.levels, step))
+
+
+def error_bound(levels, step):
+    """By how much a height can be off that a TolerantReader rebuilds from a plane rounded so."""
+    bound = _SIZE()
+    _passed(_call("error_bound", levels, step, ctypes.byref(bound)))
+    return bound.value
+
+
 def profile(row):
     """The smooth profile of a row of heights, as an array of 32-bit floats."""
     count = _lent(row, 2)[1]
@@ -106,11 +118,11 @@ def profile(row):
 
 
 class _Stream:
-    def __init__(self, kind, shape, set_up="set_up", *further):
+    def __init__(self, kind, shape, set_up, *arguments):
         self._kind, self._state = kind, _STATE()
         self._store = _numbers("i", store_length(shape))
         self._line = _numbers("i" if kind == "writer" else "H", max(shape.width, 1))
-        self._call(set_up, shape, *further, *_lent(self._store, 4))
+        _passed(_call(set_up, self._state, *arguments, *_lent(self._store, 4)))
 
     def _call(self, name, *arguments):
         _passed(_call(self._kind + "_" + name, self._state, *arguments))
@@ -120,7 +132,7 @@ class Writer(_Stream):
     """Heights in, in runs cut anywhere; band rows out as soon as they are due."""
 
     def __init__(self, shape):
-        super().__init__("writer", shape)
+        super().__init__("writer", shape, "writer_set_up", shape)
 
     def offer(self, run):
         """How many heights of the run were taken: draw what waits and offer the others again."""
@@ -143,9 +155,9 @@ class Reader(_Stream):
 
     def __init__(self, shape, stop=None):
         if stop is None:
-            super().__init__("reader", shape)
+            super().__init__("reader", shape, "reader_set_up", shape)
         else:
-            super().__init__("reader", shape, "set_up_at", stop)
+            super().__init__("reader", shape, "reader_set_up_at", shape, stop)
 
     def want(self):
         """ROW, DRAW, DONE or ENDED, and the (level, band, row) where a row is wanted."""
@@ -161,3 +173,10 @@ class Reader(_Stream):
         drawn = _SIZE()
         self._call("draw", *_lent(self._store, 4), *_lent(self._line, 2), ctypes.byref(drawn))
         return self._line[: drawn.value]
+
+
+class TolerantReader(Reader):
+    """One for a rounded plane, of the 5/3, from the origin: each value that it rebuilds is limited to its level's range, and nothing is refused by 14."""
+
+    def __init__(self, width, height, levels):
+        _Stream.__init__(self, "reader", Shape(width, height, levels), "tolerant_set_up", width, height, levels)

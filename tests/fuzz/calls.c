@@ -21,6 +21,7 @@ typedef struct {
     int kind; /* WRITER, READER: all calls went by the rules. 0: anything may stand in state and store */
     Map on; /* what it was set up for */
     size_t stop; /* of a reader, and the level at which it stops; 0: none */
+    size_t step; /* of a tolerant reader, and the step by which its plane was rounded; 0: it is a strict one */
     Order order;
     uint16_t heights[CAP]; /* taken or drawn */
     size_t count;
@@ -85,12 +86,19 @@ static int stop_fits(const uint64_t *s)
     return s[12] <= most - s[3] && s[13] <= (s[3] ? s[12] * room : 131136);
 }
 
+/* A tolerant reader reads a whole map from the origin by the 5/3, and is never ended. */
+static int admission_fits(const uint64_t *s)
+{
+    return !s[14] || (s[14] == 1 && !s[7] && !s[8] && !s[9] && !s[11] && !s[12]);
+}
+
 /* Question 1, as docs/STATE.md has it. */
 static int counts_fit(const uint64_t *s, int kind)
 {
     Map m = map_of(s, kind);
     int rest = 1;
-    for (int i = kind == WRITER ? 13 : 14; i < 16; i++) rest &= s[i] == 0;
+    for (int i = kind == WRITER ? 13 : 15; i < 16; i++) rest &= s[i] == 0;
+    if (kind == READER && !admission_fits(s)) return 0;
     if (rest && kind == READER && s[0] == READER && !s[3]) return last_fits(s) && stop_fits(s);
     if (!rest || s[0] != (uint64_t)kind || streamable(&m) || m.across.start > MOST_ORIGIN || m.down.start > MOST_ORIGIN) return 0;
     size_t ahead = filters[m.filter].ahead;
@@ -128,6 +136,7 @@ static void back(Slot *s, int kind, uint32_t answer, uint32_t may)
     HOLDS(answer < 16 && ((may | MAY(0) | MAY(1) | MAY(5)) >> answer & 1));
     HOLDS((answer == 1) == !fit);
     HOLDS((answer == 5) == (fit && lent_len < needed));
+    HOLDS(!s->state[14] || (answer != 9 && answer != 14));
     if (answer == 14) {
         uint64_t ended[16];
         memcpy(ended, s->state, sizeof ended);
@@ -185,10 +194,12 @@ static void far_ground(const Map *m, size_t stop, uint16_t *heights)
 
 static void set_up(Slot *s, int kind)
 {
-    int stops = kind == READER && below(2);
-    size_t stop = !stops ? 0 : below(8) ? 1 + below(5) : number();
+    unsigned how = kind == READER ? below(3) : 0;
+    int stops = how == 1, tolerant = how == 2;
+    size_t stop = !stops ? 0 : below(8) ? 1 + below(5) : number(), step = tolerant ? 1 + below(64) : 0;
     check_rows(s);
     Map m = any_map();
+    if (tolerant) m.across.start = m.down.start = m.filter = 0; /* it has neither */
     size_t h = m.down.length, needed = kind == WRITER ? model_writer_store(&m) : h > MOST_HEIGHT ? 0 : model_store(&m);
     unsigned more = byte();
     int32_t *old = s->store;
@@ -197,6 +208,7 @@ static void set_up(Slot *s, int kind)
     new_store(s, needed + (more < 200 ? more % 4 : 0) - (needed && more >= 240 ? 1 : 0));
     lend(s);
     uint32_t answer = stops ? terrain_reader_set_up_at(lent_state, shape_of(&m), stop, lent_store, lent_len)
+                    : tolerant ? terrain_tolerant_set_up(lent_state, m.across.length, h, m.levels, lent_store, lent_len)
                             : (kind == WRITER ? terrain_writer_set_up : terrain_reader_set_up)(lent_state, shape_of(&m), lent_store, lent_len);
     area_back(&state_area);
     area_back(&store_area);
@@ -215,13 +227,14 @@ static void set_up(Slot *s, int kind)
     for (size_t i = 0; i < needed; i++) HOLDS(lent_store[i] == 0);
     if (lent_len > needed) HOLDS(memcmp(lent_store + needed, s->store + needed, (lent_len - needed) * sizeof *s->store) == 0);
     take_back(s);
-    s->kind = kind, s->on = m, s->stop = stop, s->count = s->row_count = s->value_count = 0;
+    s->kind = kind, s->on = m, s->stop = stop, s->step = step, s->count = s->row_count = s->value_count = 0;
     order_start(&s->order, &m);
     if (kind == READER && m.across.length * h > CAP) s->kind = 0;
     if (s->kind == READER) {
         fill(s->map, m.across.length * h);
         model_forward(s->map, &m, s->plane);
         if (stop) far_ground(&m, stop, s->map);
+        if (step) model_round(s->plane, &m, (int64_t)step);
         s->pure = 1;
     }
 }
@@ -321,7 +334,7 @@ static uint32_t want(Slot *s, uint64_t wanted[5])
         return answer;
     }
     memcpy(wanted, said, 5 * sizeof *wanted);
-    HOLDS(said[0] <= ENDED && (said[0] == ENDED) == (s->state[7] == 1));
+    HOLDS(said[0] <= ENDED && (said[0] == ENDED) == (s->state[7] == 1) && !(s->state[14] && said[0] == ENDED));
     Map m = map_of(s->state, READER);
     size_t level = said[1] - s->state[12]; /* its levels are counted from the stop */
     if (said[0] == ROW && !s->state[3])
@@ -337,6 +350,12 @@ static uint32_t want(Slot *s, uint64_t wanted[5])
         HOLDS(s->count == side(s->on.across, s->stop).length * side(s->on.down, s->stop).length);
         HOLDS(model_approximation(s->plane, &s->on, s->stop, grid) == 0 || !s->count);
         for (size_t i = 0; i < s->count; i++) HOLDS(s->heights[i] == (grid[i] < 0 ? 0 : grid[i] > 65535 ? 65535 : grid[i]));
+    } else if (s->kind == READER && said[0] == DONE && s->step) {
+        /* all rows, as they are rebuilt with each value limited */
+        static uint16_t limited[CAP];
+        HOLDS(s->count == s->on.across.length * s->on.down.length);
+        model_tolerant(s->plane, &s->on, limited);
+        HOLDS(memcmp(s->heights, limited, s->count * sizeof *limited) == 0);
     } else if (s->kind == READER && said[0] == DONE) {
         /* never Done but for a map: the one that has these rows */
         static int32_t plane[CAP];
@@ -346,6 +365,15 @@ static uint32_t want(Slot *s, uint64_t wanted[5])
         HOLDS(!s->pure || memcmp(s->heights, s->map, s->count * sizeof *s->map) == 0);
     }
     return 0;
+}
+
+/* Whether heights drawn are the map's, or of a rounded plane off by no more than is promised. */
+static int near_enough(const Slot *s, const uint16_t *drawn, size_t length)
+{
+    int most = s->step ? (int)model_bound(s->on.levels, s->step) : 0;
+    for (size_t i = 0; i < length; i++)
+        if (abs((int)drawn[i] - (int)s->map[s->count + i]) > most) return 0;
+    return 1;
 }
 
 /* 14: no map has the rows fed, whatever the rows are that are not fed yet. */
@@ -421,7 +449,7 @@ static void draw_heights(Slot *s)
     if (answer == 14) ended(s);
     if (answer || !length) return;
     memcpy(s->heights + s->count, out, length * sizeof *out);
-    HOLDS(!s->pure || memcmp(out, s->map + s->count, length * sizeof *out) == 0);
+    HOLDS(!s->pure || near_enough(s, out, length));
     s->count += length;
 }
 
@@ -447,6 +475,11 @@ static void foreign(Slot *s)
                               m.across.start, m.down.start, last || below(2) ? 0 : below(5), below(16) ? filter : below(4), stop,
                               stop ? (last ? m.across.length : 0) + byte() : 0 };
         memcpy(s->state, counts, sizeof counts);
+        if (!below(4)) { /* a tolerant one, as a rule with the numbers that it has */
+            s->state[14] = 1 + (below(16) == 15);
+            if (below(4)) s->state[7] = s->state[8] = s->state[9] = s->state[11] = s->state[12] = s->state[13] = 0;
+        }
+        m = map_of(s->state, READER);
         new_store(s, model_store(&m) + s->state[13] + below(4));
         return;
     }

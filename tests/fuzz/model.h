@@ -222,6 +222,43 @@ static inline size_t model_bound(size_t levels, size_t step)
     return f;
 }
 
+/* ---- the tolerant reader: each rebuilt value is limited before further use, in a column the even ones before the odd ones that are rebuilt from them */
+
+static inline void limit_places(int32_t *x, size_t n, size_t first, int64_t least, int64_t most)
+{
+    for (size_t p = first; p < n; p += 2) x[p] = (int32_t)(x[p] < least ? least : x[p] > most ? most : x[p]);
+}
+
+static inline void model_column_limited(int32_t *line, size_t n, size_t stride, int64_t least, int64_t most)
+{
+    size_t low = (n + 1) / 2;
+    int32_t *x = malloc(n * sizeof *x);
+    if (!x) abort();
+    for (size_t p = 0; p < n; p++) x[p] = line[(p % 2 ? low + p / 2 : p / 2) * stride];
+    if (n > 1) low_step(x, n, 0, 0, -1);
+    limit_places(x, n, 0, least, most);
+    if (n > 1) high_step(x, n, 1, 0, -1);
+    limit_places(x, n, 1, least, most);
+    for (size_t p = 0; p < n; p++) line[p * stride] = x[p];
+    free(x);
+}
+
+/* What it rebuilds of a plane whose numbers are in their ranges. */
+static inline void model_tolerant(const int32_t *plane, const Map *m, uint16_t *heights)
+{
+    size_t w = m->across.length, n = w * m->down.length;
+    int32_t *x = malloc(n * sizeof *x);
+    if (!x) abort();
+    memcpy(x, plane, n * sizeof *x);
+    for (size_t k = m->levels; k-- > 0;) {
+        Side a = side(m->across, k), d = side(m->down, k);
+        for (size_t r = 0; r < d.length; r++) model_line(x + r * w, a.length, 1, 0, 0, 0);
+        for (size_t c = 0; c < a.length; c++) model_column_limited(x + c, d.length, w, k ? -range(m, k) : 0, range(m, k));
+    }
+    for (size_t i = 0; i < n; i++) heights[i] = (uint16_t)x[i];
+    free(x);
+}
+
 /* The numbers in a row of a band, and the rows of a band. */
 static inline size_t in_band(Side s, size_t level, size_t high)
 {

@@ -5,7 +5,7 @@ use crate::maps::{self, Rebuilt, MAX_HEIGHT};
 use crate::order::{self, BandRow, Step, Turn};
 use crate::random::Random;
 use crate::reader::{self, Want};
-use crate::filter;
+use crate::{filter, tolerant};
 use terrain::raw::State;
 use terrain::Shape;
 
@@ -14,6 +14,9 @@ pub const SURPLUS: usize = 5;
 
 /// Where docs/STATE.md has the flag of a reader that 14 ended.
 pub const ENDED: usize = 7;
+
+/// The number that says whether it limits what it rebuilds.
+pub const ADMISSION: usize = 14;
 
 /// And the height and the number of rows drawn.
 pub const HEIGHT: usize = 2;
@@ -24,6 +27,8 @@ pub struct Play<'a> {
     pub shape: Shape,
     /// the level at which it stops; 0: none
     pub stop: usize,
+    /// whether it limits what it rebuilds, and never asks 14
+    pub tolerant: bool,
     pub plane: &'a [i32],
     /// what the plane makes of each level over 32-bit words
     pub grids: Vec<Rebuilt>,
@@ -47,15 +52,22 @@ impl<'a> Play<'a> {
 
     /// One that stops at a level.
     pub fn to(plane: &'a [i32], shape: Shape, stop: usize) -> Self {
-        let needed = order::store_length(shape);
-        let mut store = Guarded::unset(needed + SURPLUS);
-        let mut state = [u64::MAX; 16];
-        let answer = if stop == 0 { reader::set_up(&mut state, shape, store.lent()) } else { reader::set_up_at(&mut state, shape, stop, store.lent()) };
-        assert_eq!(answer, Ok(()), "{shape:?} to {stop}");
-        assert!(store.content()[..needed].iter().all(|&v| v == 0), "set-up zeroes the needed part");
+        let (state, store) = begun(shape, |state, store| match stop {
+            0 => reader::set_up(state, shape, store),
+            _ => reader::set_up_at(state, shape, stop, store),
+        });
         let (grids, turns) = (maps::rebuilt(plane, shape), order::steps_to(shape, stop));
         let rows = if stop < shape.levels { grids[stop].rows.clone() } else { maps::corner(plane, shape, stop) };
-        Play { shape, stop, plane, grids, rows, turns, at: 0, ended: false, skipped: 0, drawn: Vec::new(), state, store }
+        let tolerant = false;
+        Play { shape, stop, tolerant, plane, grids, rows, turns, at: 0, ended: false, skipped: 0, drawn: Vec::new(), state, store }
+    }
+
+    /// A tolerant one, over a plane whose numbers are in their levels' ranges or not.
+    pub fn tolerant(plane: &'a [i32], shape: Shape) -> Self {
+        let (state, store) = begun(shape, |state, store| reader::tolerant_set_up(state, shape, store));
+        let (rows, turns) = (tolerant::rebuilt(plane, shape).swap_remove(0), order::steps(shape));
+        let (stop, tolerant, grids) = (0, true, Vec::new());
+        Play { shape, stop, tolerant, plane, grids, rows, turns, at: 0, ended: false, skipped: 0, drawn: Vec::new(), state, store }
     }
 
     /// How many heights a row has that is drawn.
@@ -73,7 +85,7 @@ impl<'a> Play<'a> {
 
     /// Question 14 of the next step: whether all rows fit that its call makes.
     pub fn fits(&self) -> bool {
-        self.turns[self.at].made.iter().all(|m| {
+        self.tolerant || self.turns[self.at].made.iter().all(|m| {
             let grid = &self.grids[m.level];
             let fits = grid.rows[m.first..m.end].iter().flatten().all(|&v| maps::fits(self.shape, m.level, v));
             fits && grid.even[m.own.clone()].iter().all(|&even| even)
@@ -231,6 +243,15 @@ impl<'a> Play<'a> {
         self.state[DRAWN] += (self.skipped >> self.stop) as u64;
         self
     }
+}
+
+/// State and store after a set-up that must pass: it zeroes the needed part.
+fn begun(shape: Shape, set_up: impl FnOnce(&mut State, &mut [i32]) -> Result<(), u32>) -> (State, Guarded) {
+    let needed = order::store_length(shape);
+    let (mut state, mut store) = ([u64::MAX; 16], Guarded::unset(needed + SURPLUS));
+    assert_eq!(set_up(&mut state, store.lent()), Ok(()), "{shape:?}");
+    assert!(store.content()[..needed].iter().all(|&v| v == 0), "set-up zeroes the needed part");
+    (state, store)
 }
 
 /// A plane with one to three numbers changed: to the ends of their range, past them, a little, or to anything.

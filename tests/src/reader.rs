@@ -32,6 +32,16 @@ pub fn set_up_at(state: &mut State, s: Shape, stop: usize, store: &mut [i32]) ->
     made.map(|_| ())
 }
 
+/// A tolerant reader; the shape's origin and filter are not read.
+pub fn tolerant_set_up(state: &mut State, s: Shape, store: &mut [i32]) -> Result<(), u32> {
+    let made = numbered(Reader::tolerant(s, store).map(|r| r.state()), Call::ReaderSetUp);
+    let before = *state;
+    let number = raw::tolerant_set_up(state, s.width, s.height, s.levels, store);
+    assert_eq!(number, made.err().unwrap_or(0));
+    assert_eq!(*state, made.unwrap_or(before), "the whole array is set, or stays");
+    made.map(|_| ())
+}
+
 /// What the wrapper says, and the raw numbers say the same.
 pub fn want(state: &State) -> Result<Want, u32> {
     let answer = numbered(Reader::resume(*state, &mut []).want(), Call::Want).map(|want| match want {

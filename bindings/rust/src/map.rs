@@ -67,7 +67,8 @@ pub fn round(plane: &mut [i32], s: Shape, step: usize) -> Result<(), Question> {
     Question::of(Call::Round, raw::round(plane, s.width, s.height, s.levels, step))
 }
 
-/// By how much a height can be off that is rebuilt, each value limited to its level's range, from a plane of so many levels, rounded by `step`.
+/// By how much a height can be off that a tolerant reader ([`crate::Reader::tolerant`]) rebuilds from the plane of a map of so many levels, rounded by
+/// `step`.
 pub fn error_bound(levels: usize, step: usize) -> Result<usize, Question> {
     let mut bound = 0;
     Question::of(Call::ErrorBound, raw::error_bound(levels, step, &mut bound)).map(|()| bound)

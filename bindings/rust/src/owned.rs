@@ -103,6 +103,13 @@ impl OwnedReader {
         Ok(OwnedReader { state, store, row: vec![0; shape.width] })
     }
 
+    /// As [`Reader::tolerant`].
+    pub fn tolerant(shape: Shape) -> Result<Self, Question> {
+        let mut store = vec![0; reader_store_length(Shape::new(shape.width, shape.height, shape.levels))];
+        let state = Reader::tolerant(shape, &mut store)?.state();
+        Ok(OwnedReader { state, store, row: vec![0; shape.width] })
+    }
+
     /// As [`Reader::resume`].
     pub fn resume(state: State, store: Vec<i32>) -> Self {
         OwnedReader { state, store, row: vec![0; MAX_WIDTH] }

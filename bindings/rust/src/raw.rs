@@ -146,6 +146,14 @@ mod c {
             store: *mut i32,
             store_len: usize,
         ) -> u32;
+        pub fn terrain_tolerant_set_up(
+            state: *mut [u64; 16],
+            width: usize,
+            height: usize,
+            levels: usize,
+            store: *mut i32,
+            store_len: usize,
+        ) -> u32;
         pub fn terrain_reader_want(state: *const [u64; 16], want: *mut [u64; 5]) -> u32;
         pub fn terrain_reader_feed(
             state: *mut [u64; 16],
@@ -292,6 +300,10 @@ pub fn level_size(shape: Shape, level: usize, columns: &mut usize, rows: &mut us
 
 pub fn reader_set_up_at(state: &mut State, shape: Shape, stop: usize, store: &mut [i32]) -> u32 {
     unsafe { c::terrain_reader_set_up_at(state, shape, stop, store.as_mut_ptr(), store.len()) }
+}
+
+pub fn tolerant_set_up(state: &mut State, width: usize, height: usize, levels: usize, store: &mut [i32]) -> u32 {
+    unsafe { c::terrain_tolerant_set_up(state, width, height, levels, store.as_mut_ptr(), store.len()) }
 }
 
 pub fn reader_want(state: &State, want: &mut [u64; 5]) -> u32 {

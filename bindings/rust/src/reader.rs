@@ -11,7 +11,7 @@ pub enum Want {
     Draw,
     /// All height rows are drawn.
     Done,
-    /// Question 14 ended the reader: no map has the rows that were fed.
+    /// Question 14 ended the reader: no map has the rows that were fed. A tolerant reader never says so.
     Ended,
 }
 
@@ -36,6 +36,15 @@ impl<'s> Reader<'s> {
     pub fn stopping_at(shape: Shape, stop: usize, store: &'s mut [i32]) -> Result<Self, Question> {
         let mut state = [0; 16];
         Question::of(Call::ReaderSetUp, raw::reader_set_up_at(&mut state, shape, stop, store))?;
+        Ok(Reader { state, store })
+    }
+
+    /// A tolerant reader, for the plane of a map by the 5/3, from the origin, that was rounded ([`crate::round`]): each value that it rebuilds is
+    /// limited to its level's range, a height to 0 to 65,535, before further use, so it gives neither 9 nor 14. No height is off by more than
+    /// [`crate::error_bound`] says. Of `shape` the width, the height and the levels are read.
+    pub fn tolerant(shape: Shape, store: &'s mut [i32]) -> Result<Self, Question> {
+        let (mut state, Shape { width, height, levels, .. }) = ([0; 16], shape);
+        Question::of(Call::ReaderSetUp, raw::tolerant_set_up(&mut state, width, height, levels, store))?;
         Ok(Reader { state, store })
     }
 

@@ -322,3 +322,27 @@ fn distant_ground() {
         assert_eq!(OwnedReader::stopping_at(s, s.levels + 1).unwrap_err().number, 17);
     }
 }
+
+#[test]
+fn a_rounded_plane_through_a_tolerant_reader() {
+    let (heights, n) = (map(19, 14), 19 * 14);
+    for levels in 1..=MAX_LEVELS {
+        let s = Shape::new(19, 14, levels);
+        let (mut exact, mut work) = (vec![0; n], vec![0; n]);
+        map_forward(&heights, s, &mut exact, &mut work).unwrap();
+        for step in [1, 2, 8, 64] {
+            let mut plane = exact.clone();
+            round(&mut plane, s, step).unwrap();
+            // origin and filter of a shape are not read
+            let (drawn, _) = read_all(OwnedReader::tolerant(s.at(1, 1).by(7)).unwrap(), s, &plane);
+            let most = drawn.iter().zip(&heights).map(|(a, b)| usize::from(a.abs_diff(*b))).max().unwrap();
+            assert!(drawn.len() == n && most <= error_bound(levels, step).unwrap() && (step > 1 || most == 0));
+        }
+    }
+    let mut store = [0; 40];
+    let mut reader = Reader::tolerant(Shape::new(1, 1, 1), &mut store).unwrap();
+    reader.feed(&[65_536]).unwrap();
+    assert_eq!(reader.draw(&mut [0]), Ok(Some(&[65_535][..])), "where a strict reader gives 14");
+    let number = |s: Shape| Reader::tolerant(s, &mut [0; 40]).unwrap_err().number;
+    assert_eq!([number(Shape::new(0, 0, 0)), number(Shape::new(1, 0, 0)), number(Shape::new(1, 1, 6)), number(Shape::new(11, 1, 1))], [2, 3, 4, 5]);
+}

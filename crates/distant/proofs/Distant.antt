@@ -48,7 +48,8 @@ use Rattle.reader.specs.Demand3.{Call, want, Event, wanted, fed, drew, World, e
 use Rattle.reader.specs.Demand3.{fedAs, fedBy, fedRows, drawnRows, IsPart, IsRow, HasFed, Demand3, wantSays, OfCalls}
 use Rattle.reader.specs.Demand3 as demand
 use Rattle.reader.proofs.CallViews.{Limits, on-top}
-use Rattle.reader.proofs.Demand3.{demand-3-over, done-only}
+use Rattle.reader.proofs.CallLists.{done-only}
+use Rattle.reader.proofs.Demand3.{demand-3-over}
 use Rattle.reader.proofs.Played.{exists-parts}
 use Rattle.reader.proofs.Rebuilt.{same-self}
 use Rattle.reader.proofs.QuestionLaws.{stop-in}
@@ -248,7 +249,7 @@ module _ (f : ℕ) (W H : Side) (L i n : ℕ) (across : W .start ≤ maxOrigin) 
       let turn = mul-left-comm r (suc i) maxWidth in
       omega (arith, whole-store, a, b, c, few, most, turn)
 
-  limits : (l : ℕ) → L - suc i ≡ suc l → Limits f (suc i) (left f W L (suc i)) (sideAt (suc i) W) (sideAt (suc i) H) l
+  limits : (l : ℕ) → L - suc i ≡ suc l → Limits 0 f (suc i) (left f W L (suc i)) (sideAt (suc i) W) (sideAt (suc i) H) l
   unfolding stopFits
   limits l e =
       let w = within-true 1 maxWidth (W .length) (asked .0) in
@@ -262,6 +263,7 @@ module _ (f : ℕ) (W H : Side) (L i n : ℕ) (across : W .start ≤ maxOrigin) 
         known = asked .2;
         deep = within-yes 1 (filterOf f .levels) (suc l) (omega arith) (omega (arith, e, d .1));
         stop = stops l e (d .1);
+        admits = λ some. absurd (omega (arith, some));
       }
     where
       stops : (l : ℕ) → L - suc i ≡ suc l → L ≤ filterOf f .levels → stopFits f (suc l) (suc i) (left f W L (suc i)) ≡ true

@@ -70,6 +70,7 @@ module _ (f j w h m x y : ℕ) (lim : Last f j w h m x y) where
     filter = f;
     stop = j;
     spare = m;
+    admission = 0;
   }
 
   abbrev pub world : ℕ → Bool → (ℕ → ℤ) → World

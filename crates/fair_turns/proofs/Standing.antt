@@ -11,7 +11,6 @@ use lib.ListN.{length, drop, length-append}
 use borrow.Author.Tests.{eq-eqb}
 use Rattle.numbers.specs.Signal.{pick}
 use Rattle.lifting.specs.Grid.{Side}
-use Rattle.wavelet.specs.Bands.{code}
 use Rattle.wavelet.specs.Limits.{maxOrigin}
 use Rattle.wavelet.specs.Order.{RowName, rowName}
 use Rattle.wavelet.specs.Questions.{ask}
@@ -25,16 +24,17 @@ use Rattle.reader_steps.specs.Sets.{ahead}
 use Rattle.reader_steps.proofs.Looks.{named-code}
 use Rattle.filters.specs.Figures.{storeBy}
 use Rattle.reader.specs.Questions.{runFits, storeFits, setUpQuestion}
-use Rattle.reader.specs.Demand3.{Call, want, feed, draw, Given, heights, nothing, Event, wanted, fed, drew, World, event, events, final, freshWorld}
+use Rattle.reader.specs.Demand3.{Call, want, feed, draw, Given, heights, Event, wanted, fed, drew, World, event, events, final, freshWorld}
 use Rattle.reader.specs.Demand3.{goesOn, rest, leftBy, left, ends, endedBy, wantSays, feedAway, feedTurned, drawGives, drawSays, OneOf, this, that}
 use Rattle.reader.specs.Demand3.{onTop, Draws, Demand3, OfCalls}
 use Rattle.reader.specs.Demand3 as demand
-use Rattle.reader.proofs.Demand3.{left-append, demand-3}
+use Rattle.reader.proofs.CallLists.{left-append}
+use Rattle.reader.proofs.Demand3.{demand-3}
 use Rattle.reader.proofs.Played.{set-up-room}
-use Rattle.fair_turns.specs.Reading.{Reading, ReadingLaws}
+use Rattle.fair_turns.specs.Reading.{ReadingLaws}
 use Rattle.fair_turns.specs.Together as together
 use Rattle.fair_turns.specs.FedInTurn.{moments, InTurn, FedInOrder}
-use Rattle.fair_turns.specs.Standing.{namesRow, takesRun, ofMap, allOfMap, namesOf, fromStop, FitsRow, over, standing}
+use Rattle.fair_turns.specs.Standing.{namesRow, takesRun, ofMap, allOfMap, namesOf, fromStop, FitsRow, reading, over, standing}
 use Rattle.fair_turns.proofs.Fed.{fed-in-turn}
 
 -- one row less
@@ -130,7 +130,7 @@ module _ (f b : ℕ) (W : Side) where
       (room, eq-eqb (a .size) (bandColumns W (x .level) (x .band)) (h .size ∙ ap (λ k. bandColumns W k (x .band)) (from-on b (x .level))), h .numbers) refl
 
 -- ---- what an event does to the steps left, t
-data Effect (t : List Step) (e : Event) : Type 0 where
+pub data Effect (t : List Step) (e : Event) : Type 0 where
   same : goesOn e ≡ false → ends e ≡ false → takesRun e ≡ [] → Effect t e
   fed-on : (y : RowName) (u : List Step) (a : Area) → t ≡ step.feed y ∷ u → goesOn e ≡ true → takesRun e ≡ a ∷ [] → Effect t e
   drawn-on : (r : ℕ) (u : List Step) → t ≡ step.draw r ∷ u → goesOn e ≡ true → takesRun e ≡ [] → Effect t e
@@ -155,22 +155,22 @@ drawn-effect W [] true a b v (that e) possible = absurd (let g = possible e in l
 drawn-effect W (step.feed y ∷ t) true a b v (that e) possible = absurd (let g = possible e in let z : _≡_ {A = ℕ} 0 1 = cc in omega arith)
 drawn-effect W (step.draw r ∷ t) true a b v (that e) possible = rw e (drawn-ends r t refl refl)
 
--- ---- every list of calls on the fresh reader
-module _ (f b e : ℕ) (W H : Side) (L m : ℕ) (x₀ : ℕ → ℤ) (of-calls : (cs : List Call) → OfCalls f b e W H L x₀ cs)
-    (room : storeFits (onTop e (storeBy f W L)) m ≡ true) where
-  abbrev w₀ : World
-  w₀ = freshWorld f b e W H L x₀
+-- ---- what is taken of a claim over its lists: wants, feeds and draws, up to 14. M numbers of the store are needed
+pub record Walks (f b M : ℕ) (W H : Side) (L : ℕ) (es : List Event) (then : Call → Event) : Type 0 where
+  pub wants : then want ≡ wanted (gives (wantSays b W (endedBy es) (left (steps (ahead f) W H L) es)))
+  pub feeds-turned : (n : ℕ) (a : Area) (q : ℕ) → feedTurned f b W M (endedBy es) (left (steps (ahead f) W H L) es) n a ≡ suc q →
+      then (feed n a) ≡ fed a (refused (suc q))
+  pub feeds-on : (n : ℕ) (a : Area) → feedTurned f b W M (endedBy es) (left (steps (ahead f) W H L) es) n a ≡ 0 →
+      OneOf (then (feed n a)) (fed a (gives tt)) (fed a (refused 14))
+  pub draws : (n : ℕ) (a : Area) → Draws W M (endedBy es) (left (steps (ahead f) W H L) es) n a (then (draw n a))
 
-  abbrev M : ℕ
-  M = onTop e (storeBy f W L)
-
+-- ---- every list of calls on the fresh reader, in the world w₀
+module _ (f b M : ℕ) (W H : Side) (L m : ℕ) (w₀ : World) (claim : (cs : List Call) → Walks f b M W H L (events cs w₀) (λ c. event c (final cs w₀)))
+    (room : storeFits M m ≡ true) where
   abbrev T₀ : List Step
   T₀ = steps (ahead f) W H L
 
-  claim : (cs : List Call) → Demand3 f b e W H L (events cs w₀) (λ c. event c (final cs w₀))
-  claim cs = of-calls cs .claim
-
-  effect : (cs : List Call) (c : Call) → endedBy (events cs w₀) ≡ false → Effect (left T₀ (events cs w₀)) (event c (final cs w₀))
+  pub effect : (cs : List Call) (c : Call) → endedBy (events cs w₀) ≡ false → Effect (left T₀ (events cs w₀)) (event c (final cs w₀))
   unfolding event goesOn ends takesRun drawSays
   effect cs want h = same refl refl refl
   effect cs (feed n a) h = go (feedTurned f b W M (endedBy (events cs w₀)) (left T₀ (events cs w₀)) n a) refl
@@ -208,10 +208,10 @@ module _ (f b e : ℕ) (W H : Side) (L m : ℕ) (x₀ : ℕ → ℤ) (of-calls :
     unfolding left leftBy
     left-after = ap (left T₀) after ∙ left-append T₀ es (seen ∷ [])
 
-    ended-after : endedBy (events (cs ++ (d ∷ [])) w₀) ≡ pick (endedBy es) true (ends seen)
+    pub ended-after : endedBy (events (cs ++ (d ∷ [])) w₀) ≡ pick (endedBy es) true (ends seen)
     ended-after = ap endedBy after ∙ ever-snoc ends es seen
 
-    taken-after : gathered takesRun (events (cs ++ (d ∷ [])) w₀) ≡ gathered takesRun es ++ takesRun seen
+    pub taken-after : gathered takesRun (events (cs ++ (d ∷ [])) w₀) ≡ gathered takesRun es ++ takesRun seen
     taken-after = ap (gathered takesRun) after ∙ gathered-snoc takesRun es seen
 
   -- ---- as many band rows are gone from the steps as runs were taken
@@ -241,7 +241,7 @@ module _ (f b e : ℕ) (W H : Side) (L m : ℕ) (x₀ : ℕ → ℤ) (of-calls :
   counted-list [] cs h = subst Counted (sym (append-nil cs)) h
   counted-list (d ∷ ds) cs h = subst Counted (append-assoc cs (d ∷ []) ds) (counted-list ds (cs ++ (d ∷ [])) (counted-call cs d h))
 
-  counted : (cs : List Call) → Counted cs
+  pub counted : (cs : List Call) → Counted cs
   unfolding lists.events lists.gathered left
   counted cs = counted-list cs [] (λ n. refl)
 
@@ -298,8 +298,8 @@ module _ (f b e : ℕ) (W H : Side) (L m : ℕ) (x₀ : ℕ → ℤ) (of-calls :
       ∙ names-more b y (drop (suc k) (bandRowsOf T₀))
       ∙ ap₂ (λ z l. z ∷ l) (n .is) (sym (names-drop b (suc k) (bandRowsOf T₀)))
 
-  pub over-laws : ReadingLaws (over f b e W H L m x₀)
-  over-laws = record {
+  pub reading-laws : ReadingLaws (reading f b W H L m w₀)
+  reading-laws = record {
     names-next = λ cs c x e. next-of cs x (is-named cs c x e);
     names-stay = λ cs c d x e s. let n = is-named cs c x e in named-is (cs ++ (d ∷ [])) x (stays cs d x n s (effect cs d (n .live)));
     takes-named = λ cs c x a e h.
@@ -308,6 +308,15 @@ module _ (f b e : ℕ) (W H : Side) (L m : ℕ) (x₀ : ℕ → ℤ) (of-calls :
         (claim cs .feeds-on m a (ap₂ (λ d t. feedTurned f b W M d t m a) (n .live) (n .next)
         ∙ fits-taken f b W M m room (n .name) (n .later) a (subst (λ y. FitsRow f b W y a) (sym (n .is)) h)));
   }
+
+-- ---- by demand 3
+module _ (f b e : ℕ) (W H : Side) (L m : ℕ) (x₀ : ℕ → ℤ) (of-calls : (cs : List Call) → OfCalls f b e W H L x₀ cs)
+    (room : storeFits (onTop e (storeBy f W L)) m ≡ true) where
+  pub over-laws : ReadingLaws (over f b e W H L m x₀)
+  over-laws = reading-laws f b (onTop e (storeBy f W L)) W H L m (freshWorld f b e W H L x₀) (λ cs. walks (of-calls cs .claim)) room
+    where
+      walks : {es : List Event} {then : Call → Event} → Demand3 f b e W H L es then → Walks f b (onTop e (storeBy f W L)) W H L es then
+      walks c = record { wants = c .wants; feeds-turned = c .feeds-turned; feeds-on = c .feeds-on; draws = c .draws }
 
 -- ---- with no stop
 pub standing-laws : (f : ℕ) (W H : Side) (L m : ℕ) → W .start ≤ maxOrigin → H .start ≤ maxOrigin → setUpQuestion f W H L m ≡ 0 → (x : ℕ → ℤ) →

@@ -6,7 +6,7 @@ use mathlib.Core.List.{List, [], _∷_, _++_, append-nil}
 use Prim.Native.Nat.{ℕ, zero, suc, _+_, _-_, _≤_, _<_}
 use native.Mathlib.Omega.{arith}
 use lib.IntN.{ℤ}
-use lib.Dec.{eqb, leb, ltb}
+use lib.Dec.{eqb, ltb}
 use lib.ListN.{length, drop, length-append}
 use borrow.Author.Tests.{le-leb, lt-ltb, le-ltb, eq-eqb, ltb-true, ltb-false}
 use Rattle.numbers.specs.Signal.{pick}
@@ -20,9 +20,7 @@ use Rattle.calls.proofs.ListLaws.{events-snoc, gathered-snoc}
 use Rattle.reader_steps.proofs.Looks.{named-code}
 use Rattle.reader.specs.Answers.{row, drawNow, done}
 use Rattle.wavelet.specs.Levels.{sideAt}
-use Rattle.wavelet.specs.Steps.{steps, bandRowsOf}
 use Rattle.filters.specs.Figures.{storeBy}
-use Rattle.reader_steps.specs.Sets.{ahead}
 use Rattle.reader.specs.Questions.{storeFits, runFits, stopQuestion}
 use Rattle.reader.specs.Stops.{works, left}
 use Rattle.reader.specs.Demand3.{onTop, Call, want, feed, draw, World, Event, wanted, fed, drew, event, next, events, final, ends, endedBy, drawnBy, drawnRows}
@@ -31,8 +29,8 @@ use Rattle.reader.proofs.CallViews.{on-top}
 use Rattle.distant.specs.LastLists.{fedRun, fedRuns, lastSays, lastFeed}
 use Rattle.distant.specs.Distant.{stoppedWorld, HandsLow}
 use Rattle.distant.proofs.Distant.{whole-store, of-calls, world-is, distant-last}
-use Rattle.fair_turns.specs.Reading.{Reading, ReadingLaws}
-use Rattle.fair_turns.specs.Standing.{namesRow, takesRun, namesOf, FitsRow}
+use Rattle.fair_turns.specs.Reading.{ReadingLaws}
+use Rattle.fair_turns.specs.Standing.{namesRow, takesRun, reading}
 use Rattle.fair_turns.specs.Stopping.{stopping, lowRows, handing}
 use Rattle.fair_turns.proofs.Standing.{neither, over-laws}
 
@@ -51,21 +49,7 @@ module _ (f : ℕ) (W H : Side) (L i n : ℕ) (across : W .start ≤ maxOrigin) 
 
   pub stopping-laws : ReadingLaws (stopping f W H L (suc i) n x)
   stopping-laws =
-      subst (λ v. ReadingLaws (record {
-        Call = Call;
-        World = World;
-        Event = Event;
-        event = event;
-        next = next;
-        fresh = v;
-        rows = namesOf (suc i) (bandRowsOf (steps (ahead f) (sideAt (suc i) W) (sideAt (suc i) H) (L - suc i)));
-        want = want;
-        feed = feed n;
-        names = namesRow;
-        takes = takesRun;
-        Fits = FitsRow f (suc i) (sideAt (suc i) W);
-      }))
-      (sym (world-is f W H L i n across down ok on x))
+      subst (λ v. ReadingLaws (reading f (suc i) (sideAt (suc i) W) (sideAt (suc i) H) (L - suc i) n v)) (sym (world-is f W H L i n across down ok on x))
       (over-laws f (suc i) (left f W L (suc i)) (sideAt (suc i) W) (sideAt (suc i) H) (L - suc i) n x
       (λ cs. of-calls f W H L i n across down ok on x cs (L - suc i) refl) room)
 

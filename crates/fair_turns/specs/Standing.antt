@@ -15,7 +15,7 @@ use Rattle.wavelet.specs.View.{bandColumns}
 use Rattle.calls.specs.Lists.{gives, refused, Area}
 use Rattle.reader_steps.specs.Asked.{named}
 use Rattle.reader_steps.specs.Sets.{ahead}
-use Rattle.reader.specs.Answers.{Want, row, drawNow, done, ended}
+use Rattle.reader.specs.Answers.{row, drawNow, done, ended}
 use Rattle.reader.specs.Questions.{runFits}
 use Rattle.reader.specs.Demand3.{onTop, Call, want, feed, World, Event, wanted, fed, drew, event, next, freshWorld}
 use Rattle.fair_turns.specs.Reading.{Reading}
@@ -55,14 +55,15 @@ pub record FitsRow (f b : ℕ) (W : Side) (x : RowName) (a : Area) : Type 0 wher
   pub size : a .size ≡ bandColumns W (fromStop b (x .level)) (x .band)
   pub numbers : runFits f (x .level) (a .size) (a .numbers) ≡ true
 
-abbrev pub over : ℕ → ℕ → ℕ → Side → Side → ℕ → ℕ → (ℕ → ℤ) → Reading
-over f b e W H L n x = record {
+-- in the world w of a set-up that passed
+abbrev pub reading : ℕ → ℕ → Side → Side → ℕ → ℕ → World → Reading
+reading f b W H L n w = record {
   Call = Call;
   World = World;
   Event = Event;
   event = event;
   next = next;
-  fresh = freshWorld f b e W H L x;
+  fresh = w;
   rows = namesOf b (bandRowsOf (steps (ahead f) W H L));
   want = want;
   feed = feed n;
@@ -70,6 +71,9 @@ over f b e W H L n x = record {
   takes = takesRun;
   Fits = FitsRow f b W;
 }
+
+abbrev pub over : ℕ → ℕ → ℕ → Side → Side → ℕ → ℕ → (ℕ → ℤ) → Reading
+over f b e W H L n x = reading f b W H L n (freshWorld f b e W H L x)
 
 -- with no stop
 abbrev pub standing : ℕ → Side → Side → ℕ → ℕ → (ℕ → ℤ) → Reading

@@ -11,31 +11,16 @@ use Rattle.lifting.specs.Grid.{Side}
 use Rattle.wavelet.specs.Bands.{LL}
 use Rattle.wavelet.specs.Levels.{sideAt}
 use Rattle.wavelet.specs.Order.{RowName, rowName}
-use Rattle.wavelet.specs.Steps.{steps, bandRowsOf}
 use Rattle.calls.specs.Lists.{Area}
-use Rattle.reader_steps.specs.Sets.{ahead}
 use Rattle.reader.specs.Questions.{runFits}
 use Rattle.reader.specs.Demand3.{Call, want, feed, World, Event, event, next}
 use Rattle.distant.specs.Distant.{stoppedWorld}
 use Rattle.fair_turns.specs.Reading.{Reading}
-use Rattle.fair_turns.specs.Standing.{namesRow, takesRun, namesOf, FitsRow}
+use Rattle.fair_turns.specs.Standing.{namesRow, takesRun, reading}
 
 -- where levels are to be worked out
 abbrev pub stopping : ℕ → Side → Side → ℕ → ℕ → ℕ → (ℕ → ℤ) → Reading
-stopping f W H L j n x = record {
-  Call = Call;
-  World = World;
-  Event = Event;
-  event = event;
-  next = next;
-  fresh = stoppedWorld f W H L j x;
-  rows = namesOf j (bandRowsOf (steps (ahead f) (sideAt j W) (sideAt j H) (L - j)));
-  want = want;
-  feed = feed n;
-  names = namesRow;
-  takes = takesRun;
-  Fits = FitsRow f j (sideAt j W);
-}
+stopping f W H L j n x = reading f j (sideAt j W) (sideAt j H) (L - j) n (stoppedWorld f W H L j x)
 
 -- where none is: n rows of LL of level j, from row r on
 unfoldable pub lowRows : ℕ → ℕ → ℕ → List RowName

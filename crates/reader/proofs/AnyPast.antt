@@ -18,18 +18,20 @@ use Rattle.reader_steps.specs.Places.{Place}
 use Rattle.reader.specs.Store.{stretchAt}
 use Rattle.reader.specs.Questions.{setUpQuestion}
 use Rattle.reader.specs.Reading.{countsFit}
-use Rattle.reader.specs.Demand3.{Event, World, event, freshWorld, left, FedRow, fedRows, Demand3}
+use Rattle.reader.specs.Demand3.{Event, World, event, worldBy, freshWorld, left, FedRow, fedRows, Demand3}
 use Rattle.reader.specs.Past.{Lent, found, lentEvent, lentNext}
 use Rattle.reader.proofs.StoreLaws.{stretch-is}
 use Rattle.reader.proofs.Holds.{held-reads}
 use Rattle.reader.proofs.CallViews.{Limits, limits, at}
 use Rattle.reader.proofs.Reached.{Kept, Reached, reached}
-use Rattle.reader.proofs.Demand3.{no-levels, Then, step-reached, fresh-reached, claim}
+use Rattle.reader.proofs.CallLists.{Then, step-reached, fresh-reached}
+use Rattle.reader.proofs.Demand3.{no-levels, claim}
 
-module _ (f base spare : ℕ) (W H : Side) (l : ℕ) where
+module _ (ad f base spare : ℕ) (W H : Side) (l : ℕ) where
   pub kept-reads : (d : ℕ) (p : Place) (e : Bool) (x y : ℕ → ℤ) (t : List Step) (fs : List FedRow) (ds : List (ℕ → ℤ)) →
-      ((j : ℕ) → j < storeBy f W (suc l) → y j ≡ x j) → Kept f base spare W H l d p e x t fs ds → Kept f base spare W H l d p e y t fs ds
+      ((j : ℕ) → j < storeBy f W (suc l) → y j ≡ x j) → Kept ad f base spare W H l d p e x t fs ds → Kept ad f base spare W H l d p e y t fs ds
   kept-reads d p e x y t fs ds same kept = record {
+    lives = kept .lives;
     drawn-le = kept .drawn-le;
     level-le = kept .level-le;
     band-le = kept .band-le;
@@ -47,30 +49,30 @@ module _ (f base spare : ℕ) (W H : Side) (l : ℕ) where
           has = o .has;
           holds = λ live due.
               let q = at f W H l d p in
-              held-reads f base W H l P (q .level) (q .set) (q .band) x y (λ j b. same j (omega (arith, stretch-is f W (suc l)))) (o .holds live due);
+              held-reads ad f base W H l P (q .level) (q .set) (q .band) x y (λ j b. same j (omega (arith, stretch-is f W (suc l)))) (o .holds live due);
           refuses = o .refuses;
         };
   }
 
-  module _ (lim : Limits f base spare W H l) where
-    found-reached : (w : World) (e : Bool) (t : List Step) (fs : List FedRow) (ds : List (ℕ → ℤ)) (q : ℕ → ℤ) → Reached f base spare W H l lim w e t fs ds →
-        Reached f base spare W H l lim (found q w) e t fs ds
+  module _ (lim : Limits ad f base spare W H l) where
+    pub found-reached : (w : World) (e : Bool) (t : List Step) (fs : List FedRow) (ds : List (ℕ → ℤ)) (q : ℕ → ℤ) → Reached ad f base spare W H l lim w e t fs ds →
+        Reached ad f base spare W H l lim (found q w) e t fs ds
     found-reached _ e t fs ds q (reached d p _ x _ _ _ kept) =
         reached d p e (fronted (spare + storeBy f W (suc l)) x q) t fs ds
         (kept-reads d p e x (fronted (spare + storeBy f W (suc l)) x q) t fs ds
         (λ j b. unfold fronted in simp (lt-ltb j (spare + storeBy f W (suc l)) (omega arith))) kept)
 
-    lent-reached : (d : Lent) (es : List Event) (w : World) → Then f base spare W H l lim es w → Then f base spare W H l lim (es ++ (lentEvent d w ∷ []))
+    lent-reached : (d : Lent) (es : List Event) (w : World) → Then ad f base spare W H l lim es w → Then ad f base spare W H l lim (es ++ (lentEvent d w ∷ []))
         (lentNext d w)
     unfolding lentEvent lentNext
-    lent-reached d es w r = step-reached f base spare W H l lim (d .call) es (found (d .past) w) (found-reached w _ _ _ _ (d .past) r)
+    lent-reached d es w r = step-reached ad f base spare W H l lim (d .call) es (found (d .past) w) (found-reached w _ _ _ _ (d .past) r)
 
-    lents-reached : (x : ℕ → ℤ) (ds : List Lent) → (let w = freshWorld f base spare W H (suc l) x in
-        Then f base spare W H l lim (lists.events lentEvent lentNext ds w) (lists.final lentNext ds w))
+    pub lents-reached : (x : ℕ → ℤ) (ds : List Lent) → (let w = worldBy ad f base spare W H (suc l) x in
+        Then ad f base spare W H l lim (lists.events lentEvent lentNext ds w) (lists.final lentNext ds w))
     unfolding lists.ever lists.gathered left fedRows
     lents-reached x ds =
-        list-reached lentEvent lentNext (Then f base spare W H l lim) lent-reached ds [] (freshWorld f base spare W H (suc l) x)
-        (fresh-reached f base spare W H l lim x)
+        list-reached lentEvent lentNext (Then ad f base spare W H l lim) lent-reached ds [] (worldBy ad f base spare W H (suc l) x)
+        (fresh-reached ad f base spare W H l lim x)
 
 -- a set-up that passed, then any calls, and a further one, whatever each finds past the needed part
 pub any-past : (f : ℕ) (W H : Side) (L n : ℕ) → W .start ≤ maxOrigin → H .start ≤ maxOrigin → setUpQuestion f W H L n ≡ 0 → (x : ℕ → ℤ) (ds : List Lent)
@@ -80,4 +82,4 @@ pub any-past : (f : ℕ) (W H : Side) (L n : ℕ) → W .start ≤ maxOrigin →
 any-past f W H zero n across down ok x ds q = absurd (no-levels f W H n ok)
 any-past f W H (suc l) n across down ok x ds q =
     let lim = limits f W H l n across down ok in
-    claim f 0 0 W H l lim _ _ (found-reached f 0 0 W H l lim _ _ _ _ _ q (lents-reached f 0 0 W H l lim x ds))
+    claim f 0 0 W H l lim _ _ (found-reached 0 f 0 0 W H l lim _ _ _ _ _ q (lents-reached 0 f 0 0 W H l lim x ds))

@@ -40,7 +40,7 @@ use Rattle.reader_steps.specs.Places.{spot, placeOf, dive, enter, spotFed}
 use Rattle.reader.specs.State.{columns, rows, needs, next, nextRow, nextLength, unfinished, rowDue, drawDue, wants, settles, feeds, movedTo}
 use Rattle.reader.specs.State.{fedReader, drawnReader, endedReader}
 use Rattle.reader.specs.Questions.{countsFit, storeFits, runFits, wantQuestion, feedQuestion, drawQuestion}
-use Rattle.reader.specs.Calls.{freshOver, fresh, setUpReply, setUpStore, wantReply, feedReply}
+use Rattle.reader.specs.Calls.{freshBy, freshTolerant, tolerantReply, fresh, setUpReply, setUpStore, wantReply, feedReply}
 use Rattle.reader.specs.Calls.{storeAfter, feedStore, drawReply, drawStore, heightRow, drawArea}
 use Rattle.reader.specs.Inside.{Is, Small, Counts, storeQuestion, rowQuestion}
 use Rattle.level.specs.Rebuilding.{Kept, widest}
@@ -72,6 +72,17 @@ module _ (f : ℕ) (W H : Side) (L Q : ℕ) (x : ℕ → ℤ) where
       (gives s ≡ setUpReply f W H L Q) × (y ≡ setUpStore f W L Q x)
   unfolding setUpReply setUpStore zeroed
   set-up-yes s y n es e en ey = let t = eq-eqb Q 0 e in (rw t (ap gives es), rw t (ey ∙ ap (λ (i : ℕ). fronted i (λ _. pos 0) x) en))
+
+-- of a tolerant reader
+module _ (w h L Q : ℕ) (x : ℕ → ℤ) where
+  pub tolerant-no : (r : ℕ) → r ≡ Q → (r ≡ 0 → ⊥) → (refused r ≡ tolerantReply w h L Q) × (x ≡ setUpStore 0 (side 0 w) L Q x)
+  unfolding tolerantReply setUpStore
+  tolerant-no r e n = let u = ne-eqb r 0 n in (rw (← e, u), rw (← e, u))
+
+  pub tolerant-yes : (s : Reader) (y : ℕ → ℤ) (n : ℕ) → s ≡ freshTolerant w h L → Q ≡ 0 → n ≡ storeBy 0 (side 0 w) L → y ≡ fronted n (λ _. pos 0) x →
+      (gives s ≡ tolerantReply w h L Q) × (y ≡ setUpStore 0 (side 0 w) L Q x)
+  unfolding tolerantReply setUpStore zeroed
+  tolerant-yes s y n es e en ey = let t = eq-eqb Q 0 e in (rw t (ap gives es), rw t (ey ∙ ap (λ (i : ℕ). fronted i (λ _. pos 0) x) en))
 
 -- ---- want
 module _ (s : Reader) where
@@ -118,10 +129,10 @@ module _ (s : Reader) where
       refl
 
 -- ---- the number of the question that says no
--- questions 1, 5 and 9
+-- questions 5 and 9
 module _ (s : Reader) (n : ℕ) where
   abbrev early : List (Bool × ℕ)
-  early = (countsFit s, 0) ∷ (storeFits (needs s) n, 4) ∷ (not (s .ended), 8) ∷ []
+  early = (storeFits (needs s) n, 4) ∷ (not (s .ended), 8) ∷ []
 
 -- 8, 13 and 7
 module _ (s : Reader) (m : ℕ) (v : ℕ → ℤ) where
@@ -132,38 +143,58 @@ module _ (s : Reader) (m : ℕ) (v : ℕ → ℤ) where
 module _ (s : Reader) (n m : ℕ) (v x : ℕ → ℤ) where
   pub store-14 : storeQuestion s n ≡ 14 → ⊥
   unfolding storeQuestion
-  store-14 = asks-none 13 (early s n) (all-more (λ e. omega arith) (all-more (λ e. omega arith) (all-more (λ e. omega arith) all-none)))
+  store-14 = asks-none 13 (early s n) (all-more (λ e. omega arith) (all-more (λ e. omega arith) all-none))
 
   pub row-14 : rowQuestion s m v ≡ 14 → ⊥
   unfolding rowQuestion
   row-14 = asks-none 13 (late s m v) (all-more (λ e. omega arith) (all-more (λ e. omega arith) (all-more (λ e. omega arith) all-none)))
 
-  pub feed-early : (storeQuestion s n ≡ 0 → ⊥) → storeQuestion s n ≡ feedQuestion s n x m v
-  unfolding storeQuestion feedQuestion
-  feed-early = asks-no (early s n) _
+  -- question 1 is asked first
+  pub feed-1 : countsFit s ≡ false → 1 ≡ feedQuestion s n x m v
+  unfolding feedQuestion
+  feed-1 e = rw e
 
-  module _ (one : storeQuestion s n ≡ 0) where
-    abbrev last : ℕ
-    last = ask (fits (feeds s v x)) 14 0
+  abbrev last : ℕ
+  last = ask (fits (feeds s v x)) 14 0
 
+  feed-fit : countsFit s ≡ true → asks (early s n) (asks (late s m v) last) ≡ feedQuestion s n x m v
+  unfolding feedQuestion
+  feed-fit fit = rw fit refl
+
+  pub feed-early : countsFit s ≡ true → (storeQuestion s n ≡ 0 → ⊥) → storeQuestion s n ≡ feedQuestion s n x m v
+  unfolding storeQuestion
+  feed-early fit h = asks-no (early s n) _ h ∙ feed-fit fit
+
+  module _ (fit : countsFit s ≡ true) (one : storeQuestion s n ≡ 0) where
     pub feed-late : (rowQuestion s m v ≡ 0 → ⊥) → rowQuestion s m v ≡ feedQuestion s n x m v
-    unfolding storeQuestion rowQuestion feedQuestion
-    feed-late h = asks-no (late s m v) last h ∙ asks-yes (early s n) (asks (late s m v) last) one
+    unfolding storeQuestion rowQuestion
+    feed-late h = asks-no (late s m v) last h ∙ asks-yes (early s n) (asks (late s m v) last) one ∙ feed-fit fit
 
     pub feed-last : rowQuestion s m v ≡ 0 → ask (fits (feeds s v x)) 14 0 ≡ feedQuestion s n x m v
-    unfolding storeQuestion rowQuestion feedQuestion
-    feed-last two = asks-yes (late s m v) last two ∙ asks-yes (early s n) (asks (late s m v) last) one
+    unfolding storeQuestion rowQuestion
+    feed-last two = asks-yes (late s m v) last two ∙ asks-yes (early s n) (asks (late s m v) last) one ∙ feed-fit fit
 
 -- ---- of a draw
 module _ (s : Reader) (n m : ℕ) (x : ℕ → ℤ) where
-  pub draw-early : (storeQuestion s n ≡ 0 → ⊥) → storeQuestion s n ≡ drawQuestion s n x m
-  unfolding storeQuestion drawQuestion
-  draw-early = asks-no (early s n) _
+  pub draw-1 : countsFit s ≡ false → 1 ≡ drawQuestion s n x m
+  unfolding drawQuestion
+  draw-1 e = rw e
 
-  module _ (one : storeQuestion s n ≡ 0) where
-    late-draw : pick (drawDue s) (ask (leb (s .width) m) 12 (ask (fits (settles s x)) 14 0)) 0 ≡ drawQuestion s n x m
-    unfolding storeQuestion drawQuestion
-    late-draw = asks-yes (early s n) _ one
+  abbrev drawn-late : ℕ
+  drawn-late = pick (drawDue s) (ask (leb (s .width) m) 12 (ask (fits (settles s x)) 14 0)) 0
+
+  draw-fit : countsFit s ≡ true → asks (early s n) drawn-late ≡ drawQuestion s n x m
+  unfolding drawQuestion
+  draw-fit fit = rw fit refl
+
+  pub draw-early : countsFit s ≡ true → (storeQuestion s n ≡ 0 → ⊥) → storeQuestion s n ≡ drawQuestion s n x m
+  unfolding storeQuestion
+  draw-early fit h = asks-no (early s n) _ h ∙ draw-fit fit
+
+  module _ (fit : countsFit s ≡ true) (one : storeQuestion s n ≡ 0) where
+    late-draw : drawn-late ≡ drawQuestion s n x m
+    unfolding storeQuestion
+    late-draw = asks-yes (early s n) drawn-late one ∙ draw-fit fit
 
     pub draw-none : drawDue s ≡ false → 0 ≡ drawQuestion s n x m
     draw-none e = (rw e) ∙ late-draw
@@ -305,6 +336,6 @@ module _ (s : Reader) (counts : Counts s) (due : s .drawn < s .height) where
 -- where a fresh reader begins
 pub fresh-at : (s t : Reader) (p : Spot) → Is (enter (s .filter) (columns s) (rows s) (s .levels) 0) p →
     t ≡ movedTo s 0 (placeOf (s .filter) (rows s) 0 (spot (p .level) (p .set) (p .band))) →
-    t ≡ freshOver (s .filter) (s .stop) (s .spare) (columns s) (rows s) (s .levels)
-unfolding freshOver
+    t ≡ freshBy (s .admission) (s .filter) (s .stop) (s .spare) (columns s) (rows s) (s .levels)
+unfolding freshBy
 fresh-at s t p is e = e ∙ ap (λ q. movedTo s 0 (placeOf (s .filter) (rows s) 0 q)) (spot-of _ p is)

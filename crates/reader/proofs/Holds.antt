@@ -13,18 +13,18 @@ use lib.IntN.{ℤ}
 use lib.Dec.{T, leb, ltb, eqb}
 use borrow.Author.Tests.{lt-ltb, le-ltb, eq-eqb, ne-eqb, eqb-true, le-leb, leb-false}
 use Rattle.numbers.specs.Signal.{pick, both}
-use Rattle.numbers.specs.Word.{wrap32}
 use Rattle.lifting.specs.Line.{lo}
 use Rattle.lifting.specs.Grid.{Side, count}
-use Rattle.wavelet.specs.Bands.{Grid, Band, LL, HL, LH, HH, Band-discrete, code, across, down, levelBack}
+use Rattle.wavelet.specs.Bands.{Grid, Band, LL, HL, LH, HH, Band-discrete, code, across, down}
 use Rattle.wavelet.specs.Maps.{valueFits}
 use Rattle.wavelet.specs.Levels.{next, sideAt}
 use Rattle.wavelet.specs.Order.{firstSet, lastSet, setRow, setHas}
 use Rattle.filters.specs.Filters.{filterOf}
-use Rattle.synthesis.specs.Back.{backOf, standsOf}
-use Rattle.synthesis.proofs.BackLaws.{back-ahead, back-laws}
+use Rattle.synthesis.specs.Back.{backOf}
+use Rattle.synthesis.proofs.BackLaws.{back-ahead}
 use Rattle.reader_steps.specs.Sets.{ahead, hasRow, rowOf, taking, needed, firstRow, makes, waiting, waitsAt}
 use Rattle.reader_steps.specs.Asked.{keptAt, asked, bandsFrom, those, look, firstCode, nextBand, named}
+use Rattle.reader.specs.Admission.{workBy, gridBy, fitsBy, standsBy}
 use Rattle.reader.specs.Rebuilt.{Rows, bandsBy, rebuilt, bandsAt, partAt, SetFits, SetsFit}
 use Rattle.reader_steps.specs.Places.{Ready, hasCells, Spot, spot, bandAt, lastOfSet, nextUp, past, beyond, dive, begins, enter}
 use Rattle.reader.specs.Holds.{Tested, M, FeedDue}
@@ -45,6 +45,7 @@ use Rattle.wavelet.specs.Steps.{setOf, setsBefore}
 use Rattle.level.specs.Sets.{opens}
 use Rattle.level.proofs.OpenedSets.{opens-first, same-set}
 use Rattle.level.proofs.ReaderLaws.{ReaderLawsBy}
+use Rattle.reader.proofs.AdmissionLaws.{levelOf, admission-laws, grid-fits}
 
 -- ---- what the reader's level is known by: what stands in its memory, and its laws
 module _ (f : ℕ) (W H : Side) (p : Band → Grid) (n : ℕ) (tested : Tested f W H p n) where
@@ -62,39 +63,39 @@ with-tested : (N : Type 0) (P Q : (ℕ → ℤ) → Type 0) (t : Tried) → ((y 
 with-tested N P Q t = by-outcome N N P Q t (λ n. n)
 
 -- a set worked out: its rows are those of the way back and fit, and it halved no odd number
-set-made : (f k : ℕ) (W H : Side) (p : Band → Grid) (n : ℕ) (x : ℕ → ℤ) → standsOf f .Leaves k W H p n x → (r : ℕ) → r < H .length →
-    setOf (ahead f) H r ≡ n → (c : ℕ) → c < W .length → backOf f .made W (H .start) r x c ≡ levelBack (filterOf f) wrap32 W H p r c
+set-made : (ad f k : ℕ) (W H : Side) (p : Band → Grid) (n : ℕ) (x : ℕ → ℤ) → standsBy ad f .Leaves k W H p n x → (r : ℕ) → r < H .length →
+    setOf (ahead f) H r ≡ n → (c : ℕ) → c < W .length → backOf f .made W (H .start) r x c ≡ gridBy ad f k W H p r c
 unfolding backOf
-set-made f k W H p n x s r b e = back-laws f .made-is k W H p n x s r b (ap (λ a. setOf a H r) (back-ahead f) ∙ e)
+set-made ad f k W H p n x s r b e = admission-laws ad f .made-is k W H p n x s r b (ap (λ a. setOf a H r) (back-ahead f) ∙ e)
 
-pub set-fits : (f k : ℕ) (W H : Side) (p : Band → Grid) (n : ℕ) (x : ℕ → ℤ) → standsOf f .Leaves k W H p n x → (r : ℕ) → r < H .length →
-    setOf (ahead f) H r ≡ n → (c : ℕ) → c < W .length → valueFits (filterOf f) k (levelBack (filterOf f) wrap32 W H p r c) ≡ true
+pub set-fits : (ad f k : ℕ) (W H : Side) (p : Band → Grid) (n : ℕ) (x : ℕ → ℤ) → standsBy ad f .Leaves k W H p n x → (r : ℕ) → r < H .length →
+    setOf (ahead f) H r ≡ n → (c : ℕ) → c < W .length → fitsBy ad f k (gridBy ad f k W H p r c) ≡ true
 unfolding backOf
-set-fits f k W H p n x s r b e = back-laws f .made-fits k W H p n x s r b (ap (λ a. setOf a H r) (back-ahead f) ∙ e)
+set-fits ad f k W H p n x s r b e = admission-laws ad f .made-fits k W H p n x s r b (ap (λ a. setOf a H r) (back-ahead f) ∙ e)
 
-pub set-has : (f k : ℕ) (W H : Side) (p : Band → Grid) (n : ℕ) (x : ℕ → ℤ) → standsOf f .Leaves k W H p n x → SetHasBy (filterOf f) (ahead f) W H p n
-set-has f k W H p n x s = subst (λ a. SetHasBy (filterOf f) a W H p n) (back-ahead f) (back-laws f .made-has k W H p n x s)
+pub set-has : (ad f k : ℕ) (W H : Side) (p : Band → Grid) (n : ℕ) (x : ℕ → ℤ) → standsBy ad f .Leaves k W H p n x → SetHasBy (filterOf f) (ahead f) W H p n
+set-has ad f k W H p n x s = subst (λ a. SetHasBy (filterOf f) a W H p n) (back-ahead f) (admission-laws ad f .made-has k W H p n x s)
 
-laws : (f : ℕ) → ReaderLawsBy (filterOf f) (backOf f) (M f)
-laws f = record {
-  leaves-reads = λ k W H p n x y e s. (back-laws f .leaves-reads k W H p n x y e (s .0), s .1);
-  before-reads = λ k W H p n x y e s. (back-laws f .before-reads k W H p n x y e (s .0), s .1);
-  got-reads = back-laws f .got-reads;
-  feed-past = back-laws f .feed-past;
-  feed-before = λ k W H p n c v x s. (back-laws f .feed-before k W H p n c v x (s .0), s .1);
-  feed-old = back-laws f .feed-old;
-  feed-new = back-laws f .feed-new;
-  got-none = back-laws f .got-none;
-  looks = back-laws f .looks;
-  before-first = λ k W H p x. (back-laws f .before-first k W H p x, λ m b. absurd (omega arith));
-  before-next = λ k W H p n x b s. (back-laws f .before-next k W H p n x b (s .0), tested-next f W H p n (s .1) (set-has f k W H p n x (s .0)));
+laws : (ad f : ℕ) → ReaderLawsBy (filterOf f) (levelOf ad f) (M ad f)
+laws ad f = record {
+  leaves-reads = λ k W H p n x y e s. (admission-laws ad f .leaves-reads k W H p n x y e (s .0), s .1);
+  before-reads = λ k W H p n x y e s. (admission-laws ad f .before-reads k W H p n x y e (s .0), s .1);
+  got-reads = admission-laws ad f .got-reads;
+  feed-past = admission-laws ad f .feed-past;
+  feed-before = λ k W H p n c v x s. (admission-laws ad f .feed-before k W H p n c v x (s .0), s .1);
+  feed-old = admission-laws ad f .feed-old;
+  feed-new = admission-laws ad f .feed-new;
+  got-none = admission-laws ad f .got-none;
+  looks = admission-laws ad f .looks;
+  before-first = λ k W H p x. (admission-laws ad f .before-first k W H p x, λ m b. absurd (omega arith));
+  before-next = λ k W H p n x b s. (admission-laws ad f .before-next k W H p n x b (s .0), tested-next f W H p n (s .1) (set-has ad f k W H p n x (s .0)));
   work-last = λ k W H p n x some there before got. with-tested _ _ _ _ (λ y a. ((a .0, before .1), a .1))
-      (back-laws f .work-last k W H p n x some there (before .0) got);
+      (admission-laws ad f .work-last k W H p n x some there (before .0) got);
   work-on = λ k W H p n x some there before got low. with-tested _ _ _ _ (λ y a. ((a .0, before .1), a .1))
-      (back-laws f .work-on k W H p n x some there (before .0) got low);
-  made-is = λ k W H p n x s. back-laws f .made-is k W H p n x (s .0);
-  made-fits = λ k W H p n x s. back-laws f .made-fits k W H p n x (s .0);
-  made-has = λ k W H p n x s. back-laws f .made-has k W H p n x (s .0);
+      (admission-laws ad f .work-on k W H p n x some there (before .0) got low);
+  made-is = λ k W H p n x s. admission-laws ad f .made-is k W H p n x (s .0);
+  made-fits = λ k W H p n x s. admission-laws ad f .made-fits k W H p n x (s .0);
+  made-has = λ k W H p n x s. admission-laws ad f .made-has k W H p n x (s .0);
 }
 
 -- two memories that agree in a level's stretch
@@ -165,10 +166,10 @@ code-same c e z = sym (named-code c) ∙ ap named z ∙ named-code e
 not-both : true ≡ false → ⊥
 not-both z = subst T z tt
 
-module _ (f base : ℕ) (W H : Side) (l : ℕ) (P : Rows) where
+module _ (ad f base : ℕ) (W H : Side) (l : ℕ) (P : Rows) where
   -- the bands of level k + 1
   abbrev pub B : ℕ → Band → Grid
-  B k = bandsAt f W H P (suc l) k
+  B k = bandsAt ad f base W H P (suc l) k
 
   -- a level that is not empty
   abbrev pub Live : ℕ → Type 0
@@ -176,18 +177,18 @@ module _ (f base : ℕ) (W H : Side) (l : ℕ) (P : Rows) where
 
   -- every set fits
   abbrev pub Fits : Type 0
-  Fits = (k : ℕ) → Live k → (n : ℕ) → n ≤ lastSet (sideAt k H) → SetFits f base W H P (suc l) k n
+  Fits = (k : ℕ) → Live k → (n : ℕ) → n ≤ lastSet (sideAt k H) → SetFits ad f base W H P (suc l) k n
 
   abbrev pub LeavesAt : ℕ → ℕ → (ℕ → ℤ) → Type 0
-  LeavesAt k n m = M f .Leaves (base + k) (sideAt k W) (sideAt k H) (B k) n m
+  LeavesAt k n m = M ad f .Leaves (base + k) (sideAt k W) (sideAt k H) (B k) n m
 
   -- what of the set before set n is still needed
   abbrev pub Before : ℕ → ℕ → (ℕ → ℤ) → Type 0
-  Before k n m = M f .Before (base + k) (sideAt k W) (sideAt k H) (B k) n m
+  Before k n m = M ad f .Before (base + k) (sideAt k W) (sideAt k H) (B k) n m
 
   -- the row of band c of set n is there, if there is one
   abbrev pub Got : ℕ → ℕ → (ℕ → ℤ) → Band → Type 0
-  Got k n m c = M f .Got (sideAt k W) (sideAt k H) (B k) n m c
+  Got k n m c = M ad f .Got (sideAt k W) (sideAt k H) (B k) n m c
 
   -- ---- what the store x holds while set n of level lev is collected: coarser levels have the last set that it needs, this level has the bands before b, finer
   -- ones wait
@@ -201,13 +202,13 @@ module _ (f base : ℕ) (W H : Side) (l : ℕ) (P : Rows) where
 
   -- ---- memories that agree hold the same
   leaves-same : (k n : ℕ) (m m′ : ℕ → ℤ) → SameMem f (sideAt k W) m m′ → LeavesAt k n m → LeavesAt k n m′
-  leaves-same k n m m′ e s = laws f .leaves-reads (base + k) (sideAt k W) (sideAt k H) (B k) n m m′ e s
+  leaves-same k n m m′ e s = laws ad f .leaves-reads (base + k) (sideAt k W) (sideAt k H) (B k) n m m′ e s
 
   before-same : (k n : ℕ) (m m′ : ℕ → ℤ) → SameMem f (sideAt k W) m m′ → Before k n m → Before k n m′
-  before-same k n m m′ e s = laws f .before-reads (base + k) (sideAt k W) (sideAt k H) (B k) n m m′ e s
+  before-same k n m m′ e s = laws ad f .before-reads (base + k) (sideAt k W) (sideAt k H) (B k) n m m′ e s
 
   got-same : (k n : ℕ) (c : Band) (m m′ : ℕ → ℤ) → SameMem f (sideAt k W) m m′ → Got k n m c → Got k n m′ c
-  got-same k n c m m′ e s = laws f .got-reads (sideAt k W) (sideAt k H) (B k) n c m m′ e s
+  got-same k n c m m′ e s = laws ad f .got-reads (sideAt k W) (sideAt k H) (B k) n c m m′ e s
 
   -- so do stores that agree in the part that the levels have
   pub held-reads : (lev n b : ℕ) (x y : ℕ → ℤ) → ((j : ℕ) → j < stretchAt f W (suc l) → y j ≡ x j) → Held lev n b x → Held lev n b y
@@ -228,7 +229,7 @@ module _ (f base : ℕ) (W H : Side) (l : ℕ) (P : Rows) where
     where
       go : (u : Bool) → setHas (sideAt k W) (sideAt k H) c n ≡ u → Got k n m c
       go true z = absurd (g (rw (e, z) refl))
-      go false z = laws f .got-none (sideAt k W) (sideAt k H) (B k) n c m z
+      go false z = laws ad f .got-none (sideAt k W) (sideAt k H) (B k) n c m z
 
   -- so the band that may be next may be any up to the next that is asked for
   holds-more : (k n b b′ : ℕ) (x : ℕ → ℤ) →
@@ -266,7 +267,7 @@ module _ (f base : ℕ) (W H : Side) (l : ℕ) (P : Rows) where
         before = λ j h e. elim (ℕ-discrete j k) [
           | yes z ↦ here-before k n j (behind (stretchAt f W k) x y) z
               (before-same k n y _ (λ i _. here f W k x y past i)
-              (laws f .feed-before (base + k) (sideAt k W) (sideAt k H) (B k) n c v (mem f W k x) (before-here k n (code c) x inside s)))
+              (laws ad f .feed-before (base + k) (sideAt k W) (sideAt k H) (B k) n c v (mem f W k x) (before-here k n (code c) x inside s)))
           | no z ↦ before-same j _ _ _ (finer f W k x y past j (omega (arith, z))) (s .before j h e)
         ];
         got = λ j h e b kept less. let z : j ≡ k = omega arith in
@@ -277,12 +278,12 @@ module _ (f base : ℕ) (W H : Side) (l : ℕ) (P : Rows) where
       y = backOf f .feed (sideAt k W) (sideAt k H .start) c n v (mem f W k x)
 
       past : (j : ℕ) → backOf f .stretch (sideAt k W) ≤ j → y j ≡ mem f W k x j
-      past = laws f .feed-past (sideAt k W) (sideAt k H .start) c n v (mem f W k x)
+      past = laws ad f .feed-past (sideAt k W) (sideAt k H .start) c n v (mem f W k x)
 
       in-y : (b : Band) → code b < code c + 1 → keptAt (eqb (suc k) (suc l)) b ≡ true → Got k n y b
       in-y b less kept = elim (Band-discrete c b) [
-        | yes z ↦ subst (Got k n y) z (laws f .feed-new (sideAt k W) (sideAt k H) (B k) n c v (mem f W k x) row)
-        | no z ↦ laws f .feed-old (sideAt k W) (sideAt k H) (B k) n c b v (mem f W k x) z (s .got k inside refl b kept (less-than b less z))
+        | yes z ↦ subst (Got k n y) z (laws ad f .feed-new (sideAt k W) (sideAt k H) (B k) n c v (mem f W k x) row)
+        | no z ↦ laws ad f .feed-old (sideAt k W) (sideAt k H) (B k) n c b v (mem f W k x) z (s .got k inside refl b kept (less-than b less z))
       ]
         where
           less-than : (b : Band) → code b < code c + 1 → (c ≡ b → ⊥) → code b < code c
@@ -306,7 +307,7 @@ module _ (f base : ℕ) (W H : Side) (l : ℕ) (P : Rows) where
   other-kept LH d t = refl
   other-kept HH d t = refl
 
-  low-part : (k : ℕ) → k < l → (r i : ℕ) → levelBack (filterOf f) wrap32 (sideAt (suc k) W) (sideAt (suc k) H) (B (suc k)) r i ≡ B k LL r i
+  low-part : (k : ℕ) → k < l → (r i : ℕ) → gridBy ad f (base + suc k) (sideAt (suc k) W) (sideAt (suc k) H) (B (suc k)) r i ≡ B k LL r i
   unfolding bandsBy rebuilt
   low-part k q r i = let z : suc l - suc k ≡ suc (suc l - suc (suc k)) = omega arith in rw z refl
 
@@ -364,8 +365,8 @@ module _ (f base : ℕ) (W H : Side) (l : ℕ) (P : Rows) where
         row-is = sym (needed-from f H (suc k) n)
 
         there-row : (i : ℕ) → i < next (sideAt k W) .length → backOf f .made (next (sideAt k W)) (next (sideAt k H) .start) r (mem f W (suc k) x) i
-            ≡ levelBack (filterOf f) wrap32 (sideAt (suc k) W) (sideAt (suc k) H) (B (suc k)) r i
-        there-row = set-made f (base + suc k) (sideAt (suc k) W) (sideAt (suc k) H) (B (suc k)) (needed f H (suc k) n (suc (suc k))) (mem f W (suc k) x)
+            ≡ gridBy ad f (base + suc k) (sideAt (suc k) W) (sideAt (suc k) H) (B (suc k)) r i
+        there-row = set-made ad f (base + suc k) (sideAt (suc k) W) (sideAt (suc k) H) (B (suc k)) (needed f H (suc k) n (suc (suc k))) (mem f W (suc k) x)
             (s .below (le-leb (firstSet (sideAt k H) lo) n g) (suc k) on (omega arith) .0) r (low-there g) row-is
 
     worked-of : (y : ℕ → ℤ) → LeavesAt k n y × ((j : ℕ) → backOf f .stretch (sideAt k W) ≤ j → y j ≡ m j) → Worked k n (behind (stretchAt f W k) x y)
@@ -375,11 +376,11 @@ module _ (f base : ℕ) (W H : Side) (l : ℕ) (P : Rows) where
       before = λ j h e. before-same j _ _ _ (finer f W k x y (q .1) j (omega arith)) (s .before j h (omega arith));
     }
 
-    work-made : Outcome (SetFits f base W H P (suc l) k n) (Worked k n) (workedAt f base W H (suc l) k n x)
+    work-made : Outcome (SetFits ad f base W H P (suc l) k n) (Worked k n) (workedAt ad f base W H (suc l) k n x)
     unfolding workedAt hasSet backOf
     work-made = rw (live .1, le-leb n (lastSet (sideAt k H)) there)
         (onto-outcome _ _ _ _ (behind (stretchAt f W k) x) _
-        (subst (λ a. SetFitsBy (filterOf f) a (backOf f .fits (base + k)) (backOf f .back (base + k) (sideAt k W) (sideAt k H) (B k)) (sideAt k W)
+        (subst (λ a. SetFitsBy (filterOf f) a (fitsBy ad f (base + k)) (gridBy ad f (base + k) (sideAt k W) (sideAt k H) (B k)) (sideAt k W)
         (sideAt k H) (B k) n)
         (sym (back-ahead f)))
         worked-of (go (ℕ-discrete k l)))
@@ -388,14 +389,14 @@ module _ (f base : ℕ) (W H : Side) (l : ℕ) (P : Rows) where
         some = cells-are (sideAt k W) (sideAt k H) (live .1) .1
 
         go : Dec (k ≡ l) → Outcome
-            (SetFitsBy (filterOf f) (backOf f .ahead) (backOf f .fits (base + k)) (backOf f .back (base + k) (sideAt k W) (sideAt k H) (B k)) (sideAt k W)
+            (SetFitsBy (filterOf f) (backOf f .ahead) (fitsBy ad f (base + k)) (gridBy ad f (base + k) (sideAt k W) (sideAt k H) (B k)) (sideAt k W)
             (sideAt k H) (B k) n)
             (λ y. LeavesAt k n y × ((j : ℕ) → backOf f .stretch (sideAt k W) ≤ j → y j ≡ m j))
-            (backOf f .work (eqb (suc k) (suc l)) (base + k) (sideAt k W) (sideAt k H) n m)
+            (workBy ad f (eqb (suc k) (suc l)) (base + k) (sideAt k W) (sideAt k H) n m)
         go (yes e) = rw (eq-eqb (suc k) (suc l) (omega arith))
-            (laws f .work-last (base + k) (sideAt k W) (sideAt k H) (B k) n m some there (before-here k n 4 x live s)
+            (laws ad f .work-last (base + k) (sideAt k W) (sideAt k H) (B k) n m some there (before-here k n 4 x live s)
             (λ c. got-kept c (rw (eq-eqb (suc k) (suc l) (omega arith)) (all-kept c))))
-        go (no e) = rw (ne-eqb (suc k) (suc l) (λ z. e (omega arith))) (laws f .work-on (base + k) (sideAt k W) (sideAt k H) (B k) n m some there
+        go (no e) = rw (ne-eqb (suc k) (suc l) (λ z. e (omega arith))) (laws ad f .work-on (base + k) (sideAt k W) (sideAt k H) (B k) n m some there
             (before-here k n 4 x live s) (λ c d. got-kept c (other-kept c d (eqb (suc k) (suc l)))) (low-row (omega (arith, e, live .0))))
 
   -- no band is before HL at a level that is not the last
@@ -445,7 +446,7 @@ module _ (f base : ℕ) (W H : Side) (l : ℕ) (P : Rows) where
     got = λ j live q c kept less.
         let e : j ≡ k = omega arith in
         let z = kept-first (eqb (suc j) (suc l)) c kept less .1 in
-        laws f .got-none (sideAt j W) (sideAt j H) (B j) n c (mem f W j x)
+        laws ad f .got-none (sideAt j W) (sideAt j H) (B j) n c (mem f W j x)
         (subst (λ i. setHas (sideAt i W) (sideAt i H) c n ≡ false) (sym e)
         (no-low (sideAt k W) (sideAt k H) n (omega (arith, leb-false (firstSet (sideAt k H) lo) n t)) c (ap down z ∙ low-low)));
   }
@@ -477,7 +478,7 @@ module _ (f base : ℕ) (W H : Side) (l : ℕ) (P : Rows) where
   down-begun : (k n r : ℕ) (x : ℕ → ℤ) → Live k → taking H k r ≡ n → opens (ahead f) (sideAt k H) r ≡ true → Down k n r x →
       Begun k (setsBefore (ahead f) (sideAt k H) r) x
   down-begun k n zero x live t o s = rw (before-zero (ahead f) (sideAt k H)) (record {
-    own = laws f .before-first (base + k) (sideAt k W) (sideAt k H) (B k) (mem f W k x);
+    own = laws ad f .before-first (base + k) (sideAt k W) (sideAt k H) (B k) (mem f W k x);
     before = λ j h e. subst (λ i. Before j i (mem f W j x)) (sym (up j e)) (s .before j h e);
     done = λ q e. absurd (omega arith);
   })
@@ -488,7 +489,7 @@ module _ (f base : ℕ) (W H : Side) (l : ℕ) (P : Rows) where
           ∙ ap (λ i. waitsAt f H k i (suc j)) (unfold waiting firstRow in t)
   down-begun k n (suc q) x live t o s = rw (before-suc (ahead f) (sideAt k H) q) (record {
     own = subst (λ i. Before k i (mem f W k x)) (sym (omega arith))
-        (laws f .before-next (base + k) (sideAt k W) (sideAt k H) (B k) (setOf (ahead f) S q) (mem f W k x)
+        (laws ad f .before-next (base + k) (sideAt k W) (sideAt k H) (B k) (setOf (ahead f) S q) (mem f W k x)
         (omega (arith, opened, set-there (ahead f) S (suc q)))
         (subst (λ i. LeavesAt k i (mem f W k x)) from-q (s .done q refl k live (omega arith))));
     before = λ j h e. subst (λ i. Before j i (mem f W j x)) (sym (up j e)) (s .before j h e);
@@ -603,7 +604,7 @@ module _ (f base : ℕ) (W H : Side) (l : ℕ) (P : Rows) where
   next-begun : (k n : ℕ) (z : ℕ → ℤ) → makes f (sideAt k H) n ≡ false → Worked k n z → Begun k (suc n) z
   unfolding waiting
   next-begun k n z e s = record {
-    own = laws f .before-next (base + k) (sideAt k W) (sideAt k H) (B k) n (mem f W k z)
+    own = laws ad f .before-next (base + k) (sideAt k W) (sideAt k H) (B k) n (mem f W k z)
         (omega (arith, makes-not f (sideAt k H) n e, set-there (ahead f) (sideAt k H) (firstRow f (sideAt k H) n))) (s .leaves);
     before = λ j h q. subst (λ i. Before j i (mem f W j z)) (up j q) (s .before j h q);
     done = λ q y t j h b. let w : q ≡ n = omega arith in
@@ -673,7 +674,7 @@ module _ (f base : ℕ) (W H : Side) (l : ℕ) (P : Rows) where
 
   -- ---- what is due there
   abbrev pub NextFits : ℕ → Spot → Type 0
-  NextFits d q = hasRow H (q .level) (numberAt d (q .level) (q .set)) ≡ true → SetsFit f base W H (suc l) P (q .level) (numberAt d (q .level) (q .set))
+  NextFits d q = hasRow H (q .level) (numberAt d (q .level) (q .set)) ≡ true → SetsFit ad f base W H (suc l) P (q .level) (numberAt d (q .level) (q .set))
 
   -- it takes a row where the sets on the way do,
   next-has : (d lev n b : ℕ) → hasRow H lev n ≡ true →
@@ -715,7 +716,7 @@ module _ (f base : ℕ) (W H : Side) (l : ℕ) (P : Rows) where
 
   pub settle-holds : (d lev n b : ℕ) (x : ℕ → ℤ) → lev ≤ suc l → Ready f W H (suc l) d (spot lev n b) → Held lev n b x →
       Outcome (NextFits d (nextUp f W H (suc l) lev n b)) (HeldNext d (nextUp f W H (suc l) lev n b))
-      (settled f base W H (suc l) (nextUp f W H (suc l) lev n b .level) lev n x)
+      (settled ad f base W H (suc l) (nextUp f W H (suc l) lev n b .level) lev n x)
   unfolding nextUp settled bandAt nextBand look firstCode
   settle-holds d zero n b x h r s = goes x (subst (λ i. Held 0 i 4 x) (top-is r) (record {
     below = s .below;
@@ -738,32 +739,32 @@ module _ (f base : ℕ) (W H : Side) (l : ℕ) (P : Rows) where
       live = (omega arith, r .cells k refl)
 
       -- the set is one of those that are due
-      due : those p (bandsFrom b) ≡ [] → NextFits d to → SetFits f base W H P (suc l) k n
+      due : those p (bandsFrom b) ≡ [] → NextFits d to → SetFits ad f base W H P (suc l) k n
       due e fit =
           let z : firstCode (those p (bandsFrom b)) ≡ 4 = ap firstCode e in
-          subst (λ i. SetFits f base W H P (suc l) k i)
+          subst (λ i. SetFits ad f base W H P (suc l) k i)
           (next-needs d k (waiting f H k n) 1 (omega arith) (ready-up f W H l d k n b (omega arith) r z) k (omega arith)
           ∙ makes-set k n (r .there k refl) (r .asks k refl z))
           (fit (next-has d k (waiting f H k n) 1 (unfold waiting in taking-has H k _)) .fit k (next-le k (waiting f H k n) 1) (omega arith) (live .1))
 
       on : those p (bandsFrom b) ≡ [] →
           ((y : ℕ → ℤ) → Held k (waiting f H k n) 1 y → Outcome (NextFits d to) (HeldNext d to)
-          (settled f base W H (suc l) (to .level) k (waiting f H k n) y)) →
+          (settled ad f base W H (suc l) (to .level) k (waiting f H k n) y)) →
           Outcome (NextFits d to) (HeldNext d to)
-          (pick (ltb (to .level) (suc k)) (bind (workedAt f base W H (suc l) k n x) (settled f base W H (suc l) (to .level) k (waiting f H k n))) (passed x))
+          (pick (ltb (to .level) (suc k)) (bind (workedAt ad f base W H (suc l) k n x) (settled ad f base W H (suc l) (to .level) k (waiting f H k n))) (passed x))
       on e ih = rw (lt-ltb (to .level) (suc k) (omega (arith, next-le k (waiting f H k n) 1)))
-          (bind-outcome (workedAt f base W H (suc l) k n x) _
+          (bind-outcome (workedAt ad f base W H (suc l) k n x) _
           (by-outcome _ _ _ _ _ (due e) (λ y q. up-holds k n y (omega arith) (r .there k refl) (r .asks k refl (ap firstCode e)) q)
           (work-made k n x live (r .there k refl) (holds-all k n b x e s))) ih)
 
       go : (xs : List Band) → those p (bandsFrom b) ≡ xs →
           (firstCode (those p (bandsFrom b)) ≡ 4 →
-          (y : ℕ → ℤ) → Held k (waiting f H k n) 1 y → Outcome (NextFits d to) (HeldNext d to) (settled f base W H (suc l) (to .level) k (waiting f H k n) y)) →
+          (y : ℕ → ℤ) → Held k (waiting f H k n) 1 y → Outcome (NextFits d to) (HeldNext d to) (settled ad f base W H (suc l) (to .level) k (waiting f H k n) y)) →
           Outcome (NextFits d (pick (ltb (firstCode xs) 4) (spot (suc k) n (firstCode xs)) to))
           (HeldNext d (pick (ltb (firstCode xs) 4) (spot (suc k) n (firstCode xs)) to))
           (pick (ltb (pick (ltb (firstCode xs) 4) (spot (suc k) n (firstCode xs)) to .level) (suc k))
-          (bind (workedAt f base W H (suc l) k n x)
-          (settled f base W H (suc l) (pick (ltb (firstCode xs) 4) (spot (suc k) n (firstCode xs)) to .level) k (waiting f H k n))) (passed x))
+          (bind (workedAt ad f base W H (suc l) k n x)
+          (settled ad f base W H (suc l) (pick (ltb (firstCode xs) 4) (spot (suc k) n (firstCode xs)) to .level) k (waiting f H k n))) (passed x))
       go [] e ih = on e (ih (ap firstCode e))
       go (c ∷ cs) e ih = rw (lt-ltb (code c) 4 (code-lt c), le-ltb (suc k) (suc k) (omega arith)) (goes x (holds-up k n b x c cs e s))
 
@@ -773,7 +774,7 @@ module _ (f base : ℕ) (W H : Side) (l : ℕ) (P : Rows) where
 
   pub fed-holds : (d k n : ℕ) (c : Band) (v x : ℕ → ℤ) → k ≤ l → Ready f W H (suc l) d (spot (suc k) n (code c)) →
       ((i : ℕ) → i < count (across c) (sideAt k W) → v i ≡ B k c (setRow (sideAt k H) c n) i) → Held (suc k) n (code c) x →
-      Outcome (FeedDue f base W H (suc l) P k n (code c)) (FedHeld k n (code c)) (fedOn f base W H (suc l) (suc k) n (code c) v x)
+      Outcome (FeedDue ad f base W H (suc l) P k n (code c)) (FedHeld k n (code c)) (fedOn ad f base W H (suc l) (suc k) n (code c) v x)
   unfolding fedOn finished beyond
   fed-holds d k n c v x h r row s = go (lastOfSet W H (suc l) k n (code c)) refl
     where
@@ -784,9 +785,9 @@ module _ (f base : ℕ) (W H : Side) (l : ℕ) (P : Rows) where
       y = fedAt f W H k n (code c) v x
 
       go : (t : Bool) → lastOfSet W H (suc l) k n (code c) ≡ t →
-          Outcome (FeedDue f base W H (suc l) P k n (code c))
+          Outcome (FeedDue ad f base W H (suc l) P k n (code c))
           (λ z. HeldAt (pick t (past f W H (suc l) k n) (spot (suc k) n (code c + 1))) z × (t ≡ true → Worked k n z))
-          (pick t (workedAt f base W H (suc l) k n y) (passed y))
+          (pick t (workedAt ad f base W H (suc l) k n y) (passed y))
       go true e = by-outcome _ _ _ _ _ (λ due. due .own e) (λ z q. (past-holds k n z h (r .there k refl) q, λ _. q))
           (work-made k n y live (r .there k refl)
           (holds-all k n (code c + 1) y (last-none f W H l k n (code c) e) (feed-holds k n c v x live row s)))
@@ -805,25 +806,27 @@ module _ (f base : ℕ) (W H : Side) (l : ℕ) (P : Rows) where
     unfolding sideAt rowOf
     top-set = sym (needed-from f H 0 d)
 
-    pub height-made : (c : ℕ) → c < W .length → backOf f .made W (H .start) d x c ≡ partAt f W H P (suc l) 0 d c
+    pub height-made : (c : ℕ) → c < W .length → backOf f .made W (H .start) d x c ≡ partAt ad f base W H P (suc l) 0 d c
     unfolding sideAt
     height-made c p =
         ap (λ (z : ℕ → ℤ). backOf f .made W (H .start) d z c) (sym (first-mem f W x))
-        ∙ set-made f (base + 0) W H (B 0) (needed f H 0 d 1) (mem f W 0 x) (top-leaves .0) d due top-set c p
+        ∙ set-made ad f (base + 0) W H (B 0) (needed f H 0 d 1) (mem f W 0 x) (top-leaves .0) d due top-set c p
 
-    pub height-fit : (c : ℕ) → c < W .length → valueFits (filterOf f) base (partAt f W H P (suc l) 0 d c) ≡ true
+    -- it fits as 14 asks it: also where values are limited, of rows from 0 on
+    pub height-fit : (0 < ad → H .start ≡ 0) → (c : ℕ) → c < W .length → valueFits (filterOf f) base (partAt ad f base W H P (suc l) 0 d c) ≡ true
     unfolding sideAt
-    height-fit c p = subst (λ i. valueFits (filterOf f) i (partAt f W H P (suc l) 0 d c) ≡ true) (omega arith)
-        (set-fits f (base + 0) W H (B 0) (needed f H 0 d 1) (mem f W 0 x) (top-leaves .0) d due top-set c p)
+    height-fit start c p = subst (λ i. valueFits (filterOf f) i (partAt ad f base W H P (suc l) 0 d c) ≡ true) (omega arith)
+        (grid-fits ad f (base + 0) W H (B 0) d c start
+        (set-fits ad f (base + 0) W H (B 0) (needed f H 0 d 1) (mem f W 0 x) (top-leaves .0) d due top-set c p))
 
   -- ---- where every set fits, so does what is due
-  pub sets-fitting : Fits → (k n : ℕ) → SetsFit f base W H (suc l) P k n
+  pub sets-fitting : Fits → (k n : ℕ) → SetsFit ad f base W H (suc l) P k n
   sets-fitting all k n = record {
     fit = λ j h i cells. all j (omega arith, cells) (needed f H k n (suc j))
         (omega (arith, needed-next f H k n j h, set-there (ahead f) (sideAt j H) (rowOf H j (needed f H k n j))));
   }
 
-  pub due-fitting : Fits → (d k n c : ℕ) → k ≤ l → Ready f W H (suc l) d (spot (suc k) n c) → FeedDue f base W H (suc l) P k n c
+  pub due-fitting : Fits → (d k n c : ℕ) → k ≤ l → Ready f W H (suc l) d (spot (suc k) n c) → FeedDue ad f base W H (suc l) P k n c
   due-fitting all d k n c h r = record {
     own = λ _. all k (h, r .cells k refl) n (r .there k refl);
     above = λ _. sets-fitting all (suc k) n;
@@ -835,4 +838,4 @@ module _ (f base : ℕ) (W H : Side) (l : ℕ) (P : Rows) where
   sets-tested d b x s k live m h =
       let q = s .below (unfold hasRow in refl) k live (omega arith) in
       tested-next f (sideAt k W) (sideAt k H) (B k) (needed f H 0 d (suc k)) (q .1)
-      (set-has f (base + k) (sideAt k W) (sideAt k H) (B k) (needed f H 0 d (suc k)) (mem f W k x) (q .0)) m (omega arith)
+      (set-has ad f (base + k) (sideAt k W) (sideAt k H) (B k) (needed f H 0 d (suc k)) (mem f W k x) (q .0)) m (omega arith)

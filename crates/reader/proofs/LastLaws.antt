@@ -87,13 +87,18 @@ module _ (s : Reader) where
                       last-10 e = rw (t0, t1, t2, t3, t4, t5, t6, t7, t8, t9, e)
 
                       module _ (t10 : leb (s .width) (s .spare) ≡ true) where
-                        pub last-all : leb (s .spare) maxSpare ≡ countsFit s
+                        pub last-11 : leb (s .spare) maxSpare ≡ false → false ≡ countsFit s
                         unfolding countsFit
-                        last-all = rw (t0, t1, t2, t3, t4, t5, t6, t7, t8, t9, t10) refl
+                        last-11 e = rw (t0, t1, t2, t3, t4, t5, t6, t7, t8, t9, t10, e)
+
+                        module _ (t11 : leb (s .spare) maxSpare ≡ true) where
+                          pub last-all : eqb (s .admission) 0 ≡ countsFit s
+                          unfolding countsFit
+                          last-all = rw (t0, t1, t2, t3, t4, t5, t6, t7, t8, t9, t10, t11) refl
 
   -- what it says
   pub last-in : countsFit s ≡ true → (s .stop ≤ filterOf (s .filter) .levels) × (s .width ≤ maxWidth) × (s .height ≤ maxHeight) × (s .drawn ≤ s .height)
-      × (s .width ≤ s .spare)
+      × (s .width ≤ s .spare) × (s .admission ≡ 0)
   unfolding countsFit
   last-in e =
       let a0 = halves (isFilter (s .filter)) _ (e) in
@@ -106,13 +111,15 @@ module _ (s : Reader) where
       let a7 = halves (eqb (s .level) 0) _ (a6 .1) in
       let a8 = halves (leb (s .band) 4) _ (a7 .1) in
       let a9 = halves (eqb (s .back) 0) _ (a8 .1) in
-      let a10 = halves (leb (s .width) (s .spare)) _ (a9 .1) in (
+      let a10 = halves (leb (s .width) (s .spare)) _ (a9 .1) in
+      let a11 = halves (leb (s .spare) maxSpare) _ (a10 .1) in (
         within-true 1 (filterOf (s .filter) .levels) (s .stop) (a1 .0) .1,
         leb-true _ _ (a2 .0),
         leb-true _ _ (a3 .0),
         leb-true _ _ (a6 .0),
         leb-true _ _
             (a10 .0),
+        eqb-true _ _ (a11 .1),
       )
 
 -- ---- 1, 5 and 9

@@ -45,13 +45,13 @@ shown-is F zero v h = let fit = height-fits F v .0 h in height-kept v (fit .0) (
 shown-is F (suc b) v h = refl
 
 -- the height row that is drawn
-pub row-out : (f base spare : ℕ) (W H : Side) (l d : ℕ) (p : Place) (e : Bool) → d < H .length → 0 < W .length → (P : Rows) (y : ℕ → ℤ) → Held f base W H l P
+pub row-out : (ad f base spare : ℕ) (W H : Side) (l d : ℕ) (p : Place) (e : Bool) → (0 < ad → H .start ≡ 0) → d < H .length → 0 < W .length → (P : Rows) (y : ℕ → ℤ) → Held ad f base W H l P
     0 d 4 y →
-    (z : ℕ → ℤ) (c : ℕ) → c < W .length → fronted (W .length) (heightRow (here f base spare W H l d p e) y) z c ≡ drawnAs base (partAt f W H P (suc l) 0 d c)
+    (z : ℕ → ℤ) (c : ℕ) → c < W .length → fronted (W .length) (heightRow (here ad f base spare W H l d p e) y) z c ≡ drawnAs base (partAt ad f base W H P (suc l) 0 d c)
 unfolding fronted heightRow
-row-out f base spare W H l d p e due wide P y h z c b =
-    rw (lt-ltb c (W .length) b) (ap (shown base) (height-made f base W H l P d y due wide h c b)
-    ∙ shown-is (filterOf f) base (partAt f W H P (suc l) 0 d c) (height-fit f base W H l P d y due wide h c b))
+row-out ad f base spare W H l d p e start due wide P y h z c b =
+    rw (lt-ltb c (W .length) b) (ap (shown base) (height-made ad f base W H l P d y due wide h c b)
+    ∙ shown-is (filterOf f) base (partAt ad f base W H P (suc l) 0 d c) (height-fit ad f base W H l P d y due wide h start c b))
 
 -- a row that is kept stands among the bands by its name
 pub kept-last : (k l : ℕ) (c : Band) → keptAt (eqb (suc k) (suc l)) c ≡ true → c ≡ LL → k ≡ l
@@ -59,49 +59,49 @@ unfolding keptAt
 kept-last k l c h z = let q : keptAt (eqb (suc k) (suc l)) LL ≡ true = subst (λ v. keptAt (eqb (suc k) (suc l)) v ≡ true) z h in
     let p = eqb-true (suc k) (suc l) q in omega arith
 
-pub band-named : (f : ℕ) (W H : Side) (l : ℕ) (P : Rows) (k : ℕ) (c : Band) (r : ℕ) → keptAt (eqb (suc k) (suc l)) c ≡ true →
-    bandsAt f W H P (suc l) k c r ≡ P (rowName (suc k) c r)
+pub band-named : (ad f base : ℕ) (W H : Side) (l : ℕ) (P : Rows) (k : ℕ) (c : Band) (r : ℕ) → keptAt (eqb (suc k) (suc l)) c ≡ true →
+    bandsAt ad f base W H P (suc l) k c r ≡ P (rowName (suc k) c r)
 unfolding bandsBy
-band-named f W H l P k LL r h =
+band-named ad f base W H l P k LL r h =
     let e = kept-last k l LL h refl in
     let z : suc l - suc k ≡ 0 = omega arith in
     rw z (unfold rebuilt in refl)
-band-named f W H l P k HL r h = refl
-band-named f W H l P k LH r h = refl
-band-named f W H l P k HH r h = refl
+band-named ad f base W H l P k HL r h = refl
+band-named ad f base W H l P k LH r h = refl
+band-named ad f base W H l P k HH r h = refl
 
-module _ (f base spare : ℕ) (W H : Side) (l d : ℕ) (p : Place) (level-le : p .level ≤ suc l) (ready : Ready f W H (suc l) d (at f W H l d p)) (P : Rows)
+module _ (ad f base spare : ℕ) (W H : Side) (l d : ℕ) (p : Place) (level-le : p .level ≤ suc l) (ready : Ready f W H (suc l) d (at f W H l d p)) (P : Rows)
     (x : ℕ → ℤ)
-    (held : HeldAt f base W H l P (at f W H l d p) x) where
+    (held : HeldAt ad f base W H l P (at f W H l d p) x) where
   pub settles-outcome : (e : Bool) (q : Spot) → nextOf f W H l d p ≡ q →
-      Outcome (NextFits f base W H l P d q) (HeldNext f base W H l P d q) (settles (here f base spare W H l d p e) x)
+      Outcome (NextFits ad f base W H l P d q) (HeldNext ad f base W H l P d q) (settles (here ad f base spare W H l d p e) x)
   unfolding settles next
   settles-outcome e q z =
-      subst (λ u. Outcome (NextFits f base W H l P d u) (HeldNext f base W H l P d u)
-      (settled f base W H (suc l) (nextOf f W H l d p .level) (p .level) (at f W H l d p .set) x)) z
-      (settle-holds f base W H l P d (p .level) (at f W H l d p .set) (p .band) x level-le ready held)
+      subst (λ u. Outcome (NextFits ad f base W H l P d u) (HeldNext ad f base W H l P d u)
+      (settled ad f base W H (suc l) (nextOf f W H l d p .level) (p .level) (at f W H l d p .set) x)) z
+      (settle-holds ad f base W H l P d (p .level) (at f W H l d p .set) (p .band) x level-le ready held)
 
   pub feeds-worked : (e : Bool) (k n : ℕ) (c : Band) → Due f W H l d p k n c → (v : ℕ → ℤ) →
       ((i : ℕ) → i < bandColumns W (suc k) c → v i ≡ P (nameOf f W H l k n c) i) →
-      Outcome (FeedDue f base W H (suc l) P k n (code c)) (FedHeld f base W H l P k n (code c)) (feeds (here f base spare W H l d p e) v x)
+      Outcome (FeedDue ad f base W H (suc l) P k n (code c)) (FedHeld ad f base W H l P k n (code c)) (feeds (here ad f base spare W H l d p e) v x)
   unfolding feeds settles next bandColumns
   feeds-worked e k n c o v row =
       let z : suc k - 1 ≡ k = omega arith in
       let ask = asked-has (eqb (suc k) (suc l)) (sideAt k W) (sideAt k H) n c (o .asks) in
       let row′ : (i : ℕ) → i < count (across c) (sideAt k W) → v i ≡ P (nameOf f W H l k n c) i = rw z at row in
-      let named = band-named f W H l P k c (setRow (sideAt k H) c n) (ask .0) in
-      let set = subst (λ q. Outcome (NextFits f base W H l P d q) (HeldNext f base W H l P d q)
-      (settled f base W H (suc l) (q .level) (p .level) (at f W H l d p .set) x)) (o .is)
-      (settle-holds f base W H l P d (p .level) (at f W H l d p .set) (p .band) x level-le ready held) in
-      subst (λ q. Outcome (FeedDue f base W H (suc l) P k n (code c)) (FedHeld f base W H l P k n (code c))
-      (bind (settled f base W H (suc l) (q .level) (p .level) (at f W H l d p .set) x) (fedOn f base W H (suc l) (q .level) (q .set) (q .band) v)))
+      let named = band-named ad f base W H l P k c (setRow (sideAt k H) c n) (ask .0) in
+      let set = subst (λ q. Outcome (NextFits ad f base W H l P d q) (HeldNext ad f base W H l P d q)
+      (settled ad f base W H (suc l) (q .level) (p .level) (at f W H l d p .set) x)) (o .is)
+      (settle-holds ad f base W H l P d (p .level) (at f W H l d p .set) (p .band) x level-le ready held) in
+      subst (λ q. Outcome (FeedDue ad f base W H (suc l) P k n (code c)) (FedHeld ad f base W H l P k n (code c))
+      (bind (settled ad f base W H (suc l) (q .level) (p .level) (at f W H l d p .set) x) (fedOn ad f base W H (suc l) (q .level) (q .set) (q .band) v)))
       (sym (o .is))
-      (bind-outcome (settled f base W H (suc l) (suc k) (p .level) (at f W H l d p .set) x) _
+      (bind-outcome (settled ad f base W H (suc l) (suc k) (p .level) (at f W H l d p .set) x) _
       (by-outcome _ _ _ _ _ (λ due. due .above) (λ y h. h) set)
-      (λ y h. fed-holds f base W H l P d k n c v y (omega (arith, o .below)) (o .ready) (λ i b. row′ i b ∙ ap (λ (w : ℕ → ℤ). w i) (sym named)) h))
+      (λ y h. fed-holds ad f base W H l P d k n c v y (omega (arith, o .below)) (o .ready) (λ i b. row′ i b ∙ ap (λ (w : ℕ → ℤ). w i) (sym named)) h))
 
   pub feeds-outcome : (e : Bool) (k n : ℕ) (c : Band) → Due f W H l d p k n c → (v : ℕ → ℤ) →
       ((i : ℕ) → i < bandColumns W (suc k) c → v i ≡ P (nameOf f W H l k n c) i) →
-      Outcome (FeedDue f base W H (suc l) P k n (code c)) (HeldAt f base W H l P (beyond f W H (suc l) k n (code c)))
-      (feeds (here f base spare W H l d p e) v x)
+      Outcome (FeedDue ad f base W H (suc l) P k n (code c)) (HeldAt ad f base W H l P (beyond f W H (suc l) k n (code c)))
+      (feeds (here ad f base spare W H l d p e) v x)
   feeds-outcome e k n c o v row = by-outcome _ _ _ _ _ (λ due. due) (λ y q. q .0) (feeds-worked e k n c o v row)

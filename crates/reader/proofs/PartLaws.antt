@@ -31,13 +31,14 @@ use Rattle.level.specs.Tried.{Tried, passed, failed, outcome, onto}
 use Rattle.level.specs.Stretch.{rowOfSet, halfPlace}
 use Rattle.level.proofs.RowsIn.{half-end}
 use Rattle.filters.specs.Filters.{filterOf}
-use Rattle.synthesis.specs.Back.{backOf, workableOf, rowPlaceOf}
+use Rattle.synthesis.specs.Back.{workableOf, rowPlaceOf}
 use Rattle.synthesis.proofs.BackLaws.{back-feed, place-room, workable-of}
 use Rattle.filters.proofs.FigureLaws.{levels-most}
 use Rattle.filters.specs.Figures.{storeBy}
 use Rattle.reader.specs.declared.walk.Level.{Level}
 use Rattle.reader_steps.specs.Asked.{named}
 use Rattle.reader_steps.specs.Places.{hasCells}
+use Rattle.reader.specs.Admission.{workBy}
 use Rattle.reader.specs.Store.{stretchAt, from, behind, fedAt, workedAt, hasSet}
 use Rattle.reader.specs.Inside.{IsLevel}
 use Rattle.reader.proofs.StoreLaws.{stretch-suc, stretch-in, stretch-is, stretch-small}
@@ -143,14 +144,14 @@ onto-outcome f true y = refl
 onto-outcome f false y = refl
 
 -- a set that the level does not have, and one that it has
-pub work-none : (f base : ℕ) (W H : Side) (L d k : ℕ) (l : Level) (x : ℕ → ℤ) → IsLevel f W H d k l →
-    hasSet (side (l .x) (l .width)) (side (l .y) (l .height)) (l .set) ≡ false → passed x ≡ workedAt f base W H L k (l .set) x
+pub work-none : (ad f base : ℕ) (W H : Side) (L d k : ℕ) (l : Level) (x : ℕ → ℤ) → IsLevel f W H d k l →
+    hasSet (side (l .x) (l .width)) (side (l .y) (l .height)) (l .set) ≡ false → passed x ≡ workedAt ad f base W H L k (l .set) x
 unfolding workedAt
-work-none f base W H L d k l x is e =
+work-none ad f base W H L d k l x is e =
     let none : hasSet (sideAt k W) (sideAt k H) (l .set) ≡ false =
     ap₂ (λ (A B : Side). hasSet A B (l .set)) (sym (level-wide f W H d k l is)) (sym (level-high f W H d k l is)) ∙ e in
     sym (ap (λ (t : Bool). pick t (onto (behind (stretchAt f W k) x)
-    (backOf f .work (eqb (suc k) L) (base + k) (sideAt k W) (sideAt k H) (l .set) (from (stretchAt f W k) x))) (passed x)) none)
+    (workBy ad f (eqb (suc k) L) (base + k) (sideAt k W) (sideAt k H) (l .set) (from (stretchAt f W k) x))) (passed x)) none)
 
 set-parts : (W H : Side) (n : ℕ) → hasSet W H n ≡ true → (0 < H .length) × (n ≤ lastSet H)
 unfolding hasSet
@@ -158,21 +159,21 @@ set-parts W H n e =
     let a = halves (hasCells W H) _ e in
     (cells-are W H (a .0) .1, leb-true n (lastSet H) (a .1))
 
-work-is : (f base : ℕ) (W H : Side) (L d k : ℕ) (l : Level) (a n : ℕ) (s ys : List ℤ) (ok : Bool) → IsLevel f W H d k l →
+work-is : (ad f base : ℕ) (W H : Side) (L d k : ℕ) (l : Level) (a n : ℕ) (s ys : List ℤ) (ok : Bool) → IsLevel f W H d k l →
     hasSet (side (l .x) (l .width)) (side (l .y) (l .height)) (l .set) ≡ true → a ≡ l .start → a + n ≡ length s → length ys ≡ n →
-    outcome ok (at ys) ≡ backOf f .work (eqb (k + 1) L) (base + k) (side (l .x) (l .width)) (side (l .y) (l .height)) (l .set) (at (midOf a n s)) →
-    outcome ok (at (putMid a n s ys)) ≡ workedAt f base W H L k (l .set) (at s)
+    outcome ok (at ys) ≡ workBy ad f (eqb (k + 1) L) (base + k) (side (l .x) (l .width)) (side (l .y) (l .height)) (l .set) (at (midOf a n s)) →
+    outcome ok (at (putMid a n s ys)) ≡ workedAt ad f base W H L k (l .set) (at s)
 unfolding workedAt
-work-is f base W H L d k l a n s ys ok is there ea whole long made =
+work-is ad f base W H L d k l a n s ys ok is there ea whole long made =
     let place : a ≡ stretchAt f W k = ea ∙ is .start in
     let has : hasSet (sideAt k W) (sideAt k H) (l .set) ≡ true =
     ap₂ (λ (A B : Side). hasSet A B (l .set)) (sym (level-wide f W H d k l is)) (sym (level-high f W H d k l is)) ∙ there in
-    let worked : Tried = onto (behind (stretchAt f W k) (at s)) (backOf f .work (eqb (suc k) L) (base + k) (sideAt k W) (sideAt k H) (l .set)
+    let worked : Tried = onto (behind (stretchAt f W k) (at s)) (workBy ad f (eqb (suc k) L) (base + k) (sideAt k W) (sideAt k H) (l .set)
     (from (stretchAt f W k) (at s))) in
     ap (outcome ok) (at-put-rest a n s whole ys long)
     ∙ onto-outcome (behind a (at s)) ok (at ys)
     ∙ ap (onto (behind a (at s))) (made ∙ cc (level-wide f W H d k l is, level-high f W H d k l is, add-one k, at-rest a n s whole))
-    ∙ ap (λ (i : ℕ). onto (behind i (at s)) (backOf f .work (eqb (suc k) L) (base + k) (sideAt k W) (sideAt k H) (l .set) (from i (at s)))) place
+    ∙ ap (λ (i : ℕ). onto (behind i (at s)) (workBy ad f (eqb (suc k) L) (base + k) (sideAt k W) (sideAt k H) (l .set) (from i (at s)))) place
     ∙ sym (ap (λ (t : Bool). pick t worked (passed (at s))) has)
 
 -- the stretch, and below the last level the next one's, lie within the store
@@ -237,7 +238,7 @@ module _ (f : ℕ) (W H : Side) (d k : ℕ) (l : Level) (is : IsLevel f W H d k 
       put-is f W H d k c l a p m v s ys is ep refl size en room (same ∙ long) (did _ _ _ _ enough made)
 
 -- ---- a set worked out in the rest of the store from its level's stretch on: the places, and what is left
-module _ (f base : ℕ) (W H : Side) (L d k : ℕ) (l : Level) (s : List ℤ) (is : IsLevel f W H d k l) (small : (W .length ≤ 2 ^ 16) × (H .length < 2 ^ 32))
+module _ (ad f base : ℕ) (W H : Side) (L d k : ℕ) (l : Level) (s : List ℤ) (is : IsLevel f W H d k l) (small : (W .length ≤ 2 ^ 16) × (H .length < 2 ^ 32))
     (deep : base + L ≤ filterOf f .levels) (in-map : k < L) (room : storeBy f W L ≤ length s) where
   pub work-places : Fits w64 (l .start * 4) × (l .start ≤ length s) × Fits w64 (k + 1) × Fits w64 (base + k)
   unfolding maxLevels
@@ -250,9 +251,9 @@ module _ (f base : ℕ) (W H : Side) (L d k : ℕ) (l : Level) (s : List ℤ) (i
       outcome ok (at ys) ≡
       pick (workableOf f (eqb (k + 1) L) (base + k) (side (l .x) (l .width)) (side (l .y) (l .height)) (l .set)
       (length (midOf (l .start) (length s - l .start) s)))
-      (backOf f .work (eqb (k + 1) L) (base + k) (side (l .x) (l .width)) (side (l .y) (l .height)) (l .set) (at (midOf (l .start) (length s - l .start) s)))
+      (workBy ad f (eqb (k + 1) L) (base + k) (side (l .x) (l .width)) (side (l .y) (l .height)) (l .set) (at (midOf (l .start) (length s - l .start) s)))
       failed →
-      outcome ok (at (putMid (l .start) (length s - l .start) s ys)) ≡ workedAt f base W H L k (l .set) (at s)
+      outcome ok (at (putMid (l .start) (length s - l .start) s ys)) ≡ workedAt ad f base W H L k (l .set) (at s)
   work-done ys ok there same made =
       let has = set-parts (side (l .x) (l .width)) (side (l .y) (l .height)) (l .set) there in
       let own = work-room f W H d k l is L in-map in
@@ -262,4 +263,4 @@ module _ (f base : ℕ) (W H : Side) (L d k : ℕ) (l : Level) (s : List ℤ) (i
       let here = level-in f W H d k l is (small .0) (small .1) in
       let can = workable-of f (eqb (k + 1) L) (base + k) (side (l .x) (l .width)) (side (l .y) (l .height)) (l .set) (length (midOf (l .start) n s))
       (omega arith) (here .1) (omega (arith, here .2)) (has .0) (has .1) (omega arith) in
-      work-is f base W H L d k l (l .start) n s ys ok is there refl whole (same ∙ long) (did _ _ _ _ can made)
+      work-is ad f base W H L d k l (l .start) n s ys ok is there refl whole (same ∙ long) (did _ _ _ _ can made)

@@ -43,7 +43,8 @@ use Rattle.reader_steps.proofs.Looks.{named-code}
 use Rattle.reader_steps.specs.Sets.{ahead}
 use Rattle.reader.proofs.Reached.{namesOf}
 use Rattle.reader.proofs.Rebuilt.{same-name, same-self}
-use Rattle.reader.proofs.Demand3.{left-append, fed-append, done-only, demand-3}
+use Rattle.reader.proofs.CallLists.{left-append, fed-append, done-only}
+use Rattle.reader.proofs.Demand3.{demand-3}
 
 -- ---- names
 in-names : (f : FedRow) (fs : List FedRow) → In f fs → In (f .row) (namesOf fs)
@@ -54,7 +55,7 @@ names-in : (x : RowName) (fs : List FedRow) → In x (namesOf fs) → (f : FedRo
 names-in x (f ∷ fs) first = (f, first, refl)
 names-in x (f ∷ fs) (later i) = let r = names-in x fs i in (r .0, later (r .1), r .2)
 
-in-times : (x : RowName) (xs : List RowName) → In x xs → 1 ≤ times x xs
+pub in-times : (x : RowName) (xs : List RowName) → In x xs → 1 ≤ times x xs
 unfolding times
 in-times x (y ∷ xs) first = rw (same-self x) (omega arith)
 in-times x (y ∷ xs) (later i) = let a = in-times x xs i in omega arith

@@ -1,17 +1,17 @@
 -- The questions, one after another: what each no and each yes says. Assumes nothing.
-use mathlib.Core.Path.{_≡_, refl, sym, ap, ap₂, _∙_}
+use mathlib.Core.Path.{_≡_, refl, sym, ap, _∙_}
 use mathlib.Core.List.{List, [], _∷_}
 use mathlib.Core.Bool.{Bool, true, false, not}
 use Prim.Native.Nat.{ℕ, _+_, _*_, _≤_, _<_, _-_, _^_}
 use native.Mathlib.Nat.{mul-le-mul}
-use native.Mathlib.Decide.{decLe}
+use native.Mathlib.Decide.{ℕ-discrete, decLe}
 use native.Mathlib.Omega.{arith}
 use lib.IntN.{ℤ}
 use lib.Dec.{leb, ltb, eqb}
 use borrow.Author.Tests.{le-leb, lt-leb, lt-ltb, le-ltb, eq-eqb, ne-eqb, leb-true, ltb-true, eqb-true}
 use Rattle.numbers.specs.Signal.{pick, both}
 use Rattle.numbers.proofs.Sweep.{both as halves}
-use Rattle.lifting.specs.Grid.{Side}
+use Rattle.lifting.specs.Grid.{Side, side}
 use Rattle.wavelet.specs.Limits.{maxWidth, maxHeight, maxLevels, maxOrigin}
 use Rattle.wavelet.specs.Questions.{ask, within}
 use Rattle.wavelet.proofs.LimitLaws.{width-small, height-small, origin-small}
@@ -24,9 +24,19 @@ use Rattle.calls.proofs.QuestionLaws.{asked-yes, asks-no, asks-yes}
 use Rattle.reader.proofs.StoreLaws.{length-is}
 use Rattle.reader.specs.declared.Reader.{Reader}
 use Rattle.reader.specs.State.{columns, rows, needs, next, nextLength, unfinished, rowDue, drawDue}
-use Rattle.reader.specs.Questions.{countsInside, countsFit, stopFits, storeFits, runFits, setUpQuestion, sizeQuestion, stopQuestion, levelQuestion}
+use Rattle.reader.specs.Admission.{Admits}
+use Rattle.reader.specs.Questions.{countsInside, countsFit, tolerantFits, admissionFits, stopFits, storeFits, runFits}
+use Rattle.reader.specs.Questions.{setUpQuestion, tolerantQuestion, sizeQuestion, stopQuestion, levelQuestion}
 use Rattle.reader_steps.specs.Sets.{ahead}
 use Rattle.reader.specs.Inside.{Counts, Small, storeQuestion, rowQuestion}
+
+both-true : (b : Bool) → both b true ≡ b
+both-true true = refl
+both-true false = refl
+
+both-false : (b : Bool) → both b false ≡ false
+both-false true = refl
+both-false false = refl
 
 -- the length that the code asks for, 0 outside the limits
 abbrev pub asked : ℕ → Side → ℕ → ℕ
@@ -139,17 +149,133 @@ module _ (s : Reader) where
       let k = halves (isFilter (s .filter)) _ (b .1) in
       within-true 1 (filterOf (s .filter) .levels) (s .levels) (halves (within 1 (filterOf (s .filter) .levels) (s .levels)) _ (k .1) .0) .1
 
-  -- the stop as well
-  pub counts-all : (t u : Bool) → countsInside s ≡ t → stopFits (s .filter) (s .levels) (s .stop) (s .spare) ≡ u → both t u ≡ countsFit s
+  -- the stop and the admission as well
+  abbrev stop-test : Bool
+  stop-test = stopFits (s .filter) (s .levels) (s .stop) (s .spare)
+
+  counts-all : (t u v : Bool) → countsInside s ≡ t → stop-test ≡ u → admissionFits s ≡ v → both t (both u v) ≡ countsFit s
   unfolding countsFit
-  counts-all t u a b = ap₂ both (sym a) (sym b)
+  counts-all t u v a b c = (λ i. both (sym a i) (both (sym b i) (sym c i)))
+
+  -- without a stop nothing is spare; with one it is a strict reader
+  stopless : s .stop ≡ 0 → stop-test ≡ eqb (s .spare) 0
+  unfolding stopFits
+  stopless e = elim (ℕ-discrete (s .spare) 0) [
+    | yes z ↦ rw (
+      e,
+      le-leb 0 (filterOf (s .filter) .levels - s .levels) (omega arith),
+      z,
+      le-leb 0 (0 * (filterOf (s .filter) .rows * maxWidth)) (omega arith),
+    ) refl
+    | no z ↦ rw (
+      e,
+      le-leb 0 (filterOf (s .filter) .levels - s .levels) (omega arith),
+      ne-eqb (s .spare) 0 z,
+      lt-leb (s .spare) (0 * (filterOf (s .filter) .rows * maxWidth)) (omega (arith, z)),
+    ) refl
+  ]
+
+  pub admission-0 : s .admission ≡ 0 → admissionFits s ≡ true
+  unfolding admissionFits
+  admission-0 e = rw (eq-eqb (s .admission) 0 e) refl
+
+  module _ (other : s .admission ≡ 0 → ⊥) where
+    tolerant-asks : tolerantFits s ≡ admissionFits s
+    unfolding admissionFits
+    tolerant-asks = rw (ne-eqb (s .admission) 0 other) refl
+
+    -- each test that fails, and the last
+    pub tolerant-other : (s .admission ≡ 1 → ⊥) → false ≡ admissionFits s
+    tolerant-other d = sym (sym tolerant-asks ∙ rw (ne-eqb (s .admission) 1 d) refl)
+
+    module _ (one : s .admission ≡ 1) where
+      pub tolerant-ended : s .ended ≡ true → false ≡ admissionFits s
+      tolerant-ended e = sym (sym tolerant-asks ∙ rw (eq-eqb (s .admission) 1 one, e) refl)
+
+      module _ (live : s .ended ≡ false) where
+        pub tolerant-x : (s .x ≡ 0 → ⊥) → false ≡ admissionFits s
+        tolerant-x d = sym (sym tolerant-asks ∙ rw (eq-eqb (s .admission) 1 one, live, ne-eqb (s .x) 0 d) refl)
+
+        module _ (left : s .x ≡ 0) where
+          pub tolerant-y : (s .y ≡ 0 → ⊥) → false ≡ admissionFits s
+          tolerant-y d = sym (sym tolerant-asks ∙ rw (eq-eqb (s .admission) 1 one, live, eq-eqb (s .x) 0 left, ne-eqb (s .y) 0 d) refl)
+
+          pub tolerant-last : s .y ≡ 0 → s .stop ≡ 0 → eqb (s .filter) 0 ≡ admissionFits s
+          tolerant-last top e = sym (
+              sym tolerant-asks
+              ∙ rw (eq-eqb (s .admission) 1 one, live, eq-eqb (s .x) 0 left, eq-eqb (s .y) 0 top, eq-eqb (s .stop) 0 e) (both-true (eqb (s .filter) 0))
+              )
+
+    tolerant-stop : (s .stop ≡ 0 → ⊥) → admissionFits s ≡ false
+    tolerant-stop d =
+        sym tolerant-asks
+        ∙ go (eqb (s .admission) 1) (not (s .ended)) (eqb (s .x) 0) (eqb (s .y) 0) (eqb (s .filter) 0) (eqb (s .stop) 0) (ne-eqb (s .stop) 0 d)
+      where
+        go : (a b c e f g : Bool) → g ≡ false → both a (both b (both c (both e (both f g)))) ≡ false
+        go true true true true true g h = h
+        go true true true true false g h = refl
+        go true true true false f g h = refl
+        go true true false e f g h = refl
+        go true false c e f g h = refl
+        go false b c e f g h = refl
+
+  -- the tests in the code's order
+  pub counts-outside : countsInside s ≡ false → false ≡ countsFit s
+  counts-outside e = counts-all false _ _ e refl refl
+
+  module _ (inside : countsInside s ≡ true) where
+    pub counts-spare : s .stop ≡ 0 → (s .spare ≡ 0 → ⊥) → false ≡ countsFit s
+    counts-spare e d = counts-all true false _ inside (stopless e ∙ ne-eqb (s .spare) 0 d) refl
+
+    pub counts-stopless : s .stop ≡ 0 → s .spare ≡ 0 → admissionFits s ≡ countsFit s
+    counts-stopless e z = counts-all true true _ inside (stopless e ∙ eq-eqb (s .spare) 0 z) refl
+
+    pub counts-stopped : (s .stop ≡ 0 → ⊥) → (s .admission ≡ 0 → ⊥) → false ≡ countsFit s
+    counts-stopped d other = sym (both-false stop-test) ∙ counts-all true stop-test false inside refl (tolerant-stop other d)
+
+    pub counts-strict : s .admission ≡ 0 → stop-test ≡ countsFit s
+    counts-strict e = sym (both-true stop-test) ∙ counts-all true stop-test true inside refl (admission-0 e)
+
+  -- what it says of a tolerant reader, and what it asks
+  pub admission-in : admissionFits s ≡ true → Admits (s .admission) (s .filter) (s .stop) (columns s) (rows s) × (0 < s .admission → s .ended ≡ false)
+  admission-in all = (λ h. parts h .0, λ h. parts h .1)
+    where
+      no-end : (b : Bool) → not b ≡ true → b ≡ false
+      no-end true e = sym e
+      no-end false e = refl
+
+      parts : 0 < s .admission →
+          ((s .admission ≡ 1) × (s .filter ≡ 0) × (s .stop ≡ 0) × (s .x ≡ 0) × (s .y ≡ 0)) × (s .ended ≡ false)
+      parts h =
+          let a = halves (eqb (s .admission) 1) _ (tolerant-asks (λ e. omega arith) ∙ all) in
+          let b = halves (not (s .ended)) _ (a .1) in
+          let c = halves (eqb (s .x) 0) _ (b .1) in
+          let d = halves (eqb (s .y) 0) _ (c .1) in
+          let e = halves (eqb (s .filter) 0) _ (d .1) in
+          ((eqb-true _ _ (a .0), eqb-true _ _ (e .0), eqb-true _ _ (e .1), eqb-true _ _ (c .0), eqb-true _ _ (d .0)), no-end (s .ended) (b .0))
+
+  pub admission-yes : Admits (s .admission) (s .filter) (s .stop) (columns s) (rows s) → (0 < s .admission → s .ended ≡ false) → admissionFits s ≡ true
+  admission-yes is goes = elim (ℕ-discrete (s .admission) 0) [
+    | yes z ↦ admission-0 z
+    | no z ↦
+        let a = is (omega (arith, z)) in
+        sym (tolerant-asks z) ∙ rw (
+          eq-eqb (s .admission) 1 (a .0),
+          goes (omega (arith, z)),
+          eq-eqb (s .x) 0 (a .3),
+          eq-eqb (s .y) 0 (a .4),
+          eq-eqb (s .filter) 0 (a .1),
+          eq-eqb (s .stop) 0 (a .2),
+        ) refl
+  ]
 
   pub counts-in : countsFit s ≡ true → Counts s
   unfolding countsFit countsInside stopFits
   counts-in all =
       let z = halves (countsInside s) _ all in
       let e = z .0 in
-      let y = halves (leb (s .stop) (filterOf (s .filter) .levels - s .levels)) _ (z .1) in
+      let v′ = halves (stopFits (s .filter) (s .levels) (s .stop) (s .spare)) _ (z .1) in
+      let y = halves (leb (s .stop) (filterOf (s .filter) .levels - s .levels)) _ (v′ .0) in
       let a = halves (within 1 maxWidth (s .width)) _ e in
       let b = halves (within 1 maxHeight (s .height)) _ (a .1) in
       let k = halves (isFilter (s .filter)) _ (b .1) in
@@ -178,6 +304,8 @@ module _ (s : Reader) where
               (c .0),
         );
         spares = spare-small (s .filter) (s .levels) (s .stop) (s .spare) (leb-true _ _ (y .0)) (leb-true _ _ (y .1));
+        admits = admission-in (v′ .1) .0;
+        goes = admission-in (v′ .1) .1;
       }
 
   pub counts-length : Counts s → (m : ℕ) → m ≡ asked (s .filter) (columns s) (s .levels) → m ≡ storeBy (s .filter) (columns s) (s .levels)
@@ -343,25 +471,25 @@ module _ (f w h L k : ℕ) where
     pub level-0 : within 1 L k ≡ true → 0 ≡ levelQuestion f w h L k
     level-0 e = (rw e) ∙ one-is
 
--- ---- questions 1, 5 and 9
+-- ---- a tolerant reader's set-up asks as one of the 5/3 from the origin on
+pub tolerant-is : (w h L n : ℕ) → setUpQuestion 0 (side 0 w) (side 0 h) L n ≡ tolerantQuestion w h L n
+unfolding setUpQuestion tolerantQuestion isFilter
+tolerant-is w h L n = refl
+
+-- ---- questions 5 and 9
 module _ (s : Reader) (n : ℕ) where
-  pub store-1 : countsFit s ≡ false → 1 ≡ storeQuestion s n
+  pub store-5 : storeFits (needs s) n ≡ false → 5 ≡ storeQuestion s n
   unfolding storeQuestion
-  store-1 a = rw a
+  store-5 h = rw h
 
-  module _ (one : countsFit s ≡ true) where
-    pub store-5 : storeFits (needs s) n ≡ false → 5 ≡ storeQuestion s n
+  module _ (two : storeFits (needs s) n ≡ true) where
+    pub store-9 : s .ended ≡ true → 9 ≡ storeQuestion s n
     unfolding storeQuestion
-    store-5 h = rw (one, h)
+    store-9 f = rw (two, f)
 
-    module _ (two : storeFits (needs s) n ≡ true) where
-      pub store-9 : s .ended ≡ true → 9 ≡ storeQuestion s n
-      unfolding storeQuestion
-      store-9 f = rw (one, two, f)
-
-      pub store-0 : s .ended ≡ false → 0 ≡ storeQuestion s n
-      unfolding storeQuestion
-      store-0 f = rw (one, two, f)
+    pub store-0 : s .ended ≡ false → 0 ≡ storeQuestion s n
+    unfolding storeQuestion
+    store-0 f = rw (two, f)
 
   -- question 5 by the most that a store needs, and by what this one needs
   module _ (counts : Counts s) where
@@ -389,16 +517,15 @@ module _ (s : Reader) (n : ℕ) where
     | no p ↦ lt-leb (storeBy (s .filter) (columns s) (s .levels)) (n - s .spare) (omega arith) ∙ sym (lt-leb (needs s) n (omega arith))
   ]
 
-  pub store-in : storeQuestion s n ≡ 0 → Counts s × (storeBy (s .filter) (columns s) (s .levels) ≤ n) × (s .ended ≡ false) × (needs s ≤ n)
+  pub store-in : countsFit s ≡ true → storeQuestion s n ≡ 0 → Counts s × (storeBy (s .filter) (columns s) (s .levels) ≤ n) × (s .ended ≡ false) × (needs s ≤ n)
   unfolding storeQuestion storeFits
-  store-in e = go (countsFit s) (leb (needs s) n) (s .ended) refl refl refl e
+  store-in fit e = go (leb (needs s) n) (s .ended) refl refl e
     where
-      go : (a b c : Bool) → countsFit s ≡ a → leb (needs s) n ≡ b → s .ended ≡ c → ask a 1 (ask b 5 (ask (not c) 9 0)) ≡ 0 →
+      go : (b c : Bool) → leb (needs s) n ≡ b → s .ended ≡ c → ask b 5 (ask (not c) 9 0) ≡ 0 →
           Counts s × (storeBy (s .filter) (columns s) (s .levels) ≤ n) × (s .ended ≡ false) × (needs s ≤ n)
-      go true true false ea eb ec e = let p = leb-true (needs s) n eb in (counts-in s ea, omega (arith, p), ec, p)
-      go true true true ea eb ec e = absurd (omega arith)
-      go true false c ea eb ec e = absurd (omega arith)
-      go false b c ea eb ec e = absurd (omega arith)
+      go true false eb ec e = let p = leb-true (needs s) n eb in (counts-in s fit, omega (arith, p), ec, p)
+      go true true eb ec e = absurd (omega arith)
+      go false c eb ec e = absurd (omega arith)
 
 -- ---- questions 8, 13 and 7
 module _ (s : Reader) (m : ℕ) (v : ℕ → ℤ) where

@@ -53,6 +53,7 @@ use Rattle.reader_steps.proofs.ReadyLaws.{ready-beyond, ready-enter, ready-back
 use Rattle.reader_steps.proofs.StepsLeft.{stepsLeft, left-done}
 use Rattle.level.proofs.TriedRows.{Outcome}
 use Rattle.reader.proofs.Holds.{Live, Fits, NextFits, Held, HeldAt, enter-holds, height-fit, sets-fitting, due-fitting, sets-tested}
+use Rattle.reader.proofs.TolerantGoes.{tolerant-settles, tolerant-feeds}
 use Rattle.reader.proofs.Outcomes.{outcome-failed, outcome-passed, settles-outcome, feeds-outcome, row-out}
 use Rattle.reader.proofs.CallViews.{Limits, here, at, nextOf, nameOf, Due, View, view, FeedView, feed-away, feed-onward, feed-view}
 use Rattle.reader.proofs.CallViews.{DrawView, draw-away, draw-idle, draw-onward}
@@ -103,7 +104,7 @@ beyond-le f W H l k n c h b = go (lastOfSet W H (suc l) k n c) (makes f (sideAt 
     go true false = begins-le f W H l k (suc n) h
     go false u = (omega arith, omega arith)
 
-module _ (f base spare : ℕ) (W H : Side) (l : ℕ) where
+module _ (ad f base spare : ℕ) (W H : Side) (l : ℕ) where
   -- what is known of a row fed: it is a row of the plane, its run has its length and is in range
   pub record Good (fr : FedRow) : Type 0 where
     pub k : ℕ
@@ -116,14 +117,16 @@ module _ (f base spare : ℕ) (W H : Side) (l : ℕ) where
 
   -- what holds of rows that have those fed
   pub record Agrees (P : Rows) (d : ℕ) (p : Place) (e : Bool) (x : ℕ → ℤ) (ds : List (ℕ → ℤ)) : Type 0 where
-    pub fit : (r c : ℕ) → r < d → c < W .length → valueFits (filterOf f) base (partAt f W H P (suc l) 0 r c) ≡ true
-    pub shows : (r c : ℕ) → r < d → c < W .length → getD ds r (λ _. pos 0) c ≡ drawnAs base (partAt f W H P (suc l) 0 r c)
-    pub has : (r : ℕ) → r < d → (k : ℕ) → Live f base W H l P k → (m : ℕ) → m ≤ needed f H 0 r (suc k)
-        → SetHasBy (filterOf f) (ahead f) (sideAt k W) (sideAt k H) (bandsAt f W H P (suc l) k) m
-    pub holds : e ≡ false → d < H .length → HeldAt f base W H l P (at f W H l d p) x
-    pub refuses : e ≡ true → Fits f base W H l P → ⊥
+    pub fit : (r c : ℕ) → r < d → c < W .length → valueFits (filterOf f) base (partAt ad f base W H P (suc l) 0 r c) ≡ true
+    pub shows : (r c : ℕ) → r < d → c < W .length → getD ds r (λ _. pos 0) c ≡ drawnAs base (partAt ad f base W H P (suc l) 0 r c)
+    pub has : (r : ℕ) → r < d → (k : ℕ) → Live ad f base W H l P k → (m : ℕ) → m ≤ needed f H 0 r (suc k)
+        → SetHasBy (filterOf f) (ahead f) (sideAt k W) (sideAt k H) (bandsAt ad f base W H P (suc l) k) m
+    pub holds : e ≡ false → d < H .length → HeldAt ad f base W H l P (at f W H l d p) x
+    pub refuses : e ≡ true → Fits ad f base W H l P → ⊥
 
   pub record Kept (d : ℕ) (p : Place) (e : Bool) (x : ℕ → ℤ) (t : List Step) (fs : List FedRow) (ds : List (ℕ → ℤ)) : Type 0 where
+    -- a tolerant reader does not end
+    pub lives : 0 < ad → e ≡ false
     pub drawn-le : d ≤ H .length
     pub level-le : p .level ≤ suc l
     pub band-le : p .band ≤ 4
@@ -135,12 +138,16 @@ module _ (f base spare : ℕ) (W H : Side) (l : ℕ) where
     pub names : e ≡ false → namesOf fs ++ bandRowsOf t ≡ bandRowsOf (steps (ahead f) W H (suc l))
     pub rows : (P : Rows) → All (HasFedRow W P) fs → Agrees P d p e x ds
 
-  module _ (lim : Limits f base spare W H l) where
+  module _ (lim : Limits ad f base spare W H l) where
     abbrev pub world : ℕ → Place → Bool → (ℕ → ℤ) → World
-    world d p e x = record { reader = here f base spare W H l d p e; store = x }
+    world d p e x = record { reader = here ad f base spare W H l d p e; store = x }
 
     wide : 0 < W .length
     wide = within-true 1 maxWidth (W .length) (lim .wide) .0
+
+    -- a tolerant reader's rows start at 0
+    at-top : 0 < ad → H .start ≡ 0
+    at-top h = lim .admits h .4
 
     pub data Reached : World → Bool → List Step → List FedRow → List (ℕ → ℤ) → Type 0 where
       reached : (d : ℕ) (p : Place) (e : Bool) (x : ℕ → ℤ) (t : List Step) (fs : List FedRow) (ds : List (ℕ → ℤ)) → Kept d p e x t fs ds →
@@ -148,7 +155,7 @@ module _ (f base spare : ℕ) (W H : Side) (l : ℕ) where
 
     module _ (d : ℕ) (p : Place) (e : Bool) (x : ℕ → ℤ) (t : List Step) (fs : List FedRow) (ds : List (ℕ → ℤ)) (kept : Kept d p e x t fs ds) where
       abbrev s : Reader
-      s = here f base spare W H l d p e
+      s = here ad f base spare W H l d p e
 
       viewed : View f W H l d p t
       viewed = subst (View f W H l d p) (kept .left) (view f W H l d p (kept .level-le) (kept .ready))
@@ -200,9 +207,9 @@ module _ (f base spare : ℕ) (W H : Side) (l : ℕ) where
 
           -- what the feed comes to, for a grid that has the row too
           outcome-is : (P : Rows) → All (HasFedRow W P) (fs ++ (fr ∷ [])) →
-              Outcome (FeedDue f base W H (suc l) P k u (code c)) (HeldAt f base W H l P (beyond f W H (suc l) k u (code c))) (feeds s (a .numbers) x)
+              Outcome (FeedDue ad f base W H (suc l) P k u (code c)) (HeldAt ad f base W H l P (beyond f W H (suc l) k u (code c))) (feeds s (a .numbers) x)
           outcome-is P has =
-              feeds-outcome f base spare W H l d p (kept .level-le) (kept .ready (o .due)) P x (kept .rows P (all-left fs (fr ∷ []) has) .holds live (o .due))
+              feeds-outcome ad f base spare W H l d p (kept .level-le) (kept .ready (o .due)) P x (kept .rows P (all-left fs (fr ∷ []) has) .holds live (o .due))
               e k u c o
               (a .numbers) (all-last fs fr has)
 
@@ -210,8 +217,12 @@ module _ (f base spare : ℕ) (W H : Side) (l : ℕ) where
           abbrev zeros : ℕ → ℤ
           zeros = feedStore s 14 (a .numbers) x
 
+          never : 0 < ad → feeds s (a .numbers) x ≡ failed → ⊥
+          never more = tolerant-feeds s more (lim .admits) (a .numbers) x
+
           ended-kept : feeds s (a .numbers) x ≡ failed → Kept d p true zeros t (fs ++ (fr ∷ [])) ds
           ended-kept z₁ = record {
+            lives = λ more. absurd (never more z₁);
             drawn-le = kept .drawn-le;
             level-le = kept .level-le;
             band-le = kept .band-le;
@@ -228,8 +239,8 @@ module _ (f base spare : ℕ) (W H : Side) (l : ℕ) where
                   shows = old .shows;
                   has = old .has;
                   holds = λ z _. absurd (true≢false z);
-                  refuses = λ _ all. outcome-failed (subst (Outcome (FeedDue f base W H (suc l) P k u (code c)) _) z₁ (outcome-is P has))
-                      (due-fitting f base W H l P all d k u (code c) inside (o .ready));
+                  refuses = λ _ all. outcome-failed (subst (Outcome (FeedDue ad f base W H (suc l) P k u (code c)) _) z₁ (outcome-is P has))
+                      (due-fitting ad f base W H l P all d k u (code c) inside (o .ready));
                 };
           }
 
@@ -257,6 +268,7 @@ module _ (f base spare : ℕ) (W H : Side) (l : ℕ) where
           on-kept : (y : ℕ → ℤ) → feeds s (a .numbers) x ≡ passed y → Kept d stored false y (stepsLeft f W H l d to) (fs ++ (fr ∷ [])) ds
           unfolding bandRowsOf
           on-kept y z₁ = record {
+            lives = λ _. refl;
             drawn-le = kept .drawn-le;
             level-le = in-range-to .0;
             band-le = in-range-to .1;
@@ -272,8 +284,8 @@ module _ (f base spare : ℕ) (W H : Side) (l : ℕ) where
                   fit = old .fit;
                   shows = old .shows;
                   has = old .has;
-                  holds = λ _ _. subst (λ r. HeldAt f base W H l P r y) (sym same-spot)
-                      (outcome-passed y (subst (Outcome (FeedDue f base W H (suc l) P k u (code c)) _) z₁ (outcome-is P has)));
+                  holds = λ _ _. subst (λ r. HeldAt ad f base W H l P r y) (sym same-spot)
+                      (outcome-passed y (subst (Outcome (FeedDue ad f base W H (suc l) P k u (code c)) _) z₁ (outcome-is P has)));
                   refuses = λ z. absurd (false≢true z);
                 };
           }
@@ -290,9 +302,9 @@ module _ (f base spare : ℕ) (W H : Side) (l : ℕ) where
               reached d stored false y (stepsLeft f W H l d to) (fs ++ (fr ∷ [])) ds (on-kept y z₁))
 
         feed-reached : FedTo (feedQuestion s n x (a .size) (a .numbers))
-        feed-reached = go (feed-view f base spare W H l lim d p (kept .drawn-le) (kept .level-le) (kept .band-le) (kept .back-le) n e t x a viewed)
+        feed-reached = go (feed-view ad f base spare W H l lim d p (kept .drawn-le) (kept .level-le) (kept .band-le) (kept .back-le) n e (kept .lives) t x a viewed)
           where
-            go : FeedView f base spare W H l lim d p (kept .drawn-le) (kept .level-le) (kept .band-le) (kept .back-le) n e t x a
+            go : FeedView ad f base spare W H l lim d p (kept .drawn-le) (kept .level-le) (kept .band-le) (kept .back-le) n e t x a
                 → FedTo (feedQuestion s n x (a .size) (a .numbers))
             go (feed-away q _ z fr at) = subst FedTo (sym at) (fed-away q z fr)
             go (feed-onward k u c live o head long in-range _ at) = subst FedTo (sym at) (tried (feeds s (a .numbers) x) refl)
@@ -320,16 +332,20 @@ module _ (f base spare : ℕ) (W H : Side) (l : ℕ) where
 
         module _ (live : e ≡ false) (due : d < H .length) (at-height : nextOf f W H l d p ≡ spot 0 0 4)
             (head : t ≡ step.draw d ∷ stepsLeft f W H l (suc d) (enter f W H (suc l) (suc d))) (to-draw : drawDue s ≡ true) where
-          settles-is : (P : Rows) → All (HasFedRow W P) fs → Outcome (NextFits f base W H l P d (spot 0 0 4)) (Held f base W H l P 0 d 4) (settles s x)
-          settles-is P has = settles-outcome f base spare W H l d p (kept .level-le) (kept .ready due) P x (kept .rows P has .holds live due) e (spot 0 0 4)
+          settles-is : (P : Rows) → All (HasFedRow W P) fs → Outcome (NextFits ad f base W H l P d (spot 0 0 4)) (Held ad f base W H l P 0 d 4) (settles s x)
+          settles-is P has = settles-outcome ad f base spare W H l d p (kept .level-le) (kept .ready due) P x (kept .rows P has .holds live due) e (spot 0 0 4)
               at-height
 
           -- 14
           abbrev zeros-drawn : ℕ → ℤ
           zeros-drawn = drawStore s 14 x
 
+          never-drawn : 0 < ad → settles s x ≡ failed → ⊥
+          never-drawn more = tolerant-settles s more (lim .admits) x
+
           stopped : settles s x ≡ failed → Kept d p true zeros-drawn t fs ds
           stopped z₁ = record {
+            lives = λ more. absurd (never-drawn more z₁);
             drawn-le = kept .drawn-le;
             level-le = kept .level-le;
             band-le = kept .band-le;
@@ -346,8 +362,8 @@ module _ (f base spare : ℕ) (W H : Side) (l : ℕ) where
                   shows = old .shows;
                   has = old .has;
                   holds = λ z _. absurd (true≢false z);
-                  refuses = λ _ all. outcome-failed (subst (Outcome (NextFits f base W H l P d (spot 0 0 4)) _) z₁ (settles-is P has))
-                      (λ _. sets-fitting f base W H l P all 0 d);
+                  refuses = λ _ all. outcome-failed (subst (Outcome (NextFits ad f base W H l P d (spot 0 0 4)) _) z₁ (settles-is P has))
+                      (λ _. sets-fitting ad f base W H l P all 0 d);
                 };
           }
 
@@ -379,8 +395,8 @@ module _ (f base spare : ℕ) (W H : Side) (l : ℕ) where
               | no end ↦ left-done f W H l (suc d) _ (omega (arith, end)) ∙ sym (left-done f W H l (suc d) _ (omega (arith, end)))
             ]
 
-            out-is : (P : Rows) → Held f base W H l P 0 d 4 y → (c : ℕ) → c < W .length → out c ≡ drawnAs base (partAt f W H P (suc l) 0 d c)
-            out-is P h = row-out f base spare W H l d p e due wide P y h (a .numbers)
+            out-is : (P : Rows) → Held ad f base W H l P 0 d 4 y → (c : ℕ) → c < W .length → out c ≡ drawnAs base (partAt ad f base W H P (suc l) 0 d c)
+            out-is P h = row-out ad f base spare W H l d p e at-top due wide P y h (a .numbers)
 
             -- the rows drawn before, and it
             row-at : (g : Grid) → ((c : ℕ) → c < W .length → out c ≡ g d c) → ((r c : ℕ) → r < d → c < W .length → getD ds r (λ _. pos 0) c ≡ g r c) →
@@ -394,6 +410,7 @@ module _ (f base spare : ℕ) (W H : Side) (l : ℕ) where
 
             given-kept : Kept (suc d) kept-as false y (stepsLeft f W H l (suc d) into) fs (ds ++ (out ∷ []))
             given-kept = record {
+              lives = λ _. refl;
               drawn-le = due;
               level-le = enter-le f W H l (suc d) .0;
               band-le = enter-le f W H l (suc d) .1;
@@ -406,19 +423,19 @@ module _ (f base spare : ℕ) (W H : Side) (l : ℕ) where
               names = λ _. names-same ∙ kept .names live;
               rows = λ P has.
                   let old = kept .rows P has in
-                  let h : Held f base W H l P 0 d 4 y = outcome-passed y (subst (Outcome (NextFits f base W H l P d (spot 0 0 4)) _) made (settles-is P has)) in
+                  let h : Held ad f base W H l P 0 d 4 y = outcome-passed y (subst (Outcome (NextFits ad f base W H l P d (spot 0 0 4)) _) made (settles-is P has)) in
                   record {
                     fit = λ r c b q. elim (ℕ-discrete r d) [
-                      | yes z ↦ rw z (height-fit f base W H l P d y due wide h c q)
+                      | yes z ↦ rw z (height-fit ad f base W H l P d y due wide h at-top c q)
                       | no z ↦ old .fit r c (omega (arith, z)) q
                     ];
-                    shows = row-at (λ r c. drawnAs base (partAt f W H P (suc l) 0 r c)) (out-is P h) (old .shows);
+                    shows = row-at (λ r c. drawnAs base (partAt ad f base W H P (suc l) 0 r c)) (out-is P h) (old .shows);
                     has = λ r b k live m q. elim (ℕ-discrete r d) [
-                      | yes z ↦ sets-tested f base W H l P d 4 y h k live m (subst (λ i. m ≤ needed f H 0 i (suc k)) z q)
+                      | yes z ↦ sets-tested ad f base W H l P d 4 y h k live m (subst (λ i. m ≤ needed f H 0 i (suc k)) z q)
                       | no z ↦ old .has r (omega (arith, z)) k live m q
                     ];
-                    holds = λ _ more. subst (λ r. HeldAt f base W H l P r y)
-                        (sym (ready-back f W H (suc l) (suc d) into more (ready-enter f W H l (suc d) more) .0)) (enter-holds f base W H l P d 4 y h);
+                    holds = λ _ more. subst (λ r. HeldAt ad f base W H l P r y)
+                        (sym (ready-back f W H (suc l) (suc d) into more (ready-enter f W H l (suc d) more) .0)) (enter-holds ad f base W H l P d 4 y h);
                     refuses = λ z. absurd (false≢true z);
                   };
             }
@@ -432,9 +449,9 @@ module _ (f base spare : ℕ) (W H : Side) (l : ℕ) where
                 (reached (suc d) kept-as false y (stepsLeft f W H l (suc d) into) fs (ds ++ (out ∷ [])) given-kept)
 
         draw-reached : DrawnTo (drawQuestion s n x (a .size))
-        draw-reached = go (draw-view f base spare W H l lim d p (kept .drawn-le) (kept .level-le) (kept .band-le) (kept .back-le) n e t x a viewed)
+        draw-reached = go (draw-view ad f base spare W H l lim d p (kept .drawn-le) (kept .level-le) (kept .band-le) (kept .back-le) n e (kept .lives) t x a viewed)
           where
-            go : DrawView f base spare W H l lim d p (kept .drawn-le) (kept .level-le) (kept .band-le) (kept .back-le) n e t x a → DrawnTo
+            go : DrawView ad f base spare W H l lim d p (kept .drawn-le) (kept .level-le) (kept .band-le) (kept .back-le) n e t x a → DrawnTo
                 (drawQuestion s n x (a .size))
             go (draw-away q z fr _ at) = subst DrawnTo (sym at) (drawn-away q z fr)
             go (draw-idle live z _ at) = subst DrawnTo (sym at) (drawn-idle z)

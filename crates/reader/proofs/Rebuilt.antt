@@ -61,15 +61,15 @@ module _ (f base : ℕ) (W H : Side) (g : Grid) (m : IsPart (filterOf f) base (W
       ∙ words-back-forward (filterOf f) (filter-laws f) (sideAt k W) (sideAt k H) (part k) (part-words f base W H g m k
       (omega arith)) (part-doubles f base W H g m k h) r c p q
 
-  back-same : (i k : ℕ) → k + i ≡ suc l → Same (sideAt k W) (sideAt k H) (rebuilt f W H rowsOf i k) (part k)
+  back-same : (i k : ℕ) → k + i ≡ suc l → Same (sideAt k W) (sideAt k H) (rebuilt 0 f base W H rowsOf i k) (part k)
   unfolding rebuilt
   back-same zero k e = let z : k ≡ suc l = omega arith in rw z (unfold levelBand approximation in λ r c p q. refl)
-  back-same (suc i) k e = level-same k (rebuilt f W H rowsOf i (suc k)) (omega arith) (back-same i (suc k) (omega arith))
+  back-same (suc i) k e = level-same k (rebuilt 0 f base W H rowsOf i (suc k)) (omega arith) (back-same i (suc k) (omega arith))
 
-  pub part-same : (k : ℕ) → k ≤ l → Same (sideAt k W) (sideAt k H) (partAt f W H rowsOf (suc l) k) (part k)
-  part-same k h = level-same k (rebuilt f W H rowsOf (suc l - suc k) (suc k)) (omega arith) (back-same (suc l - suc k) (suc k) (omega arith))
+  pub part-same : (k : ℕ) → k ≤ l → Same (sideAt k W) (sideAt k H) (partAt 0 f base W H rowsOf (suc l) k) (part k)
+  part-same k h = level-same k (rebuilt 0 f base W H rowsOf (suc l - suc k) (suc k)) (omega arith) (back-same (suc l - suc k) (suc k) (omega arith))
 
-  pub bands-have : (k : ℕ) → k ≤ l → levelHas (filterOf f) (sideAt k W) (sideAt k H) (bandsAt f W H rowsOf (suc l) k) ≡ true
+  pub bands-have : (k : ℕ) → k ≤ l → levelHas (filterOf f) (sideAt k W) (sideAt k H) (bandsAt 0 f base W H rowsOf (suc l) k) ≡ true
   bands-have k h =
       level-has-reads (filterOf f) (filter-laws f) (sideAt k W) (sideAt k H) _ _ (bands-same k _ (back-same (suc l - suc k) (suc k) (omega arith)))
       ∙ unfold levelBand in part-level-has f base W H g m k (omega arith)
@@ -80,55 +80,55 @@ no-cell lo S e i p = omega arith
 no-cell hi S e i p = omega arith
 
 -- ---- from rows P that are words
-module _ (f : ℕ) (W H : Side) (l : ℕ) (P : Rows)
+module _ (f base : ℕ) (W H : Side) (l : ℕ) (P : Rows)
     (words : (k : ℕ) (b : Band) (r c : ℕ) → k ≤ l → r < count (down b) (sideAt k H) → c < count (across b) (sideAt k W) → SFits w32 (P (rowName (suc k) b r) c))
     (has : (k : ℕ) → k ≤ l → hasCells (sideAt k W) (sideAt k H) ≡ true
-    → levelHas (filterOf f) (sideAt k W) (sideAt k H) (bandsAt f W H P (suc l) k) ≡ true) where
-  bands-words : (m k : ℕ) → k ≤ l → OnCells (SFits w32) (sideAt (suc k) W) (sideAt (suc k) H) (rebuilt f W H P m (suc k)) →
-      OnBands (SFits w32) (sideAt k W) (sideAt k H) (bandsBy P (suc k) (rebuilt f W H P m (suc k)))
+    → levelHas (filterOf f) (sideAt k W) (sideAt k H) (bandsAt 0 f base W H P (suc l) k) ≡ true) where
+  bands-words : (m k : ℕ) → k ≤ l → OnCells (SFits w32) (sideAt (suc k) W) (sideAt (suc k) H) (rebuilt 0 f base W H P m (suc k)) →
+      OnBands (SFits w32) (sideAt k W) (sideAt k H) (bandsBy P (suc k) (rebuilt 0 f base W H P m (suc k)))
   unfolding bandsBy sideAt next across down
   bands-words m k h w LL r c p q = w r c p q
   bands-words m k h w HL r c p q = words k HL r c h p q
   bands-words m k h w LH r c p q = words k LH r c h p q
   bands-words m k h w HH r c p q = words k HH r c h p q
 
-  rebuilt-words : (m k : ℕ) → k + m ≡ suc l → OnCells (SFits w32) (sideAt k W) (sideAt k H) (rebuilt f W H P m k)
+  rebuilt-words : (m k : ℕ) → k + m ≡ suc l → OnCells (SFits w32) (sideAt k W) (sideAt k H) (rebuilt 0 f base W H P m k)
   unfolding rebuilt
   rebuilt-words zero k e = let z : k ≡ suc l = omega arith in rw z (unfold sideAt next across down in λ r c p q. words l LL r c (omega arith) p q)
   rebuilt-words (suc m) k e = level-back-fits (filterOf f) (filter-laws f) (sideAt k W) (sideAt k H) _
       (bands-words m k (omega arith) (rebuilt-words m (suc k) (omega arith)))
 
   abbrev pub back : Grid
-  back = rebuilt f W H P (suc l) 0
+  back = rebuilt 0 f base W H P (suc l) 0
 
   -- the bands of an empty level have no cell
   none-same : (k : ℕ) (p q : Band → Grid) → Empty (sideAt k W) (sideAt k H) → SameBands (sideAt k W) (sideAt k H) p q
   none-same k p q (wide e) b r c u v = absurd (no-cell (across b) (sideAt k W) e c v)
   none-same k p q (high e) b r c u v = absurd (no-cell (down b) (sideAt k H) e r u)
 
-  bands-of : (k m : ℕ) → k + suc m ≡ suc l → Same (sideAt k W) (sideAt k H) (approximation (filterOf f) wrap32 W H back k) (rebuilt f W H P (suc m) k) →
+  bands-of : (k m : ℕ) → k + suc m ≡ suc l → Same (sideAt k W) (sideAt k H) (approximation (filterOf f) wrap32 W H back k) (rebuilt 0 f base W H P (suc m) k) →
       SameBands (sideAt k W) (sideAt k H) (subband (filterOf f) wrap32 (sideAt k W) (sideAt k H) (approximation (filterOf f) wrap32 W H back k))
-      (bandsBy P (suc k) (rebuilt f W H P m (suc k)))
+      (bandsBy P (suc k) (rebuilt 0 f base W H P m (suc k)))
   bands-of k m e a = go (hasCells (sideAt k W) (sideAt k H)) refl
     where
       left : suc l - suc k ≡ m
       left = omega arith
 
       lines : hasCells (sideAt k W) (sideAt k H) ≡ true
-          → levelHas (filterOf f) (sideAt k W) (sideAt k H) (bandsBy P (suc k) (rebuilt f W H P m (suc k))) ≡ true
-      lines c = subst (λ i. levelHas (filterOf f) (sideAt k W) (sideAt k H) (bandsBy P (suc k) (rebuilt f W H P i (suc k))) ≡ true) left
+          → levelHas (filterOf f) (sideAt k W) (sideAt k H) (bandsBy P (suc k) (rebuilt 0 f base W H P m (suc k))) ≡ true
+      lines c = subst (λ i. levelHas (filterOf f) (sideAt k W) (sideAt k H) (bandsBy P (suc k) (rebuilt 0 f base W H P i (suc k))) ≡ true) left
           (has k (omega arith) c)
 
       go : (c : Bool) → hasCells (sideAt k W) (sideAt k H) ≡ c →
           SameBands (sideAt k W) (sideAt k H) (subband (filterOf f) wrap32 (sideAt k W) (sideAt k H) (approximation (filterOf f) wrap32 W H back k))
-          (bandsBy P (suc k) (rebuilt f W H P m (suc k)))
+          (bandsBy P (suc k) (rebuilt 0 f base W H P m (suc k)))
       go false c = none-same k _ _ (cells-not (sideAt k W) (sideAt k H) c)
       go true c = λ b r i p q.
           subband-same (filterOf f) (filter-laws f) wrap32 (sideAt k W) (sideAt k H) _ _ a b r i p q ∙ unfold rebuilt in
           words-forward-back (filterOf f) (filter-laws f) (sideAt k W) (sideAt k H) _
           (bands-words m k (omega arith) (rebuilt-words m (suc k) (omega arith))) (lines c) b r i p q
 
-  approximation-is : (k m : ℕ) → k + m ≡ suc l → Same (sideAt k W) (sideAt k H) (approximation (filterOf f) wrap32 W H back k) (rebuilt f W H P m k)
+  approximation-is : (k m : ℕ) → k + m ≡ suc l → Same (sideAt k W) (sideAt k H) (approximation (filterOf f) wrap32 W H back k) (rebuilt 0 f base W H P m k)
   unfolding approximation sideAt bandsBy
   approximation-is zero m e = let z : m ≡ suc l = omega arith in rw z (λ r c p q. refl)
   approximation-is (suc k) m e =
@@ -181,13 +181,13 @@ found f (g ∷ fs) (later i) h = go (sameName (f .row) (g .row)) h (found f fs i
 zero-fits : SFits w32 (pos 0)
 zero-fits = abs-fits (pos 0) 0 (omega arith) (omega arith)
 
-pub lookup-words : (f base spare : ℕ) (W H : Side) (l : ℕ) → base + suc l ≤ filterOf f .levels → (fs : List FedRow) → All (Good f base spare W H l) fs →
+pub lookup-words : (ad f base spare : ℕ) (W H : Side) (l : ℕ) → base + suc l ≤ filterOf f .levels → (fs : List FedRow) → All (Good ad f base spare W H l) fs →
     (x : RowName) (i : ℕ) →
     i < bandColumns W (x .level) (x .band) →
     SFits w32 (lookup fs x i)
 unfolding lookup
-lookup-words f base spare W H l few [] all-none x i p = zero-fits
-lookup-words f base spare W H l few (u ∷ fs) (all-more g gs) x i p = go (sameName x (u .row)) refl (lookup-words f base spare W H l few fs gs x i p)
+lookup-words ad f base spare W H l few [] all-none x i p = zero-fits
+lookup-words ad f base spare W H l few (u ∷ fs) (all-more g gs) x i p = go (sameName x (u .row)) refl (lookup-words ad f base spare W H l few fs gs x i p)
   where
     go : (t : Bool) → sameName x (u .row) ≡ t → SFits w32 (lookup fs x i) → SFits w32 (pick t (u .run .numbers) (lookup fs x) i)
     go true e ih =

@@ -61,9 +61,9 @@ module _ (s : Reader) where
   near = up-in (s .filter) _ _ _ (s .level) (spotNow s .set) (s .band)
 
   pub settles-is : (to n : ℕ) → to ≡ next s .level → n ≡ spotNow s .set → (x : ℕ → ℤ) →
-      settled (s .filter) (s .stop) (columns s) (rows s) (s .levels) to (s .level) n x ≡ settles s x
+      settled (s .admission) (s .filter) (s .stop) (columns s) (rows s) (s .levels) to (s .level) n x ≡ settles s x
   unfolding settles
-  settles-is to n e f x = ap₂ (λ i j. settled (s .filter) (s .stop) (columns s) (rows s) (s .levels) i (s .level) j x) e f
+  settles-is to n e f x = ap₂ (λ i j. settled (s .admission) (s .filter) (s .stop) (columns s) (rows s) (s .levels) i (s .level) j x) e f
 
   pub next-draw : s .level ≡ 0 → next s .level ≡ 0
   next-draw e = omega (arith, near .within)
@@ -108,18 +108,18 @@ module _ (s : Reader) where
     feed-failed v x e = bind-failed _ _ e
 
     pub feed-on : (v x y : ℕ → ℤ) (n : ℕ) → 0 < p .level → n ≡ p .set → passed y ≡ settles s x →
-        finished (s .filter) (s .stop) (columns s) (rows s) (s .levels) (p .level - 1) n (p .band)
+        finished (s .admission) (s .filter) (s .stop) (columns s) (rows s) (s .levels) (p .level - 1) n (p .band)
         (fedAt (s .filter) (columns s) (rows s) (p .level - 1) n (p .band) v y) ≡ feeds s v x
     unfolding feeds
     feed-on v x y n h set e =
-        ap (λ (i : ℕ). finished (s .filter) (s .stop) (columns s) (rows s) (s .levels) (p .level - 1) i (p .band)
+        ap (λ (i : ℕ). finished (s .admission) (s .filter) (s .stop) (columns s) (rows s) (s .levels) (p .level - 1) i (p .band)
         (fedAt (s .filter) (columns s) (rows s) (p .level - 1) i (p .band) v y)) set ∙ on (p .level) (p .set) (p .band) h
-        ∙ ap (λ (q : machine.Spot). fedOn (s .filter) (s .stop) (columns s) (rows s) (s .levels) (q .level) (q .set) (q .band) v y) (spot-of (next s) p is)
+        ∙ ap (λ (q : machine.Spot). fedOn (s .admission) (s .filter) (s .stop) (columns s) (rows s) (s .levels) (q .level) (q .set) (q .band) v y) (spot-of (next s) p is)
         ∙ bind-passed _ _ y e
       where
         on : (k i c : ℕ) → 0 < k →
-            finished (s .filter) (s .stop) (columns s) (rows s) (s .levels) (k - 1) i c (fedAt (s .filter) (columns s) (rows s) (k - 1) i c v y)
-            ≡ fedOn (s .filter) (s .stop) (columns s) (rows s) (s .levels) k i c v y
+            finished (s .admission) (s .filter) (s .stop) (columns s) (rows s) (s .levels) (k - 1) i c (fedAt (s .filter) (columns s) (rows s) (k - 1) i c v y)
+            ≡ fedOn (s .admission) (s .filter) (s .stop) (columns s) (rows s) (s .levels) k i c v y
         on zero i c h = absurd (omega arith)
         on (suc k) i c h = let z : suc k - 1 ≡ k = omega arith in rw z (unfold fedOn in refl)
 

@@ -11,12 +11,11 @@ use Rattle.numbers.specs.Signal.{pick}
 use Rattle.lifting.specs.Grid.{Side}
 use Rattle.wavelet.specs.Levels.{sideAt}
 use Rattle.filters.specs.Filters.{filterOf}
-use Rattle.synthesis.specs.Back.{backOf}
-use Rattle.synthesis.proofs.BackLaws.{back-worked}
 use Rattle.filters.specs.Figures.{storeBy}
 use Rattle.reader.specs.declared.Reader.{Reader}
 use Rattle.reader_steps.specs.Sets.{waiting}
 use Rattle.level.specs.Tried.{Tried, passed, bind, onto, memory}
+use Rattle.reader.specs.Admission.{workBy}
 use Rattle.reader.specs.Store.{stretchAt, from, behind, zeroed, hasSet, fedAt, workedAt}
 use Rattle.reader_steps.specs.Places.{lastOfSet}
 use Rattle.reader.specs.Machine.{settled, finished, fedOn}
@@ -25,6 +24,7 @@ use Rattle.reader.specs.Questions.{setUpQuestion, feedQuestion, drawQues
 use Rattle.reader.specs.Calls.{setUpStore, storeAfter, feedStore, drawStore}
 use Rattle.areas.proofs.AreaLaws.{front-rest}
 use Rattle.wavelet.proofs.StoreLaws.{store-in}
+use Rattle.reader.proofs.AdmissionLaws.{admission-worked}
 use Rattle.reader.proofs.StoreLaws.{stretch-suc, stretch-in, stretch-is}
 use Rattle.reader.proofs.PartLaws.{behind-past, from-at}
 use Rattle.level.proofs.KeptLaws.{kept-none, kept-more}
@@ -35,7 +35,7 @@ use Rattle.reader.proofs.QuestionLaws.{counts-in}
 use Rattle.reader.proofs.Keeps.{feed-counts, draw-counts}
 
 -- ---- in the store
-module _ (f base : ℕ) (W H : Side) (L : ℕ) where
+module _ (ad f base : ℕ) (W H : Side) (L : ℕ) where
   abbrev N : ℕ
   N = storeBy f W L
 
@@ -55,34 +55,34 @@ module _ (f base : ℕ) (W H : Side) (L : ℕ) where
             behind-past b x y j (omega arith) ∙ a .same (j - b) (omega arith) ∙ from-at b x (j - b) ∙ ap x back;
       })
 
-  worked-at-past : (k n : ℕ) (x : ℕ → ℤ) → k < L → Keeps N x (workedAt f base W H L k n x)
+  worked-at-past : (k n : ℕ) (x : ℕ → ℤ) → k < L → Keeps N x (workedAt ad f base W H L k n x)
   unfolding workedAt
   worked-at-past k n x h = go (hasSet (sideAt k W) (sideAt k H) n)
     where
       go : (t : Bool) → Keeps N x (pick t
-          (onto (behind (stretchAt f W k) x) (backOf f .work (eqb (suc k) L) (base + k) (sideAt k W) (sideAt k H) n (from (stretchAt f W k) x))) (passed x))
-      go true = put-past k x _ h (back-worked f (base + k) (sideAt k W) (sideAt k H) (eqb (suc k) L) n (from (stretchAt f W k) x))
+          (onto (behind (stretchAt f W k) x) (workBy ad f (eqb (suc k) L) (base + k) (sideAt k W) (sideAt k H) n (from (stretchAt f W k) x))) (passed x))
+      go true = put-past k x _ h (admission-worked ad f (base + k) (sideAt k W) (sideAt k H) (eqb (suc k) L) n (from (stretchAt f W k) x))
       go false = goes (kept-none N x)
 
-  settled-past : (to k n : ℕ) (x : ℕ → ℤ) → k ≤ L → Keeps N x (settled f base W H L to k n x)
+  settled-past : (to k n : ℕ) (x : ℕ → ℤ) → k ≤ L → Keeps N x (settled ad f base W H L to k n x)
   unfolding settled
   settled-past to zero n x h = goes (kept-none N x)
   settled-past to (suc k) n x h = go (ltb to (suc k)) (λ y. settled-past to k (waiting f H k n) y (omega arith))
     where
-      go : (t : Bool) → ((y : ℕ → ℤ) → Keeps N y (settled f base W H L to k (waiting f H k n) y)) →
-          Keeps N x (pick t (bind (workedAt f base W H L k n x) (settled f base W H L to k (waiting f H k n))) (passed x))
+      go : (t : Bool) → ((y : ℕ → ℤ) → Keeps N y (settled ad f base W H L to k (waiting f H k n) y)) →
+          Keeps N x (pick t (bind (workedAt ad f base W H L k n x) (settled ad f base W H L to k (waiting f H k n))) (passed x))
       go true ih = bound N x _ _ (worked-at-past k n x (omega arith)) ih
       go false ih = goes (kept-none N x)
 
-  finished-past : (k n c : ℕ) (x : ℕ → ℤ) → k < L → Keeps N x (finished f base W H L k n c x)
+  finished-past : (k n c : ℕ) (x : ℕ → ℤ) → k < L → Keeps N x (finished ad f base W H L k n c x)
   unfolding finished
   finished-past k n c x h = go (lastOfSet W H L k n c)
     where
-      go : (t : Bool) → Keeps N x (pick t (workedAt f base W H L k n x) (passed x))
+      go : (t : Bool) → Keeps N x (pick t (workedAt ad f base W H L k n x) (passed x))
       go true = worked-at-past k n x h
       go false = goes (kept-none N x)
 
-  fed-past : (k n c : ℕ) (v x : ℕ → ℤ) → k ≤ L → Keeps N x (fedOn f base W H L k n c v x)
+  fed-past : (k n c : ℕ) (v x : ℕ → ℤ) → k ≤ L → Keeps N x (fedOn ad f base W H L k n c v x)
   unfolding fedOn
   fed-past zero n c v x h = goes (kept-none N x)
   fed-past (suc k) n c v x h =
@@ -94,13 +94,13 @@ module _ (f base : ℕ) (W H : Side) (L : ℕ) where
 module _ (s : Reader) (deep : s .level ≤ s .levels) where
   settles-past : (x : ℕ → ℤ) → Keeps (storeBy (s .filter) (columns s) (s .levels)) x (settles s x)
   unfolding settles
-  settles-past x = settled-past (s .filter) (s .stop) (columns s) (rows s) (s .levels) (next s .level) (s .level) (spotNow s .set) x deep
+  settles-past x = settled-past (s .admission) (s .filter) (s .stop) (columns s) (rows s) (s .levels) (next s .level) (s .level) (spotNow s .set) x deep
 
   feeds-past : (v x : ℕ → ℤ) → Keeps (storeBy (s .filter) (columns s) (s .levels)) x (feeds s v x)
   unfolding feeds
   feeds-past v x =
       bound (storeBy (s .filter) (columns s) (s .levels)) x (settles s x) _ (settles-past x)
-      (λ y. fed-past (s .filter) (s .stop) (columns s) (rows s) (s .levels) (next s .level) (next s .set) (next s .band) v y (omega (arith, near s .within)))
+      (λ y. fed-past (s .admission) (s .filter) (s .stop) (columns s) (rows s) (s .levels) (next s .level) (next s .set) (next s .band) v y (omega (arith, near s .within)))
 
 remembered : (n : ℕ) (x : ℕ → ℤ) (t : Tried) → Keeps n x t → (j : ℕ) → n ≤ j → memory x t j ≡ x j
 unfolding memory

@@ -82,40 +82,40 @@ module _ (f : ℕ) (W H : Side) (L : ℕ) where
       IsNext f W H d q (record { spot = record { level = k; set = l .set; band = c }; at = l })
   up-next d q k c l is e = record { spot = is-spot q (record { level = k; set = l .set; band = c }) e; at = λ h. is; set = λ h. refl }
 
-module _ (f base : ℕ) (W H : Side) (L : ℕ) where
+module _ (ad f base : ℕ) (W H : Side) (L : ℕ) where
   -- ---- the sets on the way
-  pub settle-none : (to k n : ℕ) (x : ℕ → ℤ) → k ≤ to → passed x ≡ settled f base W H L to k n x
+  pub settle-none : (to k n : ℕ) (x : ℕ → ℤ) → k ≤ to → passed x ≡ settled ad f base W H L to k n x
   unfolding settled
   settle-none to zero n x h = refl
   settle-none to (suc k) n x h = rw (le-ltb to (suc k) h)
 
-  pub settle-failed : (to k n : ℕ) (x : ℕ → ℤ) → to < k → failed ≡ workedAt f base W H L (k - 1) n x → failed ≡ settled f base W H L to k n x
+  pub settle-failed : (to k n : ℕ) (x : ℕ → ℤ) → to < k → failed ≡ workedAt ad f base W H L (k - 1) n x → failed ≡ settled ad f base W H L to k n x
   unfolding settled
   settle-failed to zero n x h e = absurd (omega arith)
   settle-failed to (suc k) n x h e =
       let i : suc k - 1 ≡ k = omega arith in
-      rw (lt-ltb to (suc k) h) (bind-failed _ _ (e ∙ ap (λ (j : ℕ). workedAt f base W H L j n x) i))
+      rw (lt-ltb to (suc k) h) (bind-failed _ _ (e ∙ ap (λ (j : ℕ). workedAt ad f base W H L j n x) i))
 
-  pub settle-on : (to k n m : ℕ) (x y : ℕ → ℤ) → to < k → (0 < k - 1 → m ≡ waiting f H (k - 1) n) → passed y ≡ workedAt f base W H L (k - 1) n x →
-      settled f base W H L to (k - 1) m y ≡ settled f base W H L to k n x
+  pub settle-on : (to k n m : ℕ) (x y : ℕ → ℤ) → to < k → (0 < k - 1 → m ≡ waiting f H (k - 1) n) → passed y ≡ workedAt ad f base W H L (k - 1) n x →
+      settled ad f base W H L to (k - 1) m y ≡ settled ad f base W H L to k n x
   unfolding settled
   settle-on to zero n m x y h w e = absurd (omega arith)
   settle-on to (suc k) n m x y h w e =
       let i : suc k - 1 ≡ k = omega arith in
       rw (lt-ltb to (suc k) h, i)
-      (same k (rw i at w) ∙ bind-passed _ (settled f base W H L to k (waiting f H k n)) y (e ∙ ap (λ (j : ℕ). workedAt f base W H L j n x) i))
+      (same k (rw i at w) ∙ bind-passed _ (settled ad f base W H L to k (waiting f H k n)) y (e ∙ ap (λ (j : ℕ). workedAt ad f base W H L j n x) i))
     where
-      same : (k : ℕ) → (0 < k → m ≡ waiting f H k n) → settled f base W H L to k m y ≡ settled f base W H L to k (waiting f H k n) y
+      same : (k : ℕ) → (0 < k → m ≡ waiting f H k n) → settled ad f base W H L to k m y ≡ settled ad f base W H L to k (waiting f H k n) y
       same zero w = refl
-      same (suc k) w = ap (λ (i : ℕ). settled f base W H L to (suc k) i y) (w (omega arith))
+      same (suc k) w = ap (λ (i : ℕ). settled ad f base W H L to (suc k) i y) (w (omega arith))
 
   -- ---- the set that a row completes, and the place after it
   module _ (k n c : ℕ) (t : Bool) (x : ℕ → ℤ) (is : t ≡ lastOfSet W H L k n c) where
-    pub finish-not : t ≡ false → passed x ≡ finished f base W H L k n c x
+    pub finish-not : t ≡ false → passed x ≡ finished ad f base W H L k n c x
     unfolding finished
     finish-not e = let u : lastOfSet W H L k n c ≡ false = sym is ∙ e in rw u
 
-    pub finish-set : t ≡ true → workedAt f base W H L k n x ≡ finished f base W H L k n c x
+    pub finish-set : t ≡ true → workedAt ad f base W H L k n x ≡ finished ad f base W H L k n c x
     unfolding finished
     finish-set e = let u : lastOfSet W H L k n c ≡ true = sym is ∙ e in rw u
 

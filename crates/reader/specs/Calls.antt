@@ -6,7 +6,7 @@ use lib.IntN.{ℤ}
 use lib.Dec.{eqb}
 use Rattle.numbers.specs.Signal.{pick}
 use Rattle.lifting.specs.Halves.{fronted}
-use Rattle.lifting.specs.Grid.{Side}
+use Rattle.lifting.specs.Grid.{Side, side}
 use Rattle.reader.specs.declared.Reader.{Reader}
 use Rattle.level.specs.Tried.{memory}
 use Rattle.filters.specs.Figures.{storeBy}
@@ -18,9 +18,10 @@ use Rattle.reader_steps.specs.Places.{placeOf, enter}
 use Rattle.reader.specs.State.{columns, needs, wants, settles, feeds, drawDue, fedReader, drawnReader, endedReader}
 
 -- ---- set-up
--- a fresh reader of the filter f, of the columns W and the rows H of level b of a map, at L levels, with e spare numbers: nothing drawn, and row 0 begins
-unfoldable pub freshOver : ℕ → ℕ → ℕ → Side → Side → ℕ → Reader
-freshOver f b e W H L = record {
+-- a fresh reader with the admission a of the filter f, of the columns W and the rows H of level b of a map, at L levels, with e spare numbers: nothing drawn, and
+-- row 0 begins
+unfoldable pub freshBy : ℕ → ℕ → ℕ → ℕ → Side → Side → ℕ → Reader
+freshBy a f b e W H L = record {
   width = W .length;
   height = H .length;
   levels = L;
@@ -34,7 +35,12 @@ freshOver f b e W H L = record {
   filter = f;
   stop = b;
   spare = e;
+  admission = a;
 }
+
+-- a strict one
+abbrev pub freshOver : ℕ → ℕ → ℕ → Side → Side → ℕ → Reader
+freshOver f b e W H L = freshBy 0 f b e W H L
 
 -- of a whole map
 abbrev pub fresh : ℕ → Side → Side → ℕ → Reader
@@ -42,6 +48,13 @@ fresh f W H L = freshOver f 0 0 W H L
 
 unfoldable pub setUpReply : ℕ → Side → Side → ℕ → ℕ → Reply Reader
 setUpReply f W H L q = pick (eqb q 0) (gives (fresh f W H L)) (refused q)
+
+-- a tolerant one, of w columns and h rows. Document 02, Q-10: "its set-up without origin, filter or stop"
+abbrev pub freshTolerant : ℕ → ℕ → ℕ → Reader
+freshTolerant w h L = freshBy 1 0 0 0 (side 0 w) (side 0 h) L
+
+unfoldable pub tolerantReply : ℕ → ℕ → ℕ → ℕ → Reply Reader
+tolerantReply w h L q = pick (eqb q 0) (gives (freshTolerant w h L)) (refused q)
 
 -- "whose needed part set-up zeroes"
 unfoldable pub setUpStore : ℕ → Side → ℕ → ℕ → (ℕ → ℤ) → ℕ → ℤ

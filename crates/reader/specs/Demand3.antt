@@ -3,7 +3,8 @@
 -- of the list of events alone.
 -- It is stated over a base level b, for Q-6: the columns W, the rows H and the L levels are those of level b of a map, rows are named by their levels from
 -- there
--- on, and e numbers of the store are spare. A base of 0, with nothing spare, is the whole map of document 01.
+-- on, and e numbers of the store are spare. A base of 0, with nothing spare, is the whole map of document 01. The claim is the strict reader's; document 02,
+-- Q-10: "Demand 3 is for the strict reader."
 use mathlib.Core.Path.{_≡_}
 use mathlib.Core.Logic.{_↔_}
 use mathlib.Core.Bool.{Bool, true, false}
@@ -40,7 +41,7 @@ use Rattle.reader.specs.Store.{zeroed}
 use Rattle.reader.specs.Questions.{runFits, storeFits}
 use Rattle.reader.specs.Reading.{countsFit, wantQuestion, feedQuestion, drawQuestion}
 use Rattle.reader.specs.Reading.{wantReply, feedReply, feedStore, drawReply, drawStore, drawArea}
-use Rattle.reader.specs.Calls.{freshOver}
+use Rattle.reader.specs.Calls.{freshBy}
 
 -- b and n together; a base of 0 leaves n as it is
 abbrev pub onTop : ℕ → ℕ → ℕ
@@ -125,9 +126,14 @@ events = lists.events event next
 abbrev pub final : List Call → World → World
 final = lists.final next
 
--- "Fresh means the state and line store of a set-up that passed": of the filter f, the columns W and the rows H at L levels, on a store in which x stood
+-- "Fresh means the state and line store of a set-up that passed": of the filter f, the columns W and the rows H at L levels, on a store in which x stood; k is
+-- the admission
+abbrev pub worldBy : ℕ → ℕ → ℕ → ℕ → Side → Side → ℕ → (ℕ → ℤ) → World
+worldBy k f b e W H L x = record { reader = freshBy k f b e W H L; store = zeroed (onTop e (storeBy f W L)) x }
+
+-- of a strict reader
 abbrev pub freshWorld : ℕ → ℕ → ℕ → Side → Side → ℕ → (ℕ → ℤ) → World
-freshWorld f b e W H L x = record { reader = freshOver f b e W H L; store = zeroed (onTop e (storeBy f W L)) x }
+freshWorld f b e W H L x = worldBy 0 f b e W H L x
 
 -- ---- how far the steps are gone
 -- one step on: a feed that passed, a draw that gave a row
@@ -294,11 +300,11 @@ goesOnSet H x [] = false
 goesOnSet H x (step.feed y ∷ t) = both (eqb (y .level) (x .level)) (eqb (setNumber H y) (setNumber H x))
 goesOnSet H x (step.draw r ∷ t) = false
 
--- A feed of row x, with the steps t after it. Its own set fits if x is the last of it; and the sets of the levels above, which made what its set takes, if it
+-- A feed of row x, with the steps t after it and the admission k. Its own set fits if x is the last of it; and the sets of the levels above, which made what its set takes, if it
 -- takes a row.
-pub record FeedFits (f b : ℕ) (W H : Side) (L : ℕ) (P : Rows) (x : RowName) (t : List Step) : Type 0 where
-  pub own : goesOnSet H x t ≡ false → SetFits f b W H P L (x .level - 1) (setNumber H x)
-  pub above : hasRow H (x .level) (setNumber H x) ≡ true → SetsFit f b W H L P (x .level) (setNumber H x)
+pub record FeedFits (k f b : ℕ) (W H : Side) (L : ℕ) (P : Rows) (x : RowName) (t : List Step) : Type 0 where
+  pub own : goesOnSet H x t ≡ false → SetFits k f b W H P L (x .level - 1) (setNumber H x)
+  pub above : hasRow H (x .level) (setNumber H x) ≡ true → SetsFit k f b W H L P (x .level) (setNumber H x)
 
 -- a feed of the run a as row x goes on, with the steps t after it
 pub record FeedGoes (f : ℕ) (W H : Side) (L : ℕ) (es : List Event) (then : Call → Event) (n : ℕ) (a : Area) (x : RowName) (t : List Step) : Type 0 where
@@ -326,16 +332,16 @@ pub record Demand3 (f b spare : ℕ) (W H : Side) (L : ℕ) (es : List Event) (t
   -- a call that goes on has worked out what is due, and it fits: 14 comes no later
   pub feed-works : (n : ℕ) (a : Area) (x : RowName) (t : List Step) → FeedGoes f W H L es then n a x t →
       (P : Rows) → All (HasFedRow W P) (fedRows (steps (ahead f) W H L) es ++ (record { row = x; run = a } ∷ [])) →
-      FeedFits f b W H L P x t
+      FeedFits 0 f b W H L P x t
   pub draw-works : (n : ℕ) (a z : Area) → then (draw n a) ≡ drew a (gives (heights (W .length))) z →
-      (P : Rows) → All (HasFedRow W P) (fedRows (steps (ahead f) W H L) es) → SetsFit f b W H L P 0 (length (drawnRows es))
+      (P : Rows) → All (HasFedRow W P) (fedRows (steps (ahead f) W H L) es) → SetsFit 0 f b W H L P 0 (length (drawnRows es))
   -- and in a call that gives 14 something due then does not fit: 14 comes no earlier. Document 02, Q-8: a row "counts as made, and is asked 14, with the set
   -- that brings the last value that it or any row above it needs."
   pub feed-ends : (n : ℕ) (a : Area) (x : RowName) (t : List Step) → left (steps (ahead f) W H L) es ≡ step.feed x ∷ t → then (feed n a) ≡ fed a (refused 14) →
       (P : Rows) → All (HasFedRow W P) (fedRows (steps (ahead f) W H L) es ++ (record { row = x; run = a } ∷ [])) →
-      FeedFits f b W H L P x t → ⊥
+      FeedFits 0 f b W H L P x t → ⊥
   pub draw-ends : (n : ℕ) (a z : Area) → then (draw n a) ≡ drew a (refused 14) z →
-      (P : Rows) → All (HasFedRow W P) (fedRows (steps (ahead f) W H L) es) → SetsFit f b W H L P 0 (length (drawnRows es)) → ⊥
+      (P : Rows) → All (HasFedRow W P) (fedRows (steps (ahead f) W H L) es) → SetsFit 0 f b W H L P 0 (length (drawnRows es)) → ⊥
   -- it says Done exactly when the heights drawn are all of such a map
   pub finished : then want ≡ wanted (gives done) ↔ AllDrawn f b W H L es
 

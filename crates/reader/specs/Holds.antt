@@ -16,21 +16,21 @@ use Rattle.reader_steps.specs.Asked.{keptAt, named}
 use Rattle.reader_steps.specs.Places.{lastOfSet, hasCells, Ready}
 use Rattle.level.specs.Stands.{SetHasBy, BackMeaning}
 use Rattle.filters.specs.Filters.{filterOf}
-use Rattle.synthesis.specs.Back.{standsOf}
+use Rattle.reader.specs.Admission.{standsBy}
 use Rattle.reader.specs.Rebuilt.{Rows, bandsAt, partAt, SetFits, SetsFit}
 use Rattle.reader.specs.Store.{stretchAt, from}
 use Rattle.reader.specs.Limited.{drawnAs}
 use Rattle.reader.specs.State.{columns, rows, spotNow, next, nextRow, nextLength}
 
--- ---- what stands in a level's memory: of the sets before set n also that none of them halved an odd number
+-- ---- what stands in a level's memory, with the admission a: of the sets before set n also that none of them halved an odd number
 abbrev pub Tested : ℕ → Side → Side → (Band → Grid) → ℕ → Type 0
 Tested f W H p n = (m : ℕ) → m < n → SetHasBy (filterOf f) (ahead f) W H p m
 
-abbrev pub M : ℕ → BackMeaning
-M f = record {
-  Leaves = λ k W H p n x. standsOf f .Leaves k W H p n x × Tested f W H p n;
-  Before = λ k W H p n x. standsOf f .Before k W H p n x × Tested f W H p n;
-  Got = standsOf f .Got;
+abbrev pub M : ℕ → ℕ → BackMeaning
+M a f = record {
+  Leaves = λ k W H p n x. standsBy a f .Leaves k W H p n x × Tested f W H p n;
+  Before = λ k W H p n x. standsBy a f .Before k W H p n x × Tested f W H p n;
+  Got = standsBy a f .Got;
 }
 
 -- ---- the reader's store, while row `drawn` is waited for: coarser levels than `level` have the last set that what it collects needs, it has the bands before
@@ -44,13 +44,13 @@ module _ (P : Rows) (s : Reader) where
   pub record Holds (x : ℕ → ℤ) : Type 0 where
     pub ready : s .drawn < s .height → Ready (s .filter) (columns s) (rows s) (s .levels) (s .drawn) (spotNow s)
     pub below : s .drawn < s .height → hasRow (rows s) (s .level) (spotNow s .set) ≡ true → (k : ℕ) → Level k → s .level ≤ k →
-        M (s .filter) .Leaves (s .stop + k) (sideAt k (columns s)) (sideAt k (rows s)) (bandsAt (s .filter) (columns s) (rows s) P (s .levels) k)
+        M (s .admission) (s .filter) .Leaves (s .stop + k) (sideAt k (columns s)) (sideAt k (rows s)) (bandsAt (s .admission) (s .filter) (s .stop) (columns s) (rows s) P (s .levels) k)
         (needed (s .filter) (rows s) (s .level) (spotNow s .set) (suc k)) (from (stretchAt (s .filter) (columns s) k) x)
     pub before : s .drawn < s .height → (k : ℕ) → Level k → suc k ≤ s .level →
-        M (s .filter) .Before (s .stop + k) (sideAt k (columns s)) (sideAt k (rows s)) (bandsAt (s .filter) (columns s) (rows s) P (s .levels) k)
+        M (s .admission) (s .filter) .Before (s .stop + k) (sideAt k (columns s)) (sideAt k (rows s)) (bandsAt (s .admission) (s .filter) (s .stop) (columns s) (rows s) P (s .levels) k)
         (waitsAt (s .filter) (rows s) (s .level) (spotNow s .set) (suc k)) (from (stretchAt (s .filter) (columns s) k) x)
     pub got : s .drawn < s .height → (k : ℕ) → Level k → suc k ≡ s .level → (c : Band) → keptAt (eqb (suc k) (s .levels)) c ≡ true → code c < s .band →
-        M (s .filter) .Got (sideAt k (columns s)) (sideAt k (rows s)) (bandsAt (s .filter) (columns s) (rows s) P (s .levels) k) (spotNow s .set)
+        M (s .admission) (s .filter) .Got (sideAt k (columns s)) (sideAt k (rows s)) (bandsAt (s .admission) (s .filter) (s .stop) (columns s) (rows s) P (s .levels) k) (spotNow s .set)
         (from (stretchAt (s .filter) (columns s) k) x) c
 
   -- v is the row of P that is wanted
@@ -60,17 +60,17 @@ module _ (P : Rows) (s : Reader) where
 -- ---- what is due in a call fits
 -- The row with band code c of set n of level k + 1 fed: its set, if the row completes it; and the sets of the levels above, which made what the set takes, if
 -- it takes a row.
-pub record FeedDue (f b : ℕ) (W H : Side) (L : ℕ) (P : Rows) (k n c : ℕ) : Type 0 where
-  pub own : lastOfSet W H L k n c ≡ true → SetFits f b W H P L k n
-  pub above : hasRow H (suc k) n ≡ true → SetsFit f b W H L P (suc k) n
+pub record FeedDue (a f b : ℕ) (W H : Side) (L : ℕ) (P : Rows) (k n c : ℕ) : Type 0 where
+  pub own : lastOfSet W H L k n c ≡ true → SetFits a f b W H P L k n
+  pub above : hasRow H (suc k) n ≡ true → SetsFit a f b W H L P (suc k) n
 
 -- the row that a reader wants fed
 abbrev pub WantedFits : Rows → Reader → Type 0
-WantedFits P s = FeedDue (s .filter) (s .stop) (columns s) (rows s) (s .levels) P (next s .level - 1) (next s .set) (next s .band)
+WantedFits P s = FeedDue (s .admission) (s .filter) (s .stop) (columns s) (rows s) (s .levels) P (next s .level - 1) (next s .set) (next s .band)
 
 -- its next height row drawn: the sets that the row needs
 abbrev pub DrawnFits : Rows → Reader → Type 0
-DrawnFits P s = SetsFit (s .filter) (s .stop) (columns s) (rows s) (s .levels) P 0 (s .drawn)
+DrawnFits P s = SetsFit (s .admission) (s .filter) (s .stop) (columns s) (rows s) (s .levels) P 0 (s .drawn)
 
 -- ---- what each call keeps, by its answer, for all rows P: x and x′ are the store before and after
 pub record SetUpHolds (r : Reply Reader) (x : ℕ → ℤ) : Type 0 where
@@ -84,5 +84,5 @@ pub record FeedKeeps (s : Reader) (v x : ℕ → ℤ) (r : Reply Reader) (x′ :
 -- a draw gives the row of the way back from P in the area z′, and goes on to hold P; 14 likewise
 pub record DrawKeeps (s : Reader) (x : ℕ → ℤ) (r : Reply Handed) (x′ z′ : ℕ → ℤ) : Type 0 where
   pub passed : (n : ℕ) (t : Reader) → r ≡ gives (aRow n t) → (P : Rows) → Holds P s x →
-      Holds P t x′ × ((c : ℕ) → c < s .width → z′ c ≡ drawnAs (s .stop) (partAt (s .filter) (columns s) (rows s) P (s .levels) 0 (s .drawn) c))
+      Holds P t x′ × ((c : ℕ) → c < s .width → z′ c ≡ drawnAs (s .stop) (partAt (s .admission) (s .filter) (s .stop) (columns s) (rows s) P (s .levels) 0 (s .drawn) c))
   pub ended : (t : Reader) → r ≡ impossible t → (P : Rows) → Holds P s x → DrawnFits P s → ⊥

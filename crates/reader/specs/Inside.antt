@@ -1,6 +1,6 @@
 -- What the private functions of the reader require and ensure of each other. No public contract cites it.
 use mathlib.Core.Path.{_≡_}
-use mathlib.Core.Bool.{Bool, true, not}
+use mathlib.Core.Bool.{Bool, true, false, not}
 use Prim.Native.Nat.{ℕ, suc, _+_, _-_, _*_, _≤_, _<_, _^_}
 use lib.IntN.{ℤ}
 use lib.Dec.{eqb}
@@ -17,8 +17,9 @@ use Rattle.reader_steps.specs.Sets.{ahead, needed}
 use Rattle.reader.specs.Store.{stretchAt}
 use Rattle.reader_steps.specs.Places.{lastOfSet}
 use Rattle.reader_steps.specs.Places as machine
+use Rattle.reader.specs.Admission.{Admits}
 use Rattle.reader.specs.State.{columns, rows, needs, spotNow, next, nextLength, rowDue}
-use Rattle.reader.specs.Questions.{countsFit, storeFits, runFits}
+use Rattle.reader.specs.Questions.{storeFits, runFits}
 
 -- ---- a reader and its places
 -- every count is inside its range
@@ -36,6 +37,8 @@ pub record Counts (s : Reader) : Type 0 where
   pub behind : s .back ≤ 2 * ahead (s .filter) - 1
   pub stops : s .stop + s .levels ≤ filterOf (s .filter) .levels
   pub spares : s .spare ≤ 2 ^ 32
+  pub admits : Admits (s .admission) (s .filter) (s .stop) (columns s) (rows s)
+  pub goes : 0 < s .admission → s .ended ≡ false
 
 -- a map's columns and rows while row d is waited for: sizes so small that no place in memory overflows
 abbrev pub Small : Side → Side → ℕ → Type 0
@@ -79,9 +82,9 @@ Due s n = IsNext (s .filter) (columns s) (rows s) (s .drawn) (next s) n
 abbrev pub Completing : Reader → Next → Bool → Type 0
 Completing s n t = t ≡ lastOfSet (columns s) (rows s) (s .levels) (n .spot .level - 1) (n .at .set) (n .spot .band)
 
--- the questions of a feed or a draw that the state and the store's length answer, and those of a feed that the run answers
+-- the questions of a feed or a draw that the store's length and the state answer after question 1, and those of a feed that the run answers
 unfoldable pub storeQuestion : Reader → ℕ → ℕ
-storeQuestion s n = ask (countsFit s) 1 (ask (storeFits (needs s) n) 5 (ask (not (s .ended)) 9 0))
+storeQuestion s n = ask (storeFits (needs s) n) 5 (ask (not (s .ended)) 9 0)
 
 unfoldable pub rowQuestion : Reader → ℕ → (ℕ → ℤ) → ℕ
 rowQuestion s m v = ask (rowDue s) 8 (ask (eqb m (nextLength s)) 13 (ask (runFits (s .filter) (s .stop + next s .level) m v) 7 0))

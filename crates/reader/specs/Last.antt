@@ -20,7 +20,7 @@ use Rattle.reader.specs.Questions.{storeFits, runFits}
 unfoldable pub maxSpare : ℕ
 maxSpare = 131136
 
--- question 1: size, origin and row, no level, and room for a row among the numbers that the store needs
+-- question 1: size, origin and row, no level, and room for a row among the numbers that the store needs; it is not a tolerant one
 unfoldable pub countsFit : Reader → Bool
 countsFit s =
     both (isFilter (s .filter))
@@ -34,7 +34,8 @@ countsFit s =
     (both (leb (s .band) 4)
     (both (eqb (s .back) 0)
     (both (leb (s .width) (s .spare))
-    (leb (s .spare) maxSpare)))))))))))
+    (both (leb (s .spare) maxSpare)
+    (eqb (s .admission) 0))))))))))))
 
 -- a row is left; it is wanted; it can be drawn
 unfoldable pub unfinished : Reader → Bool
@@ -97,6 +98,7 @@ movedTo s d c = record {
   filter = s .filter;
   stop = s .stop;
   spare = s .spare;
+  admission = s .admission;
 }
 
 unfoldable pub wantReply : Reader → ℕ → Reply Want

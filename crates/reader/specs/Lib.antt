@@ -1,4 +1,5 @@
 pub mod Limited
+pub mod Admission
 pub mod Store
 pub mod Machine
 pub mod Answers
@@ -15,3 +16,4 @@ pub mod Demand3
 pub mod Past
 pub mod Played
 pub mod Plain
+pub mod Tolerant

@@ -1,7 +1,7 @@
 -- The gate questions of each call, in the order of document 01 and, for 18 and 17, of document 02, Q-8 and Q-6. "The first no gives its number, and nothing
 -- changes." 0: no
 -- question says no. f is the number of the filter: levels, look-ahead, rows and range are its own.
-use mathlib.Core.Bool.{Bool, not}
+use mathlib.Core.Bool.{Bool, true, not}
 use Prim.Native.Nat.{ℕ, _+_, _-_, _*_}
 use lib.IntN.{ℤ, natAbs}
 use lib.Dec.{leb, eqb}
@@ -9,7 +9,7 @@ use Rattle.numbers.specs.Signal.{pick, both}
 use Rattle.wavelet.specs.Limits.{maxWidth, maxHeight, range, maxOrigin}
 use Rattle.numbers.specs.Tests.{every}
 use Rattle.wavelet.specs.Questions.{ask, within}
-use Rattle.lifting.specs.Grid.{Side}
+use Rattle.lifting.specs.Grid.{Side, side}
 use Rattle.filters.specs.Filters.{filterOf, isFilter}
 use Rattle.filters.specs.Figures.{storeBy}
 use Rattle.reader.specs.declared.Reader.{Reader}
@@ -36,9 +36,22 @@ countsInside s =
     (both (leb (s .band) 4)
     (leb (s .back) (2 * ahead (s .filter) - 1))))))))))
 
+-- the admission: 0, or 1 of a reader of the 5/3 from the origin on, without a stop, that has not ended,
+abbrev pub tolerantFits : Reader → Bool
+tolerantFits s =
+    both (eqb (s .admission) 1)
+    (both (not (s .ended))
+    (both (eqb (s .x) 0)
+    (both (eqb (s .y) 0)
+    (both (eqb (s .filter) 0)
+    (eqb (s .stop) 0)))))
+
+unfoldable pub admissionFits : Reader → Bool
+admissionFits s = pick (eqb (s .admission) 0) true (tolerantFits s)
+
 -- and the stop
 unfoldable pub countsFit : Reader → Bool
-countsFit s = both (countsInside s) (stopFits (s .filter) (s .levels) (s .stop) (s .spare))
+countsFit s = both (countsInside s) (both (stopFits (s .filter) (s .levels) (s .stop) (s .spare)) (admissionFits s))
 
 -- question 5: is a line store of n numbers long enough, where m are needed?
 unfoldable pub storeFits : ℕ → ℕ → Bool
@@ -57,6 +70,15 @@ setUpQuestion f W H L n =
     (ask (within 1 (filterOf f .levels) L) 4
     (ask (storeFits (storeBy f W L) n) 5
     0))))
+
+-- of a tolerant reader of w columns and h rows: 2, 3, 4 and 5
+unfoldable pub tolerantQuestion : ℕ → ℕ → ℕ → ℕ → ℕ
+tolerantQuestion w h L n =
+    ask (within 1 maxWidth w) 2
+    (ask (within 1 maxHeight h) 3
+    (ask (within 1 (filterOf 0 .levels) L) 4
+    (ask (storeFits (storeBy 0 (side 0 w) L) n) 5
+    0)))
 
 -- 2, 3, 18 and 4 of a map
 unfoldable pub sizeQuestion : ℕ → ℕ → ℕ → ℕ → ℕ

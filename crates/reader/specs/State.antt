@@ -64,11 +64,11 @@ module _ (s : Reader) where
 
   -- the sets that wait, worked out
   unfoldable pub settles : (ℕ → ℤ) → Tried
-  settles x = settled (s .filter) (s .stop) (columns s) (rows s) (s .levels) (next .level) (spotNow .level) (spotNow .set) x
+  settles x = settled (s .admission) (s .filter) (s .stop) (columns s) (rows s) (s .levels) (next .level) (spotNow .level) (spotNow .set) x
 
   -- "ahead of that call's own work": then the run v is fed
   unfoldable pub feeds : (ℕ → ℤ) → (ℕ → ℤ) → Tried
-  feeds v x = bind (settles x) (fedOn (s .filter) (s .stop) (columns s) (rows s) (s .levels) (next .level) (next .set) (next .band) v)
+  feeds v x = bind (settles x) (fedOn (s .admission) (s .filter) (s .stop) (columns s) (rows s) (s .levels) (next .level) (next .set) (next .band) v)
 
   -- ---- the reader after it
   abbrev pub movedTo : ℕ → Place → Reader
@@ -86,6 +86,7 @@ module _ (s : Reader) where
     filter = s .filter;
     stop = s .stop;
     spare = s .spare;
+    admission = s .admission;
   }
 
   unfoldable pub fedReader : Reader
@@ -114,4 +115,5 @@ module _ (s : Reader) where
     filter = s .filter;
     stop = s .stop;
     spare = s .spare;
+    admission = s .admission;
   }

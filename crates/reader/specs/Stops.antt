@@ -34,6 +34,7 @@ lastAt f j e W H = record {
   filter = f;
   stop = j;
   spare = e;
+  admission = 0;
 }
 
 -- of the map of the columns W and the rows H at L levels: are there levels to work out, and the numbers that the levels before level j have of its store

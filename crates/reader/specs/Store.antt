@@ -13,6 +13,7 @@ use Rattle.level.specs.Tried.{Tried, passed, onto}
 use Rattle.synthesis.specs.Back.{backOf}
 use Rattle.reader_steps.specs.Asked.{named}
 use Rattle.reader_steps.specs.Places.{hasCells}
+use Rattle.reader.specs.Admission.{workBy}
 
 -- where the stretch of level k + 1 begins: past those of the levels before it
 unfoldable pub stretchAt : ℕ → Side → ℕ → ℕ
@@ -40,9 +41,9 @@ fedAt f W H k n c v x =
 unfoldable pub hasSet : Side → Side → ℕ → Bool
 hasSet W H n = both (hasCells W H) (leb n (lastSet H))
 
--- its rows are low-low values of level k of the columns W and the rows H, which are those of level b of a map: so of level b + k
-unfoldable pub workedAt : ℕ → ℕ → Side → Side → ℕ → ℕ → ℕ → (ℕ → ℤ) → Tried
-workedAt f b W H L k n x =
+-- its rows are low-low values of level k of the columns W and the rows H, which are those of level b of a map: so of level b + k; a is the admission
+unfoldable pub workedAt : ℕ → ℕ → ℕ → Side → Side → ℕ → ℕ → ℕ → (ℕ → ℤ) → Tried
+workedAt a f b W H L k n x =
     pick (hasSet (sideAt k W) (sideAt k H) n)
-    (onto (behind (stretchAt f W k) x) (backOf f .work (eqb (suc k) L) (b + k) (sideAt k W) (sideAt k H) n (from (stretchAt f W k) x)))
+    (onto (behind (stretchAt f W k) x) (workBy a f (eqb (suc k) L) (b + k) (sideAt k W) (sideAt k H) n (from (stretchAt f W k) x)))
     (passed x)

@@ -19,7 +19,7 @@ ghost use Rattle.reader.specs.Answers.{ofWanted, ofFed, ofDrawn};
 ghost use Rattle.reader.specs.Last as last;
 ghost use Rattle.reader.specs.Last.{countsFit, storeQuestion, rowQuestion};
 
-// Question 1.
+// Question 1. Without a level nothing is rebuilt, so no such reader is tolerant.
 fn counts_fit(s: Reader) -> bool
     ensures { λ r. ⌜ r ≡ countsFit s ⌝ }
 {
@@ -56,7 +56,10 @@ fn counts_fit(s: Reader) -> bool
     if s.spare < s.width {
         return false;
     }
-    s.spare <= Reader::MAX_SPARE
+    if Reader::MAX_SPARE < s.spare {
+        return false;
+    }
+    s.admission == 0
 }
 
 // Questions 1, 5 and 9.
@@ -113,6 +116,7 @@ fn moved(s: Reader, drawn: usize, band: usize) -> Reader
         filter: s.filter,
         stop: s.stop,
         spare: s.spare,
+        admission: s.admission,
     }
 }
 

@@ -28,18 +28,20 @@ ghost use Rattle.filters.specs.Figures.{storeBy};
 ghost use Rattle.reader.specs.Store.{zeroed};
 ghost use Rattle.reader.specs.Inside.{Counts, Small, Due};
 ghost use Rattle.reader.specs.State.{columns, rows, needs, wants, movedTo, drawnReader, endedReader};
-ghost use Rattle.reader.specs.Questions.{setUpQuestion, stopQuestion, wantQuestion, feedQuestion, drawQuestion};
+ghost use Rattle.reader.specs.Questions.{setUpQuestion, stopQuestion, tolerantQuestion, wantQuestion, feedQuestion, drawQuestion};
 ghost use Rattle.reader.specs.Holds.{SetUpHolds, FeedKeeps, DrawKeeps};
 ghost use Rattle.reader.specs.Answers.{gives, ofSetUp, ofWanted, ofFed, ofDrawn};
 ghost use Rattle.reader.specs.Stops.{stopReply};
 ghost use Rattle.reader.specs.Reading as all;
-ghost use Rattle.reader.specs.Calls.{freshOver, setUpReply, setUpStore, wantReply, feedReply, feedStore, drawReply, drawStore, drawArea, heightRow};
+ghost use Rattle.reader.specs.Calls.{freshBy, setUpReply, tolerantReply, setUpStore, wantReply, feedReply, feedStore};
+ghost use Rattle.reader.specs.Calls.{drawReply, drawStore, drawArea, heightRow};
 
 // The counts of a reader; docs/STATE.md gives their ranges. Its map starts at (x, y). `drawn` height rows are drawn; rows of `level` are collected (0: a height
 // row can be drawn), and `band` is the code of the first band that may be next. They are rows of the set that is `back` before the last of its level that row
 // `drawn` needs. `filter` is the number of the filter, which says what each level does.
 // With a `stop` (document 02, Q-6; 0: none) it reads the low-low part of that level of a map: size, origin and levels are the low-low part's, a level is
 // counted from the stop, and `spare` are the numbers that the map's line store has beside its own. No levels: its rows are fed and drawn one after another.
+// `admission` says what becomes of a value outside its level's range: 0, it ends the reader (14); 1, it is limited to the range (document 02, Q-10).
 pub struct Reader {
     pub width: usize,
     pub height: usize,
@@ -54,6 +56,7 @@ pub struct Reader {
     pub filter: usize,
     pub stop: usize,
     pub spare: usize,
+    pub admission: usize,
 }
 
 pub enum SetUp {
@@ -163,11 +166,12 @@ impl Reader {
         }
         let n = filters::store_length(filter, map.width, x, map.levels);
         copies::clear(store, n);
-        SetUp::Ready(Reader::begun(filter, map.levels, x, map.width, y, map.height, 0, 0))
+        SetUp::Ready(Reader::begun(0, filter, map.levels, x, map.width, y, map.height, 0, 0))
     }
 
     // The fresh reader of these columns and rows at so many levels.
     fn begun(
+        admission: usize,
         filter: usize,
         levels: usize,
         x: usize,
@@ -178,7 +182,7 @@ impl Reader {
         spare: usize,
     ) -> Reader
         requires { ⌜ Small (side x width) (side y height) 0 × (levels ≤ maxLevels) ⌝ }
-        ensures { λ r. ⌜ r ≡ freshOver filter stop spare (side x width) (side y height) levels ⌝ }
+        ensures { λ r. ⌜ r ≡ freshBy admission filter stop spare (side x width) (side y height) levels ⌝ }
     {
         let p = walk::dive_from(filter, levels, 0, x, width, y, height, 0, 0);
         let s = Reader {
@@ -195,6 +199,7 @@ impl Reader {
             filter,
             stop,
             spare,
+            admission,
         };
         s.moved(0, p)
     }
@@ -227,6 +232,23 @@ impl Reader {
         let n = filters::store_length(filter, map.width, x, map.levels);
         copies::clear(store, n);
         SetUp::Ready(stops::reader_at(filter, map.levels, x, map.width, y, map.height, stop, n))
+    }
+
+    // A fresh tolerant reader, of the 5/3 from the origin on and without a stop: each value that it makes is limited to its level's range. The needed part of the
+    // line store is zeroed. The questions are 2, 3, 4 and 5.
+    pub fn set_up_tolerant(width: usize, height: usize, levels: usize, store: &mut [i32]) -> SetUp
+        ensures answer { λ r. ⌜ ofSetUp r ≡ tolerantReply width height levels (tolerantQuestion width height levels (length (now (store .entry)))) ⌝ }
+        ensures kept { λ _. ⌜ at (now (store .exit)) ≡
+            setUpStore 0 (side 0 width) levels (tolerantQuestion width height levels (length (now (store .entry)))) (at (now (store .entry))) ⌝ }
+        ensures meaning { λ r. ⌜ SetUpHolds (ofSetUp r) (at (now (store .exit))) ⌝ }
+    {
+        let q = questions::set_up_question(0, width, height, levels, 0, 0, store.len());
+        if q != 0 {
+            return SetUp::Refused(q);
+        }
+        let n = filters::store_length(0, width, 0, levels);
+        copies::clear(store, n);
+        SetUp::Ready(Reader::begun(1, 0, levels, 0, width, 0, height, 0, 0))
     }
 
     // The band row wanted, or Draw, Done or Ended. Question 1 is asked.
@@ -267,7 +289,18 @@ impl Reader {
                 at: l,
             });
         }
-        self.told(steps::next_from(self, l))
+        self.told(walk::next_up(
+            self.filter,
+            self.x,
+            self.width,
+            self.y,
+            self.height,
+            self.levels,
+            self.drawn,
+            self.level,
+            l,
+            self.band,
+        ))
     }
 
     // What is wanted, n being the row wanted if there is one.
@@ -314,6 +347,9 @@ impl Reader {
             (at (now (run .entry))) (at (now (store .entry))) ⌝ }
         ensures meaning { λ r. ⌜ FeedKeeps self (at (now (run .entry))) (at (now (store .entry))) (ofFed r) (at (now (store .exit))) ⌝ }
     {
+        if !questions::counts_fit(self) {
+            return Fed::Refused(1);
+        }
         let q = questions::store_question(self, store.len());
         if q != 0 {
             return Fed::Refused(q);
@@ -359,6 +395,9 @@ impl Reader {
             (at (now (store .entry))) (heightsAt (now (out .entry))) ⌝ }
         ensures meaning { λ r. ⌜ DrawKeeps self (at (now (store .entry))) (ofDrawn r) (at (now (store .exit))) (heightsAt (now (out .exit))) ⌝ }
     {
+        if !questions::counts_fit(self) {
+            return Drawn::Refused(1);
+        }
         let q = questions::store_question(self, store.len());
         if q != 0 {
             return Drawn::Refused(q);
@@ -421,6 +460,7 @@ impl Reader {
             filter: self.filter,
             stop: self.stop,
             spare: self.spare,
+            admission: self.admission,
         }
     }
 
@@ -452,6 +492,7 @@ impl Reader {
             filter: self.filter,
             stop: self.stop,
             spare: self.spare,
+            admission: self.admission,
         }
     }
 }

@@ -12,7 +12,7 @@ ghost use Rattle.lifting.specs.Grid.{side};
 ghost use Rattle.filters.specs.Filters.{filterOf};
 ghost use Rattle.filters.specs.Figures.{storeBy};
 ghost use Rattle.reader.specs.State.{columns, needs, drawDue};
-ghost use Rattle.reader.specs.Questions.{countsInside, countsFit, stopFits, storeFits, runFits, setUpQuestion, sizeQuestion, stopQuestion};
+ghost use Rattle.reader.specs.Questions.{countsInside, countsFit, stopFits, admissionFits, storeFits, runFits, setUpQuestion, sizeQuestion, stopQuestion};
 ghost use Rattle.reader.specs.Inside.{Counts, Due, storeQuestion, rowQuestion};
 
 // Question 1 of a reader with levels to work out: is every count inside its range? Its sizes, origin and place,
@@ -49,14 +49,46 @@ fn counts_inside(s: Reader) -> bool
     s.back <= 2 * filters::look_ahead(s.filter) - 1
 }
 
-// and its stop.
+// its stop, and its admission. Most readers have no stop, and then nothing is spare.
 pub fn counts_fit(s: Reader) -> bool
     ensures { λ r. ⌜ r ≡ countsFit s ⌝ }
 {
     if !counts_inside(s) {
         return false;
     }
+    if s.stop == 0 {
+        if s.spare != 0 {
+            return false;
+        }
+        return admission_fits(s);
+    }
+    if s.admission != 0 {
+        return false;
+    }
     stop_fits(s.filter, s.levels, s.stop, s.spare)
+}
+
+// An admission of a reader without a stop: a tolerant one has no origin and no other filter, and never ends. A strict one may have any.
+fn admission_fits(s: Reader) -> bool
+    requires { ⌜ s .stop ≡ 0 ⌝ }
+    ensures { λ r. ⌜ r ≡ admissionFits s ⌝ }
+{
+    if s.admission == 0 {
+        return true;
+    }
+    if s.admission != 1 {
+        return false;
+    }
+    if s.ended {
+        return false;
+    }
+    if s.x != 0 {
+        return false;
+    }
+    if s.y != 0 {
+        return false;
+    }
+    s.filter == 0
 }
 
 // A stop: the levels up to it and those to work out are the filter's, and a level left out has no more columns than the widest map.
@@ -177,13 +209,11 @@ fn store_fits(s: Reader, length: usize) -> bool
     own_fits(s, length - s.spare)
 }
 
-// Questions 1, 5 and 9 of a feed or a draw.
+// Questions 5 and 9 of a feed or a draw, after question 1. Each call asks that one itself: the two together are too long to be put into both calls.
 pub fn store_question(s: Reader, length: usize) -> u8
+    requires { ⌜ Counts s ⌝ }
     ensures { λ r. ⌜ r ≡ storeQuestion s length ⌝ }
 {
-    if !counts_fit(s) {
-        return 1;
-    }
     if !store_fits(s, length) {
         return 5;
     }

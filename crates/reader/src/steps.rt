@@ -47,26 +47,7 @@ pub fn own_band(s: Reader, l: Level) -> usize
     )
 }
 
-// The row wanted, from it on; level 0: there is none.
-pub fn next_from(s: Reader, l: Level) -> Next
-    requires { ⌜ Counts s × (0 < s .level) × Collected s l ⌝ }
-    ensures { λ n. ⌜ Due s n ⌝ }
-{
-    walk::next_up(
-        s.filter,
-        s.x,
-        s.width,
-        s.y,
-        s.height,
-        s.levels,
-        s.drawn,
-        s.level,
-        l,
-        s.band,
-    )
-}
-
-// The row wanted; level 0: there is none.
+// The row wanted; level 0: there is none. The rare walk takes numbers, not the reader, which would be laid into memory in every call for it.
 pub fn next_of(s: Reader) -> Next
     requires { ⌜ Counts s ⌝ }
     ensures { λ n. ⌜ Due s n ⌝ }
@@ -86,7 +67,18 @@ pub fn next_of(s: Reader) -> Next
             at: l,
         };
     }
-    next_from(s, l)
+    walk::next_up(
+        s.filter,
+        s.x,
+        s.width,
+        s.y,
+        s.height,
+        s.levels,
+        s.drawn,
+        s.level,
+        l,
+        s.band,
+    )
 }
 
 // The length of the row wanted, and its number.
@@ -134,6 +126,7 @@ pub fn settle(s: Reader, store: &mut [i32], to: usize) -> bool
         return true;
     }
     walk::settle(
+        s.admission,
         s.filter,
         s.stop,
         s.x,
@@ -159,6 +152,7 @@ pub fn settle_all(s: Reader, store: &mut [i32]) -> bool
         return true;
     }
     walk::settle(
+        s.admission,
         s.filter,
         s.stop,
         s.x,
@@ -202,6 +196,7 @@ pub fn feed_row(s: Reader, store: &mut [i32], n: Next, complete: bool, run: &[i3
         return true;
     }
     walk::work_at(
+        s.admission,
         s.filter,
         s.stop,
         s.x,

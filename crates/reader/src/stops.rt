@@ -64,6 +64,7 @@ fn last_at(
         filter,
         stop,
         spare,
+        admission: 0,
     }
 }
 
@@ -93,5 +94,5 @@ pub fn reader_at(
         return last_at(filter, across, w, down, h, stop, n);
     }
     let own = filters::store_length(filter, w, across, levels - stop);
-    Reader::begun(filter, levels - stop, across, w, down, h, stop, n - own)
+    Reader::begun(0, filter, levels - stop, across, w, down, h, stop, n - own)
 }

@@ -7,7 +7,7 @@ use synthesis::back;
 use wavelet::sizes;
 ghost use mathlib.Core.Path.{_≡_};
 ghost use mathlib.Core.Bool.{true, false};
-ghost use Prim.Native.Nat.{_+_, _-_, _<_, _≤_, _^_};
+ghost use Prim.Native.Nat.{_+_, _-_, _*_, _<_, _≤_, _^_};
 ghost use lib.ListN.{length};
 ghost use lib.Dec.{leb};
 ghost use Rattle.numbers.specs.Signal.{at, pick};
@@ -19,11 +19,12 @@ ghost use Rattle.wavelet.specs.Order.{firstSet};
 ghost use Rattle.wavelet.specs.Levels.{next, sideAt};
 ghost use Rattle.filters.specs.Filters.{filterOf};
 ghost use Rattle.filters.specs.Figures.{storeBy, streamable};
-ghost use Rattle.synthesis.specs.Back.{rowPlaceOf};
-ghost use Rattle.level.specs.Tried.{outcome};
+ghost use Rattle.synthesis.specs.Back.{rowPlaceOf, workableOf};
+ghost use Rattle.level.specs.Tried.{failed, outcome};
 ghost use Rattle.level.specs.Stretch.{rowOfSet, halfPlace};
 ghost use Rattle.level.specs.Rebuilding.{Kept};
 ghost use Rattle.reader_steps.specs.Asked.{named};
+ghost use Rattle.reader.specs.Admission.{workBy, Admits};
 ghost use Rattle.reader.specs.Store.{fedAt, workedAt, zeroed};
 ghost use Rattle.reader_steps.specs.Sets.{waiting};
 ghost use Rattle.reader_steps.specs.Places.{spot, bandAt, nextUp, dive};
@@ -252,9 +253,35 @@ pub fn put_row(
     copies::copy(run, &mut store[a..e]);
 }
 
+// A set worked out in its level's stretch by the admission: strictly, or with each value limited. Whether it went on.
+fn work_by(
+    stretch: &mut [i32],
+    admission: usize,
+    filter: usize,
+    last: bool,
+    k: usize,
+    w: usize,
+    h: usize,
+    x: usize,
+    y: usize,
+    n: usize,
+) -> bool
+    requires { ⌜ (0 < admission → (filter ≡ 0) × (x ≡ 0) × (y ≡ 0)) ⌝ }
+    ensures { λ ok. ⌜ outcome ok (at (now (stretch .exit))) ≡
+        pick (workableOf filter last k (side x w) (side y h) n (length (now (stretch .entry))))
+        (workBy admission filter last k (side x w) (side y h) n (at (now (stretch .entry)))) failed ⌝ }
+    ensures { λ _. ⌜ Kept (filterOf filter .rows * w) (at (now (stretch .entry))) (at (now (stretch .exit))) ⌝ }
+{
+    if admission != 0 {
+        return back::work_tolerant(stretch, last, k, w, h, n) == 0;
+    }
+    back::work_set(stretch, filter, last, k, w, h, x, y, n) == 0
+}
+
 // The set of l, level k + 1, worked out in the level's own stretch, if the level has it. Its rows are low-low values of level `base` + k of the map that the
 // reader stops in.
 pub fn work_at(
+    admission: usize,
     filter: usize,
     base: usize,
     x: usize,
@@ -269,9 +296,9 @@ pub fn work_at(
 ) -> bool
     requires { ⌜ Small (side x width) (side y height) drawn × (base + levels ≤ filterOf filter .levels) × (k < levels) ×
         IsLevel filter (side x width) (side y height) drawn k l ×
-        (storeBy filter (side x width) levels ≤ length (now store)) ⌝ }
+        (storeBy filter (side x width) levels ≤ length (now store)) × Admits admission filter base (side x width) (side y height) ⌝ }
     ensures { λ ok. ⌜ outcome ok (at (now (store .exit))) ≡
-        workedAt filter base (side x width) (side y height) levels k (l .set) (at (now (store .entry))) ⌝ }
+        workedAt admission filter base (side x width) (side y height) levels k (l .set) (at (now (store .entry))) ⌝ }
     ensures { λ _. ⌜ Kept (storeBy filter (side x width) levels) (at (now (store .entry))) (at (now (store .exit))) ⌝ }
 {
     let level = base + k;
@@ -279,8 +306,9 @@ pub fn work_at(
         return true;
     }
     let a = l.start;
-    back::work_set(
+    work_by(
         &mut store[a..],
+        admission,
         filter,
         k + 1 == levels,
         level,
@@ -290,11 +318,11 @@ pub fn work_at(
         l.y,
         l.set,
     )
-        == 0
 }
 
 // The sets of the levels from `from`, at the set of l, down to above `to`, the coarsest first.
 pub fn settle(
+    admission: usize,
     filter: usize,
     base: usize,
     x: usize,
@@ -310,9 +338,9 @@ pub fn settle(
 ) -> bool
     requires { ⌜ Small (side x width) (side y height) drawn × (base + levels ≤ filterOf filter .levels) × (from ≤ levels) ×
         (0 < from → IsLevel filter (side x width) (side y height) drawn (from - 1) l) ×
-        (storeBy filter (side x width) levels ≤ length (now store)) ⌝ }
+        (storeBy filter (side x width) levels ≤ length (now store)) × Admits admission filter base (side x width) (side y height) ⌝ }
     ensures { λ ok. ⌜ outcome ok (at (now (store .exit))) ≡
-        settled filter base (side x width) (side y height) levels to from (l .set) (at (now (store .entry))) ⌝ }
+        settled admission filter base (side x width) (side y height) levels to from (l .set) (at (now (store .entry))) ⌝ }
     ensures { λ _. ⌜ Kept (storeBy filter (side x width) levels) (at (now (store .entry))) (at (now (store .exit))) ⌝ }
 {
     let mut k = from;
@@ -320,6 +348,7 @@ pub fn settle(
     while to < k {
         k -= 1;
         if !work_at(
+            admission,
             filter,
             base,
             x,

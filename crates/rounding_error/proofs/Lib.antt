@@ -2,3 +2,9 @@ pub mod LevelApart
 pub mod LimitedWords
 pub mod Rounded
 pub mod RoundingError
+pub mod FromRows
+pub mod PlaneRows
+pub mod FedRounded
+pub mod PlayedRounded
+pub mod TolerantLists
+pub mod RoundedCalls

@@ -59,9 +59,9 @@ unfolding signal.windowed signal.spliced signal.stored word.wrap32 tests.every l
     places.spotFed places.enter sets.hasRow sets.rowOf sets.taking sets.needed sets.firstRow sets.makes sets.waiting sets.waitsAt back.backOf
     back.standsOf back.rowPlaceOf columns.rowBefore columns.rowAfter columns.rowByFour columns.alongOf columns.unupdatedOf columns.evenOf
     columns.oddOf work.ownEven work.pairOf work.evenDone work.pairMade work.firstMade work.pairBefore work.pairsMade work.lastMade work.restMade
-    work.mostMade work.rowsMade work.setMade work.setWorked calls.freshOver calls.setUpStore calls.feedReply calls.storeAfter calls.feedStore
+    work.mostMade work.rowsMade work.setMade work.setWorked calls.freshBy calls.setUpStore calls.feedReply calls.storeAfter calls.feedStore
     calls.drawReply calls.drawStore calls.heightRow calls.drawArea demand.event demand.next machine.settled machine.finished machine.fedOn
-    gate.countsFit gate.countsInside gate.stopFits gate.storeFits gate.runFits gate.feedQuestion gate.drawQuestion state.next state.nextRow state.nextLength
+    gate.countsFit gate.countsInside gate.stopFits gate.admissionFits gate.storeFits gate.runFits gate.feedQuestion gate.drawQuestion state.next state.nextRow state.nextLength
     state.unfinished
     state.rowDue state.drawDue state.wants state.settles state.feeds state.fedReader state.drawnReader state.endedReader store.stretchAt store.from
     store.behind store.zeroed store.fedAt store.hasSet store.workedAt outcome

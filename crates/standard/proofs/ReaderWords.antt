@@ -11,10 +11,10 @@ use Rattle.reader.specs.Demand3 as demand
 
 module _ (f : ℕ) (W H : Side) (L : ℕ) (P : Rows) where
   abbrev pub SetFits : ℕ → ℕ → Type 0
-  SetFits k n = rebuilt.SetFits f 0 W H P L k n
+  SetFits k n = rebuilt.SetFits 0 f 0 W H P L k n
 
   abbrev pub SetsFit : ℕ → ℕ → Type 0
-  SetsFit k n = rebuilt.SetsFit f 0 W H L P k n
+  SetsFit k n = rebuilt.SetsFit 0 f 0 W H L P k n
 
   abbrev pub FeedFits : RowName → List Step → Type 0
-  FeedFits x t = demand.FeedFits f 0 W H L P x t
+  FeedFits x t = demand.FeedFits 0 f 0 W H L P x t

@@ -60,6 +60,7 @@ reader-back r =
       filter = r .filter;
       stop = r .stop;
       spare = r .spare;
+      admission = r .admission;
     })
     (flag-back (r .ended))
 

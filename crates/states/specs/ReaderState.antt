@@ -8,7 +8,7 @@ use Rattle.reader.specs.declared.Reader.{Reader}
 use Rattle.states.specs.States.{flag, isState}
 
 abbrev pub isReader : List ℕ → Bool
-isReader s = isState 2 7 14 s
+isReader s = isState 2 7 15 s
 
 abbrev pub readerOf : List ℕ → Reader
 readerOf s =
@@ -26,6 +26,7 @@ readerOf s =
       filter = getD s 11 0;
       stop = getD s 12 0;
       spare = getD s 13 0;
+      admission = getD s 14 0;
     }
 
 -- what a feed or a draw that passes writes of the array: its reader is not ended, and the other words stand there already
@@ -35,4 +36,4 @@ movedWords r s = set (set (set (set (set s 4 (r .drawn)) 5 (r .level)) 6 (r .ban
 abbrev pub readerWords : Reader → List ℕ
 readerWords r =
     2 ∷ r .width ∷ r .height ∷ r .levels ∷ r .drawn ∷ r .level ∷ r .band ∷ flag (r .ended)
-    ∷ r .x ∷ r .y ∷ r .back ∷ r .filter ∷ r .stop ∷ r .spare ∷ 0 ∷ 0 ∷ []
+    ∷ r .x ∷ r .y ∷ r .back ∷ r .filter ∷ r .stop ∷ r .spare ∷ r .admission ∷ 0 ∷ []

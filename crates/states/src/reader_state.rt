@@ -19,7 +19,7 @@ pub fn is_reader(s: &[u64; 16]) -> bool
     if 1 < s[7] {
         return false;
     }
-    array::zero_from(s, 14)
+    array::zero_from(s, 15)
 }
 
 // The reader that the array holds.
@@ -40,6 +40,7 @@ pub fn unpack_reader(s: &[u64; 16]) -> Reader
         filter: s[11] as usize,
         stop: s[12] as usize,
         spare: s[13] as usize,
+        admission: s[14] as usize,
     }
 }
 
@@ -63,7 +64,7 @@ pub fn pack_reader(r: Reader, s: &mut [u64; 16])
         r.filter as u64,
         r.stop as u64,
         r.spare as u64,
-        0,
+        r.admission as u64,
         0,
     ];
 }

@@ -25,7 +25,6 @@ use Rattle.terrain.proofs.WordLaws.{spelt}
 -- the words of a reader that no feed and no draw changes
 record Fixed (s : List ℕ) : Type 0 where
   kind : getD s 0 0 ≡ 2
-  fourteen : getD s 14 0 ≡ 0
   fifteen : getD s 15 0 ≡ 0
 
 fixed : (s : List ℕ) → isReader s ≡ true → Fixed s
@@ -33,11 +32,9 @@ unfolding isState zeroFrom zeroNext
 fixed s h =
     let a = sweep.both (eqb (getD s 0 0) 2) _ h in
     let b = sweep.both (leb (getD s 7 0) 1) _ (a .1) in
-    let c₆ = sweep.both (eqb (getD s 14 0) 0) _ (b .1) in
-    let c₇ = sweep.both (eqb (getD s 15 0) 0) _ (c₆ .1) in
+    let c₇ = sweep.both (eqb (getD s 15 0) 0) _ (b .1) in
     record {
       kind = eqb-true _ _ (a .0);
-      fourteen = eqb-true _ _ (c₆ .0);
       fifteen = eqb-true _ _ (c₇ .0);
     }
 
@@ -51,13 +48,14 @@ record Stays (s t : Reader) : Type 0 where
   filter : t .filter ≡ s .filter
   stop : t .stop ≡ s .stop
   spare : t .spare ≡ s .spare
+  admission : t .admission ≡ s .admission
   ended : t .ended ≡ false
 
 words-moved : (s : List ℕ) → length s ≡ 16 → isReader s ≡ true → (t : Reader) → Stays (readerOf s) t → movedWords t s ≡ readerWords t
 words-moved s size is t e =
     let f = fixed s is in
     let g : flag (t .ended) ≡ 0 = ap flag (e .ended) in
-    ap (movedWords t) (spelt s size) ∙ cc (f .kind, e .width, e .height, e .levels, g, e .x, e .y, e .filter, e .stop, e .spare, f .fourteen, f .fifteen)
+    ap (movedWords t) (spelt s size) ∙ cc (f .kind, e .width, e .height, e .levels, g, e .x, e .y, e .filter, e .stop, e .spare, e .admission, f .fifteen)
 
 -- a call on a reader's array that gives something
 gave : {A : Type 0} (b : Bool) (r : Reply A) (a : A) → pick b r (refused 1) ≡ gives a → (b ≡ true) × (r ≡ gives a)
@@ -92,12 +90,12 @@ feed-stays s t q e = stays-by (s .levels) (last.feedReply s q) (levels.feedReply
     without : last.feedReply s q ≡ gives t → Stays s t
     without e =
         let g : last.movedTo s (s .drawn) 4 ≡ t = last-given (eqb q 0) (last.movedTo s (s .drawn) 4) t q e in
-        rw (← g) (record { width = refl; height = refl; levels = refl; x = refl; y = refl; filter = refl; stop = refl; spare = refl; ended = refl })
+        rw (← g) (record { width = refl; height = refl; levels = refl; x = refl; y = refl; filter = refl; stop = refl; spare = refl; admission = refl; ended = refl })
 
     with-levels : levels.feedReply s q ≡ gives t → Stays s t
     with-levels e =
         let g : fedReader s ≡ t = given (eqb q 0) (eqb q 14) (fedReader s) t (endedReader s) q e in
-        rw (← g) (record { width = refl; height = refl; levels = refl; x = refl; y = refl; filter = refl; stop = refl; spare = refl; ended = refl })
+        rw (← g) (record { width = refl; height = refl; levels = refl; x = refl; y = refl; filter = refl; stop = refl; spare = refl; admission = refl; ended = refl })
 
 row-is : (b : Bool) (n m : ℕ) (r t : Reader) → pick b (aRow n r) nothing ≡ aRow m t → r ≡ t
 row-is true n m r t e = cc
@@ -112,13 +110,13 @@ draw-stays s t n q e = handed-by (s .levels) n (last.drawReply s q) (levels.draw
         let to = last.movedTo s (suc (s .drawn)) 0 in
         let g = last-given (eqb q 0) (pick (last.drawDue s) (aRow (s .width) to) nothing) (aRow n t) q e in
         let h : to ≡ t = row-is (last.drawDue s) (s .width) n to t g in
-        rw (← h) (record { width = refl; height = refl; levels = refl; x = refl; y = refl; filter = refl; stop = refl; spare = refl; ended = refl })
+        rw (← h) (record { width = refl; height = refl; levels = refl; x = refl; y = refl; filter = refl; stop = refl; spare = refl; admission = refl; ended = refl })
 
     with-levels : levels.drawReply s q ≡ gives (aRow n t) → Stays s t
     with-levels e =
         let g = given (eqb q 0) (eqb q 14) (pick (drawDue s) (aRow (s .width) (drawnReader s)) nothing) (aRow n t) (endedReader s) q e in
         let h : drawnReader s ≡ t = row-is (drawDue s) (s .width) n (drawnReader s) t g in
-        rw (← h) (record { width = refl; height = refl; levels = refl; x = refl; y = refl; filter = refl; stop = refl; spare = refl; ended = refl })
+        rw (← h) (record { width = refl; height = refl; levels = refl; x = refl; y = refl; filter = refl; stop = refl; spare = refl; admission = refl; ended = refl })
 
 -- r is what the call answered
 module _ (s : List ℕ) (size : length s ≡ 16) (n : ℕ) (x : ℕ → ℤ) where

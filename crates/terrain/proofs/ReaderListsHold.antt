@@ -98,7 +98,7 @@ module _ (w : World) where
           unfold arrayAfter after.storeAfter next in rw (reader-is (w .reader), reader-back (w .reader))
           (ap (memories (drawStore (w .reader) (rattle.drawAsked w n a) (w .store))) (drawn-left (w .reader) (draws n a)))
 
-  shows-told : (d : CCall) → shows (mine d) (holding w) ≡ tell d (event (d .call) w)
+  pub shows-told : (d : CCall) → shows (mine d) (holding w) ≡ tell d (event (d .call) w)
   unfolding shows
   shows-told d = seen-told (d .call) (d .want) (d .drawn)
 

@@ -9,7 +9,8 @@ use Rattle.reader.specs.Answers.{Reply, gives, refused, impossible, Want, row, 
 use Rattle.reader.specs.Reading.{wantQuestion, feedQuestion, drawQuestion, wantReply, feedReply, feedStore, drawReply, drawStore, drawArea}
 use Rattle.lifting.specs.Grid.{Side}
 use Rattle.calls.specs.Lists as lists
-use Rattle.reader.specs.Questions.{stopQuestion, levelQuestion}
+use Rattle.reader.specs.Questions.{stopQuestion, tolerantQuestion, levelQuestion}
+use Rattle.reader.specs.Calls.{tolerantReply}
 use Rattle.reader.specs.Stops.{stopReply, sizeReply}
 use Rattle.states.specs.ReaderState.{isReader, readerOf, readerWords}
 
@@ -22,6 +23,10 @@ stateOf (impossible r) s = readerWords r
 -- ---- the set-up with a stop j, on a store of n numbers (Q-6)
 abbrev pub stopping : ℕ → Side → Side → ℕ → ℕ → ℕ → Reply Reader
 stopping f W H L j n = stopReply f W H L j (stopQuestion f W H L j n)
+
+-- ---- the set-up of a tolerant reader, on a store of n numbers (Q-10)
+abbrev pub tolerating : ℕ → ℕ → ℕ → ℕ → Reply Reader
+tolerating w h L n = tolerantReply w h L (tolerantQuestion w h L n)
 
 -- ---- the size of level k; the out-parameters held z
 abbrev pub sizing : ℕ → Side → Side → ℕ → ℕ → lists.Reply (ℕ × ℕ)

@@ -10,12 +10,13 @@ ghost use mathlib.Core.Path.{_≡_};
 ghost use lib.ListN.{length};
 ghost use Rattle.numbers.specs.Signal.{at};
 ghost use Rattle.areas.specs.Areas.{heightsAt};
+ghost use Rattle.lifting.specs.Grid.{side};
 ghost use Rattle.wavelet.specs.Shape.{columns, rows};
-ghost use Rattle.reader.specs.Questions.{setUpQuestion, stopQuestion};
+ghost use Rattle.reader.specs.Questions.{setUpQuestion, stopQuestion, tolerantQuestion};
 ghost use Rattle.reader.specs.Answers.{number};
 ghost use Rattle.reader.specs.Calls.{setUpReply, setUpStore};
 ghost use Rattle.states.specs.ReaderAnswers.{countOf};
-ghost use Rattle.terrain.specs.ReaderCalls.{stateOf, stopping, sizing, sizeNumber, columnsOf, rowsOf, wanting};
+ghost use Rattle.terrain.specs.ReaderCalls.{stateOf, stopping, tolerating, sizing, sizeNumber, columnsOf, rowsOf, wanting};
 ghost use Rattle.terrain.specs.ReaderCalls.{wantOf, feeding, feedingStore, drawing, drawingStore, drawingArea, stateDrawn};
 
 // A fresh reader. The questions are 2, 3, 18, 4 and 5.
@@ -62,6 +63,29 @@ pub extern "C" fn terrain_reader_set_up_at(
         (stopQuestion (shape .filter) (columns shape) (rows shape) (shape .levels) stop (length (now (store .entry)))) (at (now (store .entry))) ⌝ }
 {
     match Reader::set_up_at(shape, stop, store) {
+        SetUp::Ready(r) => {
+            reader_state::pack_reader(r, state);
+            0
+        }
+        SetUp::Refused(no) => no as u32,
+    }
+}
+
+// A fresh tolerant reader. The questions are 2, 3, 4 and 5.
+#[no_mangle]
+pub extern "C" fn terrain_tolerant_set_up(
+    state: &mut [u64; 16],
+    width: usize,
+    height: usize,
+    levels: usize,
+    store: &mut [i32],
+) -> u32
+    ensures { λ r. ⌜ r ≡ number (tolerating width height levels (length (now (store .entry)))) ⌝ }
+    ensures { λ _. ⌜ now (state .exit) ≡ stateOf (tolerating width height levels (length (now (store .entry)))) (now (state .entry)) ⌝ }
+    ensures { λ _. ⌜ at (now (store .exit)) ≡
+        setUpStore 0 (side 0 width) levels (tolerantQuestion width height levels (length (now (store .entry)))) (at (now (store .entry))) ⌝ }
+{
+    match Reader::set_up_tolerant(width, height, levels, store) {
         SetUp::Ready(r) => {
             reader_state::pack_reader(r, state);
             0

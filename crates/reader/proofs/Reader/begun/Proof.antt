@@ -1,5 +1,4 @@
 -- `reader::Reader::begun` meets its contract: the place where row 0 begins. Assumes nothing.
-use mathlib.Core.Path.{refl}
 use mathlib.Core.Bool.{false}
 use Prim.Native.Nat.{_-_}
 use native.Mathlib.Omega.{arith}
@@ -38,6 +37,7 @@ returns c =
       filter = a .filter;
       stop = a .stop;
       spare = a .spare;
+      admission = a .admission;
     } in
     fresh-at s _ (dive .dive-from .result) (enter-is _ _ _ _ 0 _ (dive .dive-from .ensures)) (c .moved .ensures)
 

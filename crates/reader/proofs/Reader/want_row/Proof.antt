@@ -2,7 +2,8 @@
 use mathlib.Core.Path.{_∙_, sym, refl}
 use native.Mathlib.Omega.{arith}
 use borrow.Author.Tests.{not-true, not-false}
-use Rattle.reader.proofs.QuestionLaws.{counts-in}
+use Rattle.reader.proofs.QuestionLaws.{counts-in, counts-small}
+use Rattle.reader.proofs.StepLaws.{next-at}
 use Rattle.reader.specs.State.{columns, rows, next}
 use Rattle.reader.proofs.WalkLaws.{up-next}
 use Rattle.reader.proofs.CallLaws.{want-no, want-yes, wants-ended, wants-done, wants-top}
@@ -61,16 +62,19 @@ returns-5 c =
     let fit = c .before .before .before .before .before .before .before .before .before in
     c .told .ensures ∙ want-yes _ _ (sym (fit .before .counts-fit .ensures) ∙ not-false _ (fit .if1 .left)) refl
 
-next-from-requires : tie.Need-next-from-requires
-next-from-requires c κs =
+next-up-requires : tie.Need-next-up-requires
+next-up-requires c κs =
     let level = c .before .before in
     let fit = level .before .before .before .before .before .before in
-    (counts-in _ (sym (fit .before .counts-fit .ensures) ∙ not-false _ (fit .if1 .left)), omega arith, level .own-level .ensures)
+    let s = fit .before .before .args .self in
+    let counts = counts-in s (sym (fit .before .counts-fit .ensures) ∙ not-false _ (fit .if1 .left)) in
+    (counts-small s counts, omega arith, omega (arith, counts .at, counts .few), level .own-level .ensures .0)
 
 told-requires-2 : tie.Need-told-requires-2
 told-requires-2 c κs =
-    let live = c .before .before .before .before .before .before .before .before in (
-      c .next-from .ensures,
+    let level = c .before .before .before in
+    let live = level .before .before .before .before .before in (
+      next-at (live .before .before .before .args .self) _ _ (level .own-level .ensures .1) (c .next-up .ensures),
       live .if2 .left,
       omega arith,
       counts-in _ (sym (live .before .before .counts-fit .ensures) ∙ not-false _ (live .before .if1 .left)),
@@ -94,6 +98,6 @@ want-row-spec =
     own-band-requires
     told-requires
     returns-5
-    next-from-requires
+    next-up-requires
     told-requires-2
     returns-6)

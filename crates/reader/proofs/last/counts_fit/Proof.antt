@@ -154,7 +154,27 @@ returns-11 c =
 returns-12 : tie.Need-returns-12
 unfolding maxWidth maxHeight maxOrigin maxSpare
 returns-12 c =
-    let K = c .before in
+    let K = c .before .before in
+    let J = K .before .before in
+    let I = J .before .before in
+    let H = I .before .before in
+    let G = H .before .before in
+    let F = G .before .before in
+    let E = F .before .before in
+    let D = E .before .before in
+    let C = D .before .before in
+    let B = C .before .before in
+    let A = B .before .before .before in
+    laws.last-11 _ (sym (A .before .is-filter .ensures) ∙ not-false _ (A .if1 .left))
+    (levels-asked _ _ _ _ _ (B .before .before .most-levels .ensures) (B .before .is-within .ensures) (not-false _ (B .if2 .left)))
+    (le-leb _ maxWidth (C .if3 .left)) (le-leb _ maxHeight (D .if4 .left)) (le-leb _ maxOrigin (E .if5 .left)) (le-leb _ maxOrigin (F .if6 .left))
+    (le-leb _ _ (G .if7 .left)) (eq-eqb _ 0 (H .if8 .left)) (le-leb _ 4 (I .if9 .left)) (eq-eqb _ 0 (J .if10 .left)) (le-leb _ _ (K .if11 .left)) (lt-leb _ _ (c .if12 .taken))
+
+returns-13 : tie.Need-returns-13
+unfolding maxWidth maxHeight maxOrigin maxSpare
+returns-13 c =
+    let L = c .before in
+    let K = L .before .before in
     let J = K .before .before in
     let I = J .before .before in
     let H = I .before .before in
@@ -168,7 +188,7 @@ returns-12 c =
     laws.last-all _ (sym (A .before .is-filter .ensures) ∙ not-false _ (A .if1 .left))
     (levels-asked _ _ _ _ _ (B .before .before .most-levels .ensures) (B .before .is-within .ensures) (not-false _ (B .if2 .left)))
     (le-leb _ maxWidth (C .if3 .left)) (le-leb _ maxHeight (D .if4 .left)) (le-leb _ maxOrigin (E .if5 .left)) (le-leb _ maxOrigin (F .if6 .left))
-    (le-leb _ _ (G .if7 .left)) (eq-eqb _ 0 (H .if8 .left)) (le-leb _ 4 (I .if9 .left)) (eq-eqb _ 0 (J .if10 .left)) (le-leb _ _ (K .if11 .left))
+    (le-leb _ _ (G .if7 .left)) (eq-eqb _ 0 (H .if8 .left)) (le-leb _ 4 (I .if9 .left)) (eq-eqb _ 0 (J .if10 .left)) (le-leb _ _ (K .if11 .left)) (le-leb _ _ (L .if12 .left))
 
 pub counts-fit-spec : {M : Type 1} → statement M
 counts-fit-spec =
@@ -188,4 +208,5 @@ counts-fit-spec =
     returns-9
     returns-10
     returns-11
-    returns-12)
+    returns-12
+    returns-13)

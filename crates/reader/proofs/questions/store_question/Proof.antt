@@ -1,39 +1,21 @@
 -- `reader::questions::store_question` meets its contract: the definition's tests, in its order. Assumes nothing.
 use mathlib.Core.Path.{_∙_, sym}
 use borrow.Author.Tests.{not-true, not-false}
-use Rattle.reader.proofs.QuestionLaws.{counts-in, store-1, store-5, store-9, store-0}
+use Rattle.reader.proofs.QuestionLaws.{store-5, store-9, store-0}
 use Rattle.reader.proofs.questions.store_question.Statement.{statement}
 use Rattle.reader.proofs.questions.store_question.Tie as tie
 
-counts-fit-requires : tie.Need-counts-fit-requires
-counts-fit-requires c κs = tt
+store-fits-requires : tie.Need-store-fits-requires
+store-fits-requires c κs = c .pre
 
 returns : tie.Need-returns
-returns c = store-1 _ _ (sym (c .before .counts-fit .ensures) ∙ not-true _ (c .if1 .taken))
-
-store-fits-requires : tie.Need-store-fits-requires
-store-fits-requires c κs = counts-in _ (sym (c .before .counts-fit .ensures) ∙ not-false _ (c .if1 .left))
+returns c = store-5 _ _ (sym (c .before .store-fits .ensures) ∙ not-true _ (c .if1 .taken))
 
 returns-2 : tie.Need-returns-2
-returns-2 c =
-    let a = c .before .before in
-    store-5 _ _ (sym (a .before .counts-fit .ensures) ∙ not-false _ (a .if1 .left)) (sym (c .before .store-fits .ensures) ∙ not-true _ (c .if2 .taken))
+returns-2 c = let b = c .before in store-9 _ _ (sym (b .before .store-fits .ensures) ∙ not-false _ (b .if1 .left)) (c .if2 .taken)
 
 returns-3 : tie.Need-returns-3
-returns-3 c =
-    let b = c .before in
-    let a = b .before .before in
-    store-9 _ _ (sym (a .before .counts-fit .ensures) ∙ not-false _ (a .if1 .left)) (sym (b .before .store-fits .ensures) ∙ not-false _ (b .if2 .left))
-    (c .if3 .taken)
-
-returns-4 : tie.Need-returns-4
-returns-4 c =
-    let b = c .before in
-    let a = b .before .before in
-    store-0 _ _ (sym (a .before .counts-fit .ensures) ∙ not-false _ (a .if1 .left)) (sym (b .before .store-fits .ensures) ∙ not-false _ (b .if2 .left))
-    (c .if3 .left)
+returns-3 c = let b = c .before in store-0 _ _ (sym (b .before .store-fits .ensures) ∙ not-false _ (b .if1 .left)) (c .if2 .left)
 
 pub store-question-spec : {M : Type 1} → statement M
-store-question-spec =
-    tie.close
-    (tie.spec counts-fit-requires returns store-fits-requires returns-2 returns-3 returns-4)
+store-question-spec = tie.close (tie.spec store-fits-requires returns returns-2 returns-3)

@@ -2,7 +2,6 @@
 use mathlib.Core.Path.{_∙_, sym}
 use Prim.Native.Nat.{_-_}
 use native.Mathlib.Nat.{le-refl}
-use lib.Dec.{eqb}
 use lib.ListN.{length}
 use borrow.Author.Tests.{not-true, not-false}
 use borrow.Rule.Slice.PartMut.{same-len-mid}
@@ -10,6 +9,7 @@ use Rattle.lifting.specs.Grid.{side}
 use Rattle.level.proofs.KeptLaws.{kept-none}
 use Rattle.reader.proofs.PartLaws.{level-in, work-none, work-places, work-done}
 use Rattle.reader.proofs.KeptLaws.{part-kept}
+use Rattle.reader.proofs.TolerantGoes.{start-zero}
 use Rattle.reader.proofs.walk.work_at.Statement.{statement}
 use Rattle.reader.proofs.walk.work_at.Tie as tie
 
@@ -17,7 +17,7 @@ add-level : tie.Need-add-level
 add-level c =
     let a = c .args in
     let p = c .pre in
-    work-places (a .filter) (a .base) (side (a .x) (a .width)) (side (a .y) (a .height)) (a .levels) (a .drawn) (a .k) (a .l) (a .store .now) (p .3)
+    work-places (a .admission) (a .filter) (a .base) (side (a .x) (a .width)) (side (a .y) (a .height)) (a .levels) (a .drawn) (a .k) (a .l) (a .store .now) (p .3)
     (p .0 .0, p .0 .2) (p .1) (p .2) (p .4) .3
 
 is-there-requires : tie.Need-is-there-requires
@@ -29,54 +29,62 @@ returns c =
     let start = asked .before in
     let a = start .args in
     let none = sym (asked .is-there .ensures (a .l .x)) ∙ not-true _ (c .if1 .taken) in (
-      work-none (a .filter) (a .base) (side (a .x) (a .width)) (side (a .y) (a .height)) (a .levels) (a .drawn) (a .k) (a .l) _ (start .pre .3) none,
+      work-none (a .admission) (a .filter) (a .base) (side (a .x) (a .width)) (side (a .y) (a .height)) (a .levels) (a .drawn) (a .k) (a .l) _ (start .pre .3) none,
       kept-none
           _ _,
     )
 
-mul-work-set : tie.Need-mul-work-set
-mul-work-set c =
+mul-work-by : tie.Need-mul-work-by
+mul-work-by c =
     let start = c .before .before in
     let a = start .args in
     let p = start .pre in
-    work-places (a .filter) (a .base) (side (a .x) (a .width)) (side (a .y) (a .height)) (a .levels) (a .drawn) (a .k) (a .l) (a .store .now) (p .3)
+    work-places (a .admission) (a .filter) (a .base) (side (a .x) (a .width)) (side (a .y) (a .height)) (a .levels) (a .drawn) (a .k) (a .l) (a .store .now) (p .3)
     (p .0 .0, p .0 .2) (p .1) (p .2) (p .4) .0
 
-sub-work-set : tie.Need-sub-work-set
-sub-work-set c =
+sub-work-by : tie.Need-sub-work-by
+sub-work-by c =
     let start = c .before .before in
     let a = start .args in
     let p = start .pre in
-    work-places (a .filter) (a .base) (side (a .x) (a .width)) (side (a .y) (a .height)) (a .levels) (a .drawn) (a .k) (a .l) (a .store .now) (p .3)
+    work-places (a .admission) (a .filter) (a .base) (side (a .x) (a .width)) (side (a .y) (a .height)) (a .levels) (a .drawn) (a .k) (a .l) (a .store .now) (p .3)
     (p .0 .0, p .0 .2) (p .1) (p .2) (p .4) .1
 
-part-work-set-start : tie.Need-part-work-set-start
-part-work-set-start c =
+part-work-by-start : tie.Need-part-work-by-start
+part-work-by-start c =
     let start = c .before .before in
     let a = start .args in
     let p = start .pre in
-    work-places (a .filter) (a .base) (side (a .x) (a .width)) (side (a .y) (a .height)) (a .levels) (a .drawn) (a .k) (a .l) (a .store .now) (p .3)
+    work-places (a .admission) (a .filter) (a .base) (side (a .x) (a .width)) (side (a .y) (a .height)) (a .levels) (a .drawn) (a .k) (a .l) (a .store .now) (p .3)
     (p .0 .0, p .0 .2) (p .1) (p .2) (p .4) .1
 
-part-work-set-end : tie.Need-part-work-set-end
-part-work-set-end c = le-refl (length (c .before .before .args .store .now))
+part-work-by-end : tie.Need-part-work-by-end
+part-work-by-end c = le-refl (length (c .before .before .args .store .now))
 
-add-work-set : tie.Need-add-work-set
-add-work-set c =
+add-work-by : tie.Need-add-work-by
+add-work-by c =
     let start = c .before .before .before in
     let a = start .args in
     let p = start .pre in
-    work-places (a .filter) (a .base) (side (a .x) (a .width)) (side (a .y) (a .height)) (a .levels) (a .drawn) (a .k) (a .l) (a .store .now) (p .3)
+    work-places (a .admission) (a .filter) (a .base) (side (a .x) (a .width)) (side (a .y) (a .height)) (a .levels) (a .drawn) (a .k) (a .l) (a .store .now) (p .3)
     (p .0 .0, p .0 .2) (p .1) (p .2) (p .4) .2
 
-work-set-requires : tie.Need-work-set-requires
-work-set-requires c κs = tt
+work-by-requires : tie.Need-work-by-requires
+work-by-requires c κs more =
+    let start = c .before .before .before in
+    let a = start .args in
+    let p = start .pre in
+    let is = p .5 more in (
+      is .1,
+      p .3 .x ∙ start-zero (a .k) (side (a .x) (a .width)) (is .3),
+      p .3 .y ∙ start-zero (a .k) (side (a .y) (a .height)) (is .4),
+    )
 
 same-length : tie.Need-same-length
 same-length c =
     let call = c .before in
     let a = call .before .before .before .before .args in
-    same-len-mid (a .l .start) (length (a .store .now) - a .l .start) (a .store .now) (call .work-set .last .0) (call .work-set .kept .0)
+    same-len-mid (a .l .start) (length (a .store .now) - a .l .start) (a .store .now) (call .work-by .last .0) (call .work-by .kept .0)
 
 returns-2 : tie.Need-returns-2
 returns-2 c =
@@ -90,10 +98,10 @@ returns-2 c =
     let W = side (a .x) (a .width) in
     let H = side (a .y) (a .height) in
     let there = sym (on .before .is-there .ensures (l .x)) ∙ not-false _ (on .if1 .left) in (
-      work-done (a .filter) (a .base) W H (a .levels) (a .drawn) (a .k) l s (p .3) (p .0 .0, p .0 .2) (p .1) (p .2) (p .4) (call .work-set .last .0)
-          (eqb (call .work-set .result) 0) there (call .work-set .kept .0) (call .work-set .ensures .1 .0),
-      part-kept (a .filter) W H (a .drawn) (a .k) (a .levels) l (p .3) s (call .work-set .last .0) (p .2) (p .4) (call .work-set .kept .0)
-          (call .work-set .ensures .1 .1 .0),
+      work-done (a .admission) (a .filter) (a .base) W H (a .levels) (a .drawn) (a .k) l s (p .3) (p .0 .0, p .0 .2) (p .1) (p .2) (p .4) (call .work-by .last .0)
+          (call .work-by .result) there (call .work-by .kept .0) (call .work-by .ensures .0),
+      part-kept (a .filter) W H (a .drawn) (a .k) (a .levels) l (p .3) s (call .work-by .last .0) (p .2) (p .4) (call .work-by .kept .0)
+          (call .work-by .ensures .1),
     )
 
 pub work-at-spec : {M : Type 1} → statement M
@@ -103,11 +111,11 @@ work-at-spec =
     add-level
     is-there-requires
     returns
-    mul-work-set
-    sub-work-set
-    part-work-set-start
-    part-work-set-end
-    add-work-set
-    work-set-requires
+    mul-work-by
+    sub-work-by
+    part-work-by-start
+    part-work-by-end
+    add-work-by
+    work-by-requires
     same-length
     returns-2)

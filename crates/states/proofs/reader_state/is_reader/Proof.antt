@@ -9,13 +9,13 @@ element-copy-out-if1 : tie.Need-element-copy-out-if1
 element-copy-out-if1 c = search needs
 
 returns : tie.Need-returns
-returns c = sym (no-kind 2 7 14 (c .before .before .args .s .now) (c .if1 .taken))
+returns c = sym (no-kind 2 7 15 (c .before .before .args .s .now) (c .if1 .taken))
 
 element-copy-out-if2 : tie.Need-element-copy-out-if2
 element-copy-out-if2 c = search needs
 
 returns-2 : tie.Need-returns-2
-returns-2 c = sym (no-flag 2 7 14 (c .before .before .before .before .args .s .now) (c .before .before .if1 .left) (c .if2 .taken))
+returns-2 c = sym (no-flag 2 7 15 (c .before .before .before .before .args .s .now) (c .before .before .if1 .left) (c .if2 .taken))
 
 zero-from-requires : tie.Need-zero-from-requires
 zero-from-requires c κs = tt
@@ -23,7 +23,7 @@ zero-from-requires c κs = tt
 returns-3 : tie.Need-returns-3
 returns-3 c =
     c .zero-from .ensures
-    ∙ sym (rest-left 2 7 14 (c .before .before .before .before .before .args .s .now) (c .before .before .before .if1 .left) (c .before .if2 .left))
+    ∙ sym (rest-left 2 7 15 (c .before .before .before .before .before .args .s .now) (c .before .before .before .if1 .left) (c .before .if2 .left))
 
 pub is-reader-spec : {M : Type 1} → statement M
 is-reader-spec =
