@@ -40,10 +40,10 @@ use Rattle.demand_1.proofs.WordLaws.{front-zeroed, kept, kept-but, on-p
 
 -- ---- an answer without 14
 module _ {A : Type 0} (q : ℕ) (a : A) where
-  abbrev plain : Reply A
+  abbrev pub plain : Reply A
   plain = pick (eqb q 0) (gives a) (refused q)
 
-  plain-number : number plain ≡ q
+  pub plain-number : number plain ≡ q
   plain-number = go (eqb q 0) refl
     where
       go : (t : Bool) → eqb q 0 ≡ t → number (pick t (gives a) (refused q)) ≡ q
@@ -51,7 +51,7 @@ module _ {A : Type 0} (q : ℕ) (a : A) where
       go false e = refl
 
   -- what it leaves of something that held z: F, by the cases of the answer; a refused one leaves z
-  plain-kept : {B : Type 0} (F : Reply A → B) (z : B) → ((q : ℕ) → F (refused q) ≡ z) → Kept (number plain) z (F plain)
+  pub plain-kept : {B : Type 0} (F : Reply A → B) (z : B) → ((q : ℕ) → F (refused q) ≡ z) → Kept (number plain) z (F plain)
   plain-kept F z away h = go (eqb q 0) h
     where
       go : (t : Bool) → (number (pick t (gives a) (refused q)) ≡ 0 → ⊥) → F (pick t (gives a) (refused q)) ≡ z
@@ -117,7 +117,7 @@ module _ {A B : Type 0} (t : Bool) (r : Reply A) (q : ℕ) (n : number r ≡ q) 
       go false h = refl
 
 -- ---- the calls
-zeroed-own : (f : ℕ) (W : Side) (L : ℕ) (x : Memory) → Zeroed (needed f W L) x (zeroed (storeBy f W L) x)
+pub zeroed-own : (f : ℕ) (W : Side) (L : ℕ) (x : Memory) → Zeroed (needed f W L) x (zeroed (storeBy f W L) x)
 unfolding zeroed
 zeroed-own f W L x = rw (needed-is f W L) (front-zeroed (needed f W L) x)
 

@@ -15,3 +15,4 @@ pub mod Demand3
 pub mod Past
 pub mod Played
 pub mod Plain
+pub mod StopAsks

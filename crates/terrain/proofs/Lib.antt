@@ -5,4 +5,5 @@ pub mod MovedWords
 pub mod WriterListsHold
 pub mod TurnsListsHold
 pub mod ReaderListsHold
+pub mod StopListsHold
 pub mod RoundTripsHold

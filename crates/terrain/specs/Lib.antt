@@ -3,6 +3,7 @@ pub mod WriterCalls
 pub mod WriterLists
 pub mod ReaderCalls
 pub mod ReaderLists
+pub mod StopLists
 pub mod Version
 pub mod TurnsCalls
 pub mod TurnsLists
