@@ -2,4 +2,4 @@ pub mod Projection
 pub mod Fed
 pub mod Standing
 pub mod Stopping
-pub mod Kinds
+pub mod SideBySide

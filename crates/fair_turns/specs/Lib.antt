@@ -4,4 +4,4 @@ pub mod Together
 pub mod FedInTurn
 pub mod Standing
 pub mod Stopping
-pub mod Kinds
+pub mod SideBySide

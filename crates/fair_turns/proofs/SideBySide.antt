@@ -18,7 +18,7 @@ use Rattle.fair_turns.specs.Reading.{Reading, ReadingLaws}
 use Rattle.fair_turns.specs.Together as together
 use Rattle.fair_turns.specs.FedInTurn.{moments, InTurn, FedInOrder}
 use Rattle.fair_turns.specs.Stopping.{stopping}
-use Rattle.fair_turns.specs.Kinds.{Kind, whole, stopped, stoppedBy, readingOf, IsSetUp}
+use Rattle.fair_turns.specs.SideBySide.{Kind, whole, stopped, stoppedBy, readingOf, IsSetUp}
 use Rattle.fair_turns.proofs.Fed.{fed-in-turn}
 use Rattle.fair_turns.proofs.Standing.{standing-laws}
 use Rattle.fair_turns.proofs.Stopping.{stopping-laws, handing-laws}
