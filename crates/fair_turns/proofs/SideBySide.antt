@@ -1,5 +1,5 @@
--- Fed at its turns the row it wants, a reader of a whole map or one with a stop (Q-6) gets the first band rows of its own list of steps, whatever the others do,
--- and whatever kinds they are: `readers-in-turn`. Assumes nothing.
+-- Fed at its turns the row it wants, a reader of a whole map or one with a stop (Q-6) gets the first band rows of its own list of steps, whatever the others
+-- do and whatever kinds they are: `readers-in-turn`. Assumes nothing.
 use mathlib.Core.Path.{_≡_, refl}
 use mathlib.Core.Bool.{Bool, true, false}
 use mathlib.Core.List.{List, []}

@@ -1,5 +1,5 @@
--- After a set-up with a stop that answered 0, a list of C calls shows and leaves what the list of Rattle's calls does, and what Q-6 asks holds of it, with levels
--- to work out and with none: `reader-c-stop`. Assumes nothing.
+-- After a set-up with a stop that answered 0, a list of C calls shows and leaves what the list of Rattle's calls does, and what Q-6 asks holds of it, with
+-- levels to work out and with none: `reader-c-stop`. Assumes nothing.
 use mathlib.Core.Bool.{Bool, true, false}
 use mathlib.Core.Path.{_≡_, refl}
 use mathlib.Core.List.{List}
