@@ -3,3 +3,4 @@ pub mod Fed
 pub mod Standing
 pub mod Stopping
 pub mod Tolerant
+pub mod SideBySide

@@ -5,3 +5,4 @@ pub mod FedInTurn
 pub mod Standing
 pub mod Stopping
 pub mod Tolerant
+pub mod SideBySide

@@ -11,6 +11,7 @@ pub mod EnterLaws
 pub mod StepLaws
 pub mod QuestionLaws
 pub mod SetUpPasses
+pub mod StopPasses
 pub mod Holds
 pub mod CallLaws
 pub mod CallViews

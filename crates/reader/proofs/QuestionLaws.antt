@@ -26,7 +26,7 @@ use Rattle.reader.specs.declared.Reader.{Reader}
 use Rattle.reader.specs.State.{columns, rows, needs, next, nextLength, unfinished, rowDue, drawDue}
 use Rattle.reader.specs.Admission.{Admits}
 use Rattle.reader.specs.Questions.{countsInside, countsFit, tolerantFits, admissionFits, stopFits, storeFits, runFits}
-use Rattle.reader.specs.Questions.{setUpQuestion, tolerantQuestion, sizeQuestion, stopQuestion, levelQuestion}
+use Rattle.reader.specs.Questions.{setUpQuestion, tolerantQuestion, sizeQuestion, stopAndStore, stopQuestion, levelQuestion}
 use Rattle.reader_steps.specs.Sets.{ahead}
 use Rattle.reader.specs.Inside.{Counts, Small, storeQuestion, rowQuestion}
 
@@ -400,6 +400,13 @@ module _ (f w h L : ℕ) where
       size-0 k b = rw (one, two, k, b)
 
 -- ---- a set-up with a stop j
+both-asked : (a b : Bool) → stopAndStore a b ≡ 0 → (a ≡ true) × (b ≡ true)
+unfolding stopAndStore
+both-asked true true e = (refl, refl)
+both-asked true false e = absurd (omega arith)
+both-asked false true e = absurd (omega arith)
+both-asked false false e = absurd (omega arith)
+
 module _ (f : ℕ) (W H : Side) (L j n : ℕ) where
   abbrev stopAsks : List (Bool × ℕ)
   stopAsks = (within 1 maxWidth (W .length), 1) ∷ (within 1 maxHeight (H .length), 2) ∷ (isFilter f, 17) ∷ (within 1 (filterOf f .levels) L, 3) ∷ []
@@ -409,7 +416,7 @@ module _ (f : ℕ) (W H : Side) (L j n : ℕ) where
   stop-sizes q e away = e ∙ asks-no stopAsks _ (λ z. away (e ∙ z))
 
   module _ (sizes : sizeQuestion f (W .length) (H .length) L ≡ 0) where
-    rest-is : ask (within 1 L j) 17 (ask (storeFits (storeBy f W L) n) 5 0) ≡ stopQuestion f W H L j n
+    rest-is : stopAndStore (within 1 L j) (storeFits (storeBy f W L) n) ≡ stopQuestion f W H L j n
     unfolding sizeQuestion stopQuestion
     rest-is = asks-yes stopAsks _ sizes
 
@@ -422,20 +429,11 @@ module _ (f : ℕ) (W H : Side) (L j n : ℕ) where
         let k = asked-yes (isFilter f) 17 _ (b .1) in
         (a .0, b .0, k .0, asked-yes (within 1 (filterOf f .levels) L) 3 _ (k .1) .0)
 
-    pub stop-17 : within 1 L j ≡ false → 17 ≡ stopQuestion f W H L j n
-    stop-17 h = (rw h) ∙ rest-is
-
-    module _ (stops : within 1 L j ≡ true) where
-      stop-length : (m : ℕ) → m ≡ asked f W L → m ≡ storeBy f W L
-      stop-length m e = e ∙ length-is f W L (size-in .2) (size-in .0) (size-in .3)
-
-      pub stop-5 : (m : ℕ) → m ≡ asked f W L → n < m → 5 ≡ stopQuestion f W H L j n
-      unfolding storeFits
-      stop-5 m e h = (rw (stops, lt-leb (storeBy f W L) n (omega (arith, stop-length m e)))) ∙ rest-is
-
-      pub stop-0 : (m : ℕ) → m ≡ asked f W L → m ≤ n → 0 ≡ stopQuestion f W H L j n
-      unfolding storeFits
-      stop-0 m e h = (rw (stops, le-leb (storeBy f W L) n (omega (arith, stop-length m e)))) ∙ rest-is
+    -- m is the length that the code asks for
+    pub stop-rest : (t : Bool) (m : ℕ) → t ≡ within 1 L j → m ≡ asked f W L → stopAndStore t (leb m n) ≡ stopQuestion f W H L j n
+    unfolding storeFits
+    stop-rest t m et em =
+        ap₂ (λ (i : Bool) (k : ℕ). stopAndStore i (leb k n)) et (em ∙ length-is f W L (size-in .2) (size-in .0) (size-in .3)) ∙ rest-is
 
   -- one that passes
   pub stop-in : stopQuestion f W H L j n ≡ 0 →
@@ -447,9 +445,8 @@ module _ (f : ℕ) (W H : Side) (L j n : ℕ) where
       let b = asked-yes (within 1 maxHeight (H .length)) 2 _ (a .1) in
       let k = asked-yes (isFilter f) 17 _ (b .1) in
       let c = asked-yes (within 1 (filterOf f .levels) L) 3 _ (k .1) in
-      let i = asked-yes (within 1 L j) 16 _ (c .1) in
-      let d = asked-yes (leb (storeBy f W L) n) 4 _ (i .1) in
-      (a .0, b .0, k .0, c .0, i .0, leb-true _ _ (d .0))
+      let d = both-asked (within 1 L j) (leb (storeBy f W L) n) (c .1) in
+      (a .0, b .0, k .0, c .0, d .0, leb-true _ _ (d .1))
 
 -- ---- the size of a level
 module _ (f w h L k : ℕ) where

@@ -17,3 +17,4 @@ pub mod Past
 pub mod Played
 pub mod Plain
 pub mod Tolerant
+pub mod StopAsks

@@ -89,16 +89,17 @@ sizeQuestion f w h L =
     (ask (within 1 (filterOf f .levels) L) 4
     0)))
 
--- with a stop j: "Refused: 17, after 4, if j is not 1 to L." (Q-6)
+-- with a stop j: "Refused: 17, after 4, if j is not 1 to L." (Q-6) Is it such a level (a)? Is the store long enough (b)?
+unfoldable pub stopAndStore : Bool → Bool → ℕ
+stopAndStore a b = ask a 17 (ask b 5 0)
+
 unfoldable pub stopQuestion : ℕ → Side → Side → ℕ → ℕ → ℕ → ℕ
 stopQuestion f W H L j n =
     ask (within 1 maxWidth (W .length)) 2
     (ask (within 1 maxHeight (H .length)) 3
     (ask (isFilter f) 18
     (ask (within 1 (filterOf f .levels) L) 4
-    (ask (within 1 L j) 17
-    (ask (storeFits (storeBy f W L) n) 5
-    0)))))
+    (stopAndStore (within 1 L j) (storeFits (storeBy f W L) n)))))
 
 -- the size of level k
 unfoldable pub levelQuestion : ℕ → ℕ → ℕ → ℕ → ℕ → ℕ

@@ -9,6 +9,7 @@ ghost use Prim.Native.Nat.{_≤_};
 ghost use lib.ListN.{length};
 ghost use Rattle.numbers.specs.Signal.{at};
 ghost use Rattle.lifting.specs.Grid.{side};
+ghost use Rattle.wavelet.specs.Questions.{ask};
 ghost use Rattle.filters.specs.Filters.{filterOf};
 ghost use Rattle.filters.specs.Figures.{storeBy};
 ghost use Rattle.reader.specs.State.{columns, needs, drawDue};
@@ -149,11 +150,20 @@ pub fn stop_question(
     if q != 0 {
         return q;
     }
-    if !limits::is_within(stop, levels) {
-        return 17;
+    let inside = limits::is_within(stop, levels);
+    let long = filters::store_length(filter, width, x, levels) <= length;
+    first_no(inside, 17, long, 5)
+}
+
+// The number of the first of two questions that says no; 0 if none does.
+fn first_no(a: bool, p: u8, b: bool, q: u8) -> u8
+    ensures { λ r. ⌜ r ≡ ask a p (ask b q 0) ⌝ }
+{
+    if !a {
+        return p;
     }
-    if length < filters::store_length(filter, width, x, levels) {
-        return 5;
+    if !b {
+        return q;
     }
     0
 }

@@ -6,4 +6,5 @@ pub mod WriterListsHold
 pub mod TurnsListsHold
 pub mod ReaderListsHold
 pub mod TolerantListsHold
+pub mod StopListsHold
 pub mod RoundTripsHold

@@ -20,7 +20,7 @@ use Rattle.reader.specs.Last as last
 use Rattle.reader.specs.Reading.{by, countsFit, wantQuestion, feedQuestion, drawQuestion, wantReply, feedReply, feedStore, drawReply, drawStore, drawArea}
 use Rattle.reader.specs.Calls as reader
 use Rattle.reader.specs.Calls.{setUpReply, setUpStore, storeAfter}
-use Rattle.reader.specs.Demand3.{Call, World, event, next, events, final, freshWorld}
+use Rattle.reader.specs.Demand3.{Call, Event, World, event, next, events, final, freshWorld, Demand3}
 use Rattle.reader.specs.Demand3 as rattle
 use Rattle.reader.proofs.Demand3.{demand-3}
 use Rattle.terrain.specs.Memories.{Memories}
@@ -29,7 +29,7 @@ use Rattle.states.specs.ReaderAnswers.{countOf}
 use Rattle.terrain.specs.ReaderCalls as c
 use Rattle.terrain.specs.ReaderLists as after
 use Rattle.terrain.specs.ReaderLists.{CCall, holdsReader, Stray, wanted, fed, drew, strayed, seenOf, arrayAfter, shows, leaves, seenAll, leavesAll}
-use Rattle.terrain.specs.ReaderLists.{setUpAsked, setUp, told, tell, turned, say, toldAll, holding, calls, OfCalls}
+use Rattle.terrain.specs.ReaderLists.{setUpAsked, setUp, told, tell, turned, say, toldAll, holding, calls, AfterSetUp, OfCalls}
 use Rattle.states.proofs.StateTheorems.{reader-back, reader-is}
 use Rattle.terrain.proofs.CallLaws.{pick-off}
 
@@ -197,18 +197,32 @@ reader-lists =
 pub reader-left : (ds : List (Mixed CCall Stray)) (w : World) → leavesAll ds (holding w) ≡ holding (final (calls ds) w)
 reader-left = told-final event next shows leaves (λ d. d .call) holding (λ d w. leaves-next w d) stray-stays
 
--- ---- a set-up that answered 0 passed, and what it leaves is the fresh reader
+-- ---- after any set-up that left the reader and the store of w
+pub after-holds : (start : Memories) (w : World) (Claim : List Event → (Call → Event) → Type 0) (ds : List (Mixed CCall Stray)) → start ≡ holding w →
+    Claim (events (calls ds) w) (λ k. event k (final (calls ds) w)) → AfterSetUp start w Claim ds
+after-holds start w Claim ds fresh claim =
+    let left = ap (leavesAll ds) fresh ∙ reader-left ds w in
+    record {
+      set-up = fresh;
+      shown = ap (seenAll ds) fresh ∙ reader-lists ds w;
+      claim = claim;
+      next = λ d. ap (shows (mine d)) left ∙ shows-told (final (calls ds) w) d;
+      left = left;
+    }
+
+-- ---- one that answered 0 passed, s being the fresh reader,
+pub answered-0 : (q : ℕ) (s : Reader) → number (pick (eqb q 0) (gives s) (refused q)) ≡ 0 → q ≡ 0
+answered-0 q s = by-test (eqb q 0) refl
+  where
+    by-test : (t : Bool) → eqb q 0 ≡ t → number (pick t (gives s) (refused q)) ≡ 0 → q ≡ 0
+    by-test true z e = eqb-true q 0 z
+    by-test false z e = e
+
+-- and what it leaves is that reader
 module _ (f : ℕ) (W H : Side) (L n : ℕ) where
   pub passed : setUpAsked f W H L n ≡ 0 → setUpQuestion f W H L n ≡ 0
   unfolding setUpReply
-  passed = go (setUpQuestion f W H L n)
-    where
-      go : (q : ℕ) → number (pick (eqb q 0) (gives (reader.fresh f W H L)) (refused q)) ≡ 0 → q ≡ 0
-      go q = by (eqb q 0) refl
-        where
-          by : (t : Bool) → eqb q 0 ≡ t → number (pick t (gives (reader.fresh f W H L)) (refused q)) ≡ 0 → q ≡ 0
-          by true z e = eqb-true q 0 z
-          by false z e = e
+  passed = answered-0 (setUpQuestion f W H L n) (reader.fresh f W H L)
 
   pub set-up-fresh : (m : Memories) → setUpAsked f W H L n ≡ 0 → setUp f W H L n m ≡ holding (freshWorld f 0 0 W H L (m .store))
   set-up-fresh m e = let z = passed e in unfold setUpReply setUpStore in rw z refl
@@ -216,13 +230,5 @@ module _ (f : ℕ) (W H : Side) (L n : ℕ) where
   pub reader-c : W .start ≤ maxOrigin → H .start ≤ maxOrigin → setUpAsked f W H L n ≡ 0 → (m : Memories) (ds : List (Mixed CCall Stray)) →
       OfCalls f W H L n m ds
   reader-c across down e m ds =
-      let w = freshWorld f 0 0 W H L (m .store) in
-      let fresh = set-up-fresh m e in
-      let left = ap (leavesAll ds) fresh ∙ reader-left ds w in
-      record {
-        set-up = fresh;
-        shown = ap (seenAll ds) fresh ∙ reader-lists ds w;
-        claim = demand-3 f W H L n across down (passed e) (m .store) (calls ds) .claim;
-        next = λ d. ap (shows (mine d)) left ∙ shows-told (final (calls ds) w) d;
-        left = left;
-      }
+      after-holds (setUp f W H L n m) (freshWorld f 0 0 W H L (m .store)) (Demand3 f 0 0 W H L) ds (set-up-fresh m e)
+      (demand-3 f W H L n across down (passed e) (m .store) (calls ds) .claim)

@@ -4,6 +4,7 @@ pub mod WriterLists
 pub mod ReaderCalls
 pub mod ReaderLists
 pub mod TolerantLists
+pub mod StopLists
 pub mod Version
 pub mod TurnsCalls
 pub mod TurnsLists

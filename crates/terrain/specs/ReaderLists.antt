@@ -120,7 +120,19 @@ holding w = record { state = readerWords (w .reader); store = w .store }
 abbrev pub calls : List (Mixed CCall Stray) → List Call
 calls = lists.calls (λ d. d .call)
 
--- ---- any C calls ds after a set-up that answered 0, of the filter f, the columns W, the rows H and L levels, on a store of n numbers
+-- ---- any C calls ds after a set-up that left `start`, of the reader and the store of w, of whose lists of calls Claim holds
+pub record AfterSetUp (start : Memories) (w : World) (Claim : List Event → (Call → Event) → Type 0) (ds : List (Mixed CCall Stray)) : Type 0 where
+  -- the set-up leaves the fresh reader of the lists of Claim and its store
+  pub set-up : start ≡ holding w
+  -- what is seen of the calls is what is seen of Rattle's, so told, and the claim holds of these
+  pub shown : seenAll ds start ≡ toldAll ds (events (calls ds) w)
+  pub claim : Claim (events (calls ds) w) (λ k. event k (final (calls ds) w))
+  -- a further call shows what Rattle's would
+  pub next : (d : CCall) → shows (mine d) (leavesAll ds start) ≡ tell d (event (d .call) (final (calls ds) w))
+  -- array and store are the reader's and its store's
+  pub left : leavesAll ds start ≡ holding (final (calls ds) w)
+
+-- a set-up that answered 0, of the filter f, the columns W, the rows H and L levels, on a store of n numbers: demand 3
 module _ (f : ℕ) (W H : Side) (L n : ℕ) (m : Memories) (ds : List (Mixed CCall Stray)) where
   -- the fresh reader, and the array and the store after the calls
   abbrev pub fresh : World
@@ -129,13 +141,5 @@ module _ (f : ℕ) (W H : Side) (L n : ℕ) (m : Memories) (ds : List (Mixed CCa
   abbrev pub then : Memories
   then = leavesAll ds (setUp f W H L n m)
 
-  pub record OfCalls : Type 0 where
-    -- the set-up leaves the fresh reader of the lists of demand 3 and its store
-    pub set-up : setUp f W H L n m ≡ holding fresh
-    -- what is seen of the calls is what is seen of Rattle's, so told, and demand 3 holds of these
-    pub shown : seenAll ds (setUp f W H L n m) ≡ toldAll ds (events (calls ds) fresh)
-    pub claim : Demand3 f 0 0 W H L (events (calls ds) fresh) (λ k. event k (final (calls ds) fresh))
-    -- a further call shows what Rattle's would
-    pub next : (d : CCall) → shows (mine d) then ≡ tell d (event (d .call) (final (calls ds) fresh))
-    -- array and store are the reader's and its store's
-    pub left : then ≡ holding (final (calls ds) fresh)
+  abbrev pub OfCalls : Type 0
+  OfCalls = AfterSetUp (setUp f W H L n m) fresh (Demand3 f 0 0 W H L) ds
