@@ -436,9 +436,6 @@ module _ {z u t : List ℕ} {s : Kept} (room : maxPictureWidth ≤ length z) (re
   pub moves-owed : (e : Bool) → t ++ owed e (s .state) (s .row) [] ≡ dueOf e u
   moves-owed e = owed-on e [] ∙ ap (dueOf e) (append-nil u)
 
-  pub moves-due : busyOn s ≡ 0 → t ≡ dueOf false u
-  moves-due k = sym (append-nil t) ∙ ap (λ l. t ++ l) (sym (idle-owed (s .state) (s .row) k)) ∙ moves-owed false
-
   pub moves-prefix : (r : List ℕ) × (t ++ r ≡ dueOf false u)
   moves-prefix = (owed false (s .state) (s .row) [], moves-owed false)
 
