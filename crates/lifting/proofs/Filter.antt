@@ -21,13 +21,6 @@ abbrev pub many : Half → Half → ℕ → ℕ
 many lo h N = count h N
 many hi h N = count (other h) N
 
-pub place-in : (first h : Half) (N n : ℕ) → n < many first h N → place first h n < N
-unfolding count
-place-in lo lo N n p = omega arith
-place-in lo hi N n p = omega arith
-place-in hi lo N n p = omega arith
-place-in hi hi N n p = omega arith
-
 pub in-place : (first h : Half) (N n : ℕ) → place first h n < N → n < many first h N
 unfolding count
 in-place lo lo N n p = omega arith

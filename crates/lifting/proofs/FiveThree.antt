@@ -64,10 +64,6 @@ module _ {keep : ℤ → ℤ} (K : Keeping keep) (S : Side) where
   pub forward-good : (x : ℕ → ℤ) → ((i : ℕ) → i < S .length → Good (x i)) → (h : Half) (n : ℕ) → n < count h S → Good (lineForward keep S x h n)
   forward-good = two.forward-good five-three K S
 
-  pub halves-good : (c : Half → ℕ → ℤ) → ((h : Half) (n : ℕ) → n < count h S → Good (c h n)) → (h : Half) (n : ℕ) → n < count h S
-      → Good (lineHalvesBack keep S c h n)
-  halves-good = two.halves-good five-three K S
-
   pub back-good : (c : Half → ℕ → ℤ) → ((h : Half) (n : ℕ) → n < count h S → Good (c h n)) → (i : ℕ) → i < S .length → Good (lineBack keep S c i)
   unfolding lineBack
   back-good = two.back-good five-three K S

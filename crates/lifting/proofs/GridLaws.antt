@@ -117,10 +117,6 @@ module _ (S : Side) where
   unfolding joined
   joined-place p h n = ap₂ p (half-place h n) (number h n)
 
-  pub parted-joined : (p : Half → ℕ → ℤ) (h : Half) (n : ℕ) → parted S (joined S p) h n ≡ p h n
-  unfolding parted
-  parted-joined = joined-place
-
   pub joined-parted : (x : ℕ → ℤ) (i : ℕ) → joined S (parted S x) i ≡ x i
   unfolding parted
   joined-parted x = by-place (λ i. joined S (parted S x) i ≡ x i) (joined-place (parted S x))

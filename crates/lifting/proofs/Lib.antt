@@ -18,7 +18,6 @@ pub mod LineTheorems
 pub mod RangeLaws
 pub mod RowLaws
 pub mod RowSweep
-pub mod LineLaws
 pub mod PassLaws
 pub mod GridThereAndBack
 pub mod ThereAndBack

@@ -2,14 +2,14 @@
 -- `keep` is what is stored of a sum: `wrap32` in the calls, `whole` in T.800's own arithmetic; a law with any `keep` holds for both. `SFits w32 z` says that z
 -- is a 32-bit number.
 -- Proved by the lines on the grid at a start of 0, or by working out the mirror. Assumes nothing.
-use Prim.Native.Nat.{ℕ, zero, suc, _+_, _-_, _*_, _^_, min, _≤_, _<_}
-use mathlib.Core.Path.{_≡_, refl, sym, ap, ap₂, _∙_}
+use Prim.Native.Nat.{ℕ, zero, suc, _+_, _-_, _*_, _^_, _≤_, _<_}
+use mathlib.Core.Path.{_≡_, sym, _∙_}
 use native.Mathlib.Omega.{arith}
 use lib.IntN.{ℤ, natAbs}
 use mir.Syntax.{w32}
 use mir.Val.{SFits}
 use Rattle.numbers.specs.Word.{wrap32, whole}
-use Rattle.lifting.specs.Line.{predicted, updated, unpredicted, unupdated, high, low, backEven, backOdd, Half, lo, hi, count, lineForward, lineHalvesBack}
+use Rattle.lifting.specs.Line.{predicted, updated, unpredicted, unupdated, high, low, backEven, Half, lo, hi, count, lineForward, lineHalvesBack}
 use Rattle.lifting.specs.Line.{lineBack}
 use Rattle.lifting.specs.Grid as grid
 use Rattle.lifting.specs.Grid.{side}
@@ -33,9 +33,6 @@ module _ {keep : ℤ → ℤ} (K : Keeping keep) (N : ℕ) where
   open Keeping K using (Good)
 
   module _ (x : ℕ → ℤ) (good : (i : ℕ) → i < N → Good (x i)) where
-    pub forward-good : (h : Half) (n : ℕ) → n < count h N → Good (lineForward keep N x h n)
-    forward-good h n b = rw (← forward-zero keep N x h n b) (fivethree.forward-good K (side 0 N) x good h n (counts-in N h n b))
-
     pub line-back-forward : (i : ℕ) → i < N → lineBack keep N (lineForward keep N x) i ≡ x i
     line-back-forward i b =
         sym (back-zero keep N (lineForward keep N x) i b)
@@ -44,9 +41,6 @@ module _ {keep : ℤ → ℤ} (K : Keeping keep) (N : ℕ) where
         ∙ fivethree.line-back-forward K (side 0 N) x good (λ e. absurd (never-lone N e)) i b
 
   module _ (c : Half → ℕ → ℤ) (good : (h : Half) (n : ℕ) → n < count h N → Good (c h n)) where
-    pub back-good : (i : ℕ) → i < N → Good (lineBack keep N c i)
-    back-good i b = rw (← back-zero keep N c i b) (fivethree.back-good K (side 0 N) c (λ h n p. good h n (counted N h n p)) i b)
-
     pub line-forward-back : (h : Half) (n : ℕ) → n < count h N → lineForward keep N (lineBack keep N c) h n ≡ c h n
     line-forward-back h n b =
         sym (forward-zero keep N (lineBack keep N c) h n b)
@@ -59,16 +53,9 @@ module _ (N : ℕ) (x : ℕ → ℤ) (fits : (i : ℕ) → i < N → SFits w32 (
   pub back-forward : (i : ℕ) → i < N → lineBack wrap32 N (lineForward wrap32 N x) i ≡ x i
   back-forward = line-back-forward words N x fits
 
-  -- what is stored is a 32-bit number
-  pub forward-fits : (h : Half) (n : ℕ) → n < count h N → SFits w32 (lineForward wrap32 N x h n)
-  forward-fits = forward-good words N x fits
-
 module _ (N : ℕ) (c : Half → ℕ → ℤ) (fits : (h : Half) (n : ℕ) → n < count h N → SFits w32 (c h n)) where
   pub forward-back : (h : Half) (n : ℕ) → n < count h N → lineForward wrap32 N (lineBack wrap32 N c) h n ≡ c h n
   forward-back = line-forward-back words N c fits
-
-  pub back-fits : (i : ℕ) → i < N → SFits w32 (lineBack wrap32 N c i)
-  back-fits = back-good words N c fits
 
 -- ---- the inverse in whole numbers, for every line
 pub whole-back-forward : (N : ℕ) (x : ℕ → ℤ) (i : ℕ) → i < N → lineBack whole N (lineForward whole N x) i ≡ x i
@@ -78,69 +65,8 @@ pub whole-forward-back : (N : ℕ) (c : Half → ℕ → ℤ) (h : Half) (n : �
 whole-forward-back N c = line-forward-back wholes N c (λ _ _ _. tt)
 
 -- ---- the formulas with the mirror worked out, as a program meets them: in the line, and at its end
-module _ (keep : ℤ → ℤ) (N : ℕ) (x : ℕ → ℤ) (n : ℕ) where
-  high-by : (k : ℕ) → n < count hi N → 2 * min (n + 1) (count lo N - 1) ≡ k → lineForward keep N x hi n ≡ predicted keep (x (2 * n + 1)) (x (2 * n)) (x k)
-  unfolding lineForward
-  high-by k b e = high-near keep N x n b ∙ ap (λ (i : ℕ). predicted keep (x (2 * n + 1)) (x (2 * n)) (x i)) e
-
-  low-by : (k : ℕ) → 1 < N → n < count lo N → min n (count hi N - 1) ≡ k
-      → lineForward keep N x lo n ≡ updated keep (x (2 * n)) (lineForward keep N x hi (n - 1)) (lineForward keep N x hi k)
-  unfolding lineForward
-  low-by k l b e = low-near keep N x n l b ∙ ap (λ (i : ℕ). updated keep (x (2 * n)) (high keep N x (n - 1)) (high keep N x i)) e
-
-  pub high-mid : 2 * n + 2 < N → lineForward keep N x hi n ≡ predicted keep (x (2 * n + 1)) (x (2 * n)) (x (2 * n + 2))
-  unfolding count
-  high-mid l = high-by (2 * n + 2) (omega arith) (omega arith)
-
-  pub high-end : N ≡ 2 * n + 2 → lineForward keep N x hi n ≡ predicted keep (x (2 * n + 1)) (x (2 * n)) (x (2 * n))
-  unfolding count
-  high-end e = high-by (2 * n) (omega arith) (omega arith)
-
-  -- d(−1) is d(0), and so is d(n − 1) at n = 0
-  pub low-mid : 2 * n + 1 < N → lineForward keep N x lo n ≡ updated keep (x (2 * n)) (lineForward keep N x hi (n - 1)) (lineForward keep N x hi n)
-  unfolding count
-  low-mid l = low-by n (omega arith) (omega arith) (omega arith)
-
-  pub low-end : 0 < n → N ≡ 2 * n + 1 → lineForward keep N x lo n ≡ updated keep (x (2 * n)) (lineForward keep N x hi (n - 1)) (lineForward keep N x hi (n - 1))
-  unfolding count
-  low-end l e = low-by (n - 1) (omega arith) (omega arith) (omega arith)
-
-pub low-one : (keep : ℤ → ℤ) (x : ℕ → ℤ) → lineForward keep 1 x lo 0 ≡ x 0
-unfolding lineForward low
-low-one keep x = refl
 
 -- the way back
-module _ (keep : ℤ → ℤ) (N : ℕ) (c : Half → ℕ → ℤ) (n : ℕ) where
-  even-is : lineBack keep N c (2 * n) ≡ backEven keep N (c lo) (c hi) n
-  unfolding lineBack lineHalvesBack
-  even-is = joined-place (lineHalvesBack keep N c) lo n
-
-  odd-is : lineBack keep N c (2 * n + 1) ≡ backOdd keep N (c lo) (c hi) n
-  unfolding lineBack lineHalvesBack
-  odd-is = joined-place (lineHalvesBack keep N c) hi n
-
-  even-by : (k : ℕ) → 1 < N → n < count lo N → min n (count hi N - 1) ≡ k → lineBack keep N c (2 * n) ≡ unupdated keep (c lo n) (c hi (n - 1)) (c hi k)
-  even-by k l b e =
-      even-is
-      ∙ even-near keep N (c lo) (c hi) n l b
-      ∙ ap (λ (i : ℕ). unupdated keep (c lo n) (c hi (n - 1)) (c hi i)) e
-
-  pub even-end : 0 < n → N ≡ 2 * n + 1 → lineBack keep N c (2 * n) ≡ unupdated keep (c lo n) (c hi (n - 1)) (c hi (n - 1))
-  unfolding count
-  even-end l e = even-by (n - 1) (omega arith) (omega arith) (omega arith)
-
-pub even-one : (keep : ℤ → ℤ) (c : Half → ℕ → ℤ) → lineBack keep 1 c 0 ≡ c lo 0
-unfolding backEven
-even-one keep c = even-is keep 1 c 0
-
-module _ (keep : ℤ → ℤ) (N : ℕ) (c : Half → ℕ → ℤ) (n : ℕ) where
-  odd-by : (k : ℕ) → n < count hi N → 2 * min (n + 1) (count lo N - 1) ≡ k
-      → lineBack keep N c (2 * n + 1) ≡ unpredicted keep (c hi n) (lineBack keep N c (2 * n)) (lineBack keep N c k)
-  odd-by k b e =
-      odd-is keep N c n
-      ∙ odd-near keep N (c lo) (c hi) n b
-      ∙ sym (ap₂ (unpredicted keep (c hi n)) (even-is keep N c n)
-      (ap (lineBack keep N c) (sym e) ∙ even-is keep N c (min (n + 1) (count lo N - 1))))
 
 ap₃ : (f : ℤ → ℤ → ℤ → ℤ) {x y a a′ b b′ : ℤ} → x ≡ y → a ≡ a′ → b ≡ b′ → f x a b ≡ f y a′ b′
 ap₃ f p q r = λ i. f (p i) (q i) (r i)
@@ -165,18 +91,6 @@ forward-reads keep (suc (suc m)) x y lo n b e =
     (high-reads keep (suc (suc m)) x y _ (omega arith) (λ i p q. e i p (omega arith)))
     ∙ sym (low-near keep (suc (suc m)) y n (omega arith) b)
 forward-reads keep N x y hi n b e = high-reads keep N x y n b e
-
-high-inner : (keep : ℤ → ℤ) (N N′ : ℕ) (x : ℕ → ℤ) (n : ℕ) → 2 * n + 2 < N → 2 * n + 2 < N′ → lineForward keep N x hi n ≡ lineForward keep N′ x hi n
-high-inner keep N N′ x n l k = high-mid keep N x n l ∙ sym (high-mid keep N′ x n k)
-
--- away from the end of the line it does not see the length
-pub forward-inner : (keep : ℤ → ℤ) (N N′ : ℕ) (x : ℕ → ℤ) (h : Half) (n : ℕ) → 2 * n + 2 < N → 2 * n + 2 < N′
-    → lineForward keep N x h n ≡ lineForward keep N′ x h n
-forward-inner keep N N′ x lo n l k =
-    low-mid keep N x n (omega arith)
-    ∙ ap₂ (updated keep (x (2 * n))) (high-inner keep N N′ x (n - 1) (omega arith) (omega arith)) (high-inner keep N N′ x n l k)
-    ∙ sym (low-mid keep N′ x n (omega arith))
-forward-inner keep N N′ x hi n l k = high-inner keep N N′ x n l k
 
 even-reads : (keep : ℤ → ℤ) (N : ℕ) (c c′ : Half → ℕ → ℤ) → ((h : Half) (n : ℕ) → n < count h N → c h n ≡ c′ h n) → (n : ℕ) → n < count lo N
     → backEven keep N (c lo) (c hi) n ≡ backEven keep N (c′ lo) (c′ hi) n

@@ -4,7 +4,7 @@ use lib.IntN.{ℤ}
 use lib.Dec.{ltb}
 use Rattle.numbers.specs.Signal.{pick}
 use Rattle.numbers.specs.Word.{wrap32}
-use Rattle.lifting.specs.Line.{Half, lo, hi, count, parted, joined, lineForward, lineHalvesBack, lineBack}
+use Rattle.lifting.specs.Line.{Half, lo, hi, count, joined, lineForward, lineHalvesBack, lineBack}
 
 -- what stands in memory y as the halves of N numbers
 unfoldable pub halvesOf : ℕ → (ℕ → ℤ) → Half → ℕ → ℤ
@@ -33,11 +33,3 @@ forwardInto N x z = inHalves N (lineForward wrap32 N x) z
 
 unfoldable pub backwardInto : ℕ → (ℕ → ℤ) → (ℕ → ℤ) → ℕ → ℤ
 backwardInto N y z = fronted N (lineBack wrap32 N (halvesOf N y)) z
-
--- A line x parted into its halves at the front of memory z:
-unfoldable pub partedInto : ℕ → (ℕ → ℤ) → (ℕ → ℤ) → ℕ → ℤ
-partedInto N x z = inHalves N (parted x) z
-
--- the low half of N numbers z, and what y has past it
-unfoldable pub highsLaid : ℕ → (ℕ → ℤ) → (ℕ → ℤ) → ℕ → ℤ
-highsLaid N y z j = pick (ltb j (count lo N)) (z j) (y j)

@@ -61,11 +61,6 @@ unfoldable pub count : Half → ℕ → ℕ
 count lo N = (N + 1) / 2
 count hi N = N / 2
 
--- the even places of a line, and the odd ones
-unfoldable pub parted : (ℕ → ℤ) → Half → ℕ → ℤ
-parted x lo n = x (2 * n)
-parted x hi n = x (2 * n + 1)
-
 -- the line whose even and odd places these are
 unfoldable pub joined : (Half → ℕ → ℤ) → ℕ → ℤ
 joined p i = pick (eqb (i % 2) 0) (p lo (i / 2)) (p hi (i / 2))

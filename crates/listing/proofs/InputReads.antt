@@ -13,7 +13,7 @@ use Rattle.numbers.specs.Signal.{pick}
 use Rattle.pgm.specs.Characters.{digitValue}
 use Rattle.pgm.specs.Header.{Read, found, short, wrong, andThen, is, one, Size, headerOf}
 use Rattle.pgm.specs.Steps.{begun, stepOf, feed, stepped, readBy}
-use Rattle.pgm.specs.Samples.{wide, sampleSize, pairsOf, samplesOf, fitting, exceeds, heightsOf}
+use Rattle.pgm.specs.Runs.{wide, sampleSize, pairsOf, samplesOf, fitting, exceeds, heightsOf}
 use Rattle.pgm.specs.declared.header.Header.{Header}
 use Rattle.pgm.specs.NextAnswer.{NextAnswer}
 use Rattle.pgm.specs.NextAnswer as next

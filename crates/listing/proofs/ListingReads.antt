@@ -6,7 +6,7 @@ use Prim.Native.Nat.{ℕ, _+_, _-_, _*_, _≤_, _<_}
 use native.Mathlib.Omega.{arith}
 use lib.ListN.{length, take, length-append}
 use lib.Seq.{length-take-le}
-use Rattle.pgm.specs.Samples.{sampleSize, heightsOf}
+use Rattle.pgm.specs.Runs.{sampleSize, heightsOf}
 use Rattle.pgm.proofs.RunReads.{heights-first}
 use Rattle.calls.specs.Lists.{gives, All, all-none, all-more}
 use Rattle.writer.specs.Answers.{Took}

@@ -12,7 +12,7 @@ use Rattle.wavelet.specs.View.{bandColumns}
 use Rattle.wavelet.specs.Limits.{maxLevels}
 use Rattle.pgm.specs.Characters.{space, lineEnd, digit}
 use Rattle.pgm.specs.Header.{one, comment, gap, afterGaps, numberFrom, field, side, sized, headerEnd, headerOf}
-use Rattle.pgm.specs.Samples.{wide, sampleSize, pairsOf, samplesOf, fitting, exceeds, heightsOf}
+use Rattle.pgm.specs.Runs.{wide, sampleSize, pairsOf, samplesOf, fitting, exceeds, heightsOf}
 use Rattle.text.specs.Decimal.{digitsOf, numeral, integer}
 use Rattle.text.specs.Refusal.{refusedLine}
 use Rattle.listing.specs.Lines.{spaced, rowHead, rowLine, lineOf, linesOf, sizeLine}

@@ -9,7 +9,7 @@ use lib.Dec.{ltb}
 use lib.ListN.{length, take, drop, getD, length-append, length-drop, take-append-drop}
 use lib.Seq.{drop-cons, drop-drop, take-take, length-take-le, take-at}
 use Rattle.numbers.specs.Signal.{pick}
-use Rattle.pgm.specs.Samples.{sampleSize, heightsOf}
+use Rattle.pgm.specs.Runs.{sampleSize, heightsOf}
 use Rattle.pgm.proofs.RunReads.{heights-first, bytes-room, bytes-more}
 use Rattle.calls.specs.Lists.{gives, refused, unless, changedUnless}
 use Rattle.level.specs.Level.{Memory, LevelKind}

@@ -7,7 +7,7 @@ use native.Mathlib.Omega.{arith}
 use lib.Dec.{leb}
 use lib.ListN.{length, take}
 use Rattle.numbers.specs.Signal.{pick}
-use Rattle.pgm.specs.Samples.{wide, sampleSize, pairsOf, samplesOf, fitting, heightsOf}
+use Rattle.pgm.specs.Runs.{wide, sampleSize, pairsOf, samplesOf, fitting, heightsOf}
 use Rattle.pgm.specs.declared.header.Header.{Header}
 use Rattle.wavelet.specs.Limits.{maxLevels, maxSample}
 use Rattle.calls.specs.Lists.{All, all-none, all-more}

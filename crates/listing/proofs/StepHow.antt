@@ -8,7 +8,8 @@ use borrow.Author.Tests.{eqb-true, eqb-false}
 use Rattle.numbers.specs.Signal.{pick, both}
 use Rattle.wavelet.specs.Limits.{maxLevels, maxSample}
 use Rattle.pgm.specs.Steps.{stepOf}
-use Rattle.pgm.specs.Samples.{wide, noByte, sampled, sampleOf}
+use Rattle.pgm.specs.Runs.{wide}
+use Rattle.pgm.specs.Samples.{noByte, sampled, sampleOf}
 use Rattle.pgm.specs.NextAnswer.{NextAnswer}
 use Rattle.pgm.specs.NextAnswer as next
 use Rattle.pgm.specs.SampleAnswer as sample

@@ -5,7 +5,7 @@ use mathlib.Core.Path.{_≡_}
 use mathlib.Core.List.{List, [], _∷_, _++_}
 use Prim.Native.Nat.{ℕ, _+_, _*_, _≤_, _<_}
 use lib.ListN.{length, take, drop}
-use Rattle.pgm.specs.Samples.{sampleSize, heightsOf}
+use Rattle.pgm.specs.Runs.{sampleSize, heightsOf}
 use Rattle.calls.specs.Lists.{gives}
 use Rattle.writer.specs.Answers.{Took}
 use Rattle.level.specs.Level.{Memory}

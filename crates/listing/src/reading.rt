@@ -3,7 +3,7 @@
 use crate::listing::Listing;
 use crate::states;
 use pgm::input::Input;
-use pgm_runs::runs;
+use pgm::runs;
 use text::bytes;
 use writer::Offered;
 ghost use mathlib.Core.Path.{_≡_};

@@ -22,7 +22,7 @@ shapeQuestions f W H L rest =
     (ask (within 1 (filterOf f .levels) L) 4
     rest)))
 
--- and 5, of areas of a, b and c numbers
+-- and 5, "Is each line store, plane, height and work area long enough?", of areas of a, b and c numbers
 unfoldable pub sizeQuestions : ℕ → ℕ → ℕ → ℕ → ℕ → ℕ → ℕ → ℕ → ℕ
 sizeQuestions f W H L a b c rest =
     shapeQuestions f W H L (ask (both (leb (W * H) a) (both (leb (W * H) b) (leb (W * H) c))) 5 rest)

@@ -51,17 +51,10 @@ module _ (S : Side) (x : ℕ → ℤ) (fits : (i : ℕ) → i < S .length → SF
   pub back-forward : (loneHigh S ≡ true → SFits w32 (pos 2 *ℤ x 0)) → (i : ℕ) → i < S .length → lineBack wrap32 S (lineForward wrap32 S x) i ≡ x i
   back-forward = line-back-forward words S x fits
 
-  -- what is stored is a 32-bit number
-  pub forward-fits : (h : Half) (n : ℕ) → n < count h S → SFits w32 (lineForward wrap32 S x h n)
-  forward-fits = forward-good words S x fits
-
 -- and back and there, for all values but those that give 14
 module _ (S : Side) (c : Half → ℕ → ℤ) (fits : (h : Half) (n : ℕ) → n < count h S → SFits w32 (c h n)) where
   pub forward-back : hasLine S c ≡ true → (h : Half) (n : ℕ) → n < count h S → lineForward wrap32 S (lineBack wrap32 S c) h n ≡ c h n
   forward-back = line-forward-back words S c fits
-
-  pub back-fits : (i : ℕ) → i < S .length → SFits w32 (lineBack wrap32 S c i)
-  back-fits = back-good words S c fits
 
 -- the values of a line never give 14
 pub forward-has : (S : Side) (x : ℕ → ℤ) → hasLine S (lineForward wrap32 S x) ≡ true

@@ -52,10 +52,6 @@ module _ (N s w : ℕ) (H : Side) (n low : ℕ) (x x′ : ℕ → ℤ) (el : low
     unfolding place
     low-in-order is = cc (is, el, highs, by .left, by .right)
 
--- the rows that a call is given are there, in halves and in their own order, and their numbers fit a word
-pub fits-below : (k h : ℕ) → k < h → Fits w64 h → Fits w64 k
-fits-below k h b f = omega arith
-
 abbrev pub Places : ℕ → ℕ → Type 0
 Places o k = Fits w64 (2 * k) × Fits w64 (2 * k + o)
 

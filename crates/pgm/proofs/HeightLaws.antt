@@ -9,7 +9,7 @@ use lib.Dec.{leb, ltb, eqb}
 use lib.ListN.{length}
 use borrow.Author.Tests.{lt-ltb, le-ltb, eq-eqb, ne-eqb}
 use Rattle.numbers.specs.Signal.{pick, both}
-use Rattle.pgm.specs.Samples.{wide, sampleSize, pairsOf, samplesOf, fitting, exceeds, heightsOf}
+use Rattle.pgm.specs.Runs.{wide, sampleSize, pairsOf, samplesOf, fitting, exceeds, heightsOf}
 use Rattle.pgm.specs.Heights.{heightsTaken, tooLarge, bytesOf, refusalIn}
 
 -- ---- one sample more, of two bytes (w) or one: too many bytes, too few, or as many as there are samples

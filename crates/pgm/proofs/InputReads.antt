@@ -6,7 +6,8 @@ use native.Mathlib.Omega.{arith}
 use native.Mathlib.Numerals.{sub-one}
 use lib.Dec.{leb}
 use borrow.Author.Tests.{ne-eqb}
-use Rattle.pgm.specs.Samples.{wide, sampled, sampleOf}
+use Rattle.pgm.specs.Runs.{wide}
+use Rattle.pgm.specs.Samples.{sampled, sampleOf}
 use Rattle.pgm.specs.InputSteps.{heightRead, readByte}
 use Rattle.pgm.specs.declared.header.Header.{Header}
 use Rattle.pgm.specs.declared.input.Input.{Input}

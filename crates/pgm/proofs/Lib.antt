@@ -1,3 +1,4 @@
+mod CharacterLaws
 pub mod LimitLaws
 pub mod HeaderReads
 pub mod RunReads

@@ -7,7 +7,8 @@ use mathlib.Core.List.{List, [], _∷_, _++_}
 use Prim.Native.Nat.{ℕ, _+_, _*_}
 use lib.Dec.{leb}
 use Rattle.numbers.specs.Signal.{pick}
-use Rattle.pgm.specs.Samples.{wide, pairsOf, samplesOf, fitting, exceeds, heightsOf, noByte, sampled, sampleOf, Taken, takenOn, takes}
+use Rattle.pgm.specs.Runs.{wide, pairsOf, samplesOf, fitting, exceeds, heightsOf}
+use Rattle.pgm.specs.Samples.{noByte, sampled, sampleOf, Taken, takenOn, takes}
 use Rattle.pgm.specs.declared.samples.Samples.{Samples}
 use Rattle.pgm.specs.SampleAnswer.{SampleAnswer}
 use Rattle.pgm.specs.SampleAnswer.{Half, Height, No16}

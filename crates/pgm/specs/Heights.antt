@@ -5,7 +5,7 @@ use Prim.Native.Nat.{ℕ, _*_}
 use lib.Dec.{ltb}
 use lib.ListN.{length, take}
 use Rattle.numbers.specs.Signal.{pick, both}
-use Rattle.pgm.specs.Samples.{sampleSize, samplesOf, exceeds, heightsOf}
+use Rattle.pgm.specs.Runs.{sampleSize, samplesOf, exceeds, heightsOf}
 
 -- at most n heights are taken, and none from a sample on that exceeds the largest value
 unfoldable pub heightsTaken : ℕ → ℕ → List ℕ → List ℕ

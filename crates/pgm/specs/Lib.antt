@@ -6,6 +6,7 @@ pub mod Characters
 pub mod Limits
 pub mod Header
 pub mod Steps
+pub mod Runs
 pub mod Samples
 pub mod Heights
 pub mod InputSteps

@@ -3,7 +3,10 @@ use mathlib.Core.Bool.{Bool}
 use Prim.Native.Nat.{ℕ}
 use lib.Dec.{leb}
 use Rattle.numbers.specs.Signal.{both}
-unfoldable pub use Rattle.pgm_bytes.specs.Characters.{maxField}
+
+-- Netpbm: the largest number of a header, "less than 65536"
+unfoldable pub maxField : ℕ
+maxField = 65535
 
 -- document 01, question 15: "width 1 to 1,025, height 1 to 65,535"
 unfoldable pub maxPictureWidth : ℕ

@@ -4,7 +4,7 @@ use mathlib.Core.List.{List, [], _∷_}
 use Prim.Native.Nat.{ℕ, _+_, _*_}
 use lib.Dec.{leb}
 use Rattle.numbers.specs.Signal.{pick}
-unfoldable pub use Rattle.pgm_runs.specs.Runs.{wide, sampleSize, pairsOf, samplesOf, fitting, exceeds, heightsOf}
+use Rattle.pgm.specs.Runs.{wide}
 use Rattle.pgm.specs.declared.samples.Samples.{Samples}
 use Rattle.pgm.specs.SampleAnswer.{SampleAnswer}
 use Rattle.pgm.specs.SampleAnswer.{Half, Height, No16}

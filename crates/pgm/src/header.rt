@@ -1,7 +1,7 @@
 // A header, read a byte at a time. A number may have any number of digits: the one after the largest that a header may have stands for every
 // larger one, and such a header is refused.
+use crate::characters;
 use crate::limits;
-use pgm_bytes::characters;
 ghost use mathlib.Core.Path.{_≡_};
 ghost use mathlib.Core.Bool.{true, false};
 ghost use Rattle.pgm.specs.Header.{side, sized};

@@ -1,11 +1,11 @@
 // The input of a program that reads a picture, a byte at a time: a line with the number of levels, where the program takes one (the listing, document 01;
 // not the rewriting, document 02, Q-7), then a header and heights.
+use crate::characters;
 use crate::header::Header;
 use crate::header::Next;
 use crate::limits;
 use crate::samples::Sample;
 use crate::samples::Samples;
-use pgm_bytes::characters;
 ghost use mathlib.Core.Path.{_≡_};
 ghost use Prim.Native.Nat.{_-_};
 ghost use Rattle.pgm.specs.InputSteps.{startAt, phased, levelDigit, levelsRead, lineFeedRead, shapeRead, headerRead, heightRead, readByte};

@@ -1,5 +1,5 @@
 // Samples of one byte or two, the most significant first. A state may hold half a sample, so the bytes may be cut anywhere.
-use pgm_runs::runs;
+use crate::runs;
 ghost use mathlib.Core.Path.{_≡_};
 ghost use Rattle.pgm.specs.SampleAnswer.{ofSample};
 ghost use Rattle.pgm.specs.Samples.{noByte, sampled, sampleOf};

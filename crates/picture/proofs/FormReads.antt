@@ -11,7 +11,7 @@ use Rattle.pgm.specs.Header.{Read, found, andThen, one, gap, afterGaps, numberF
 use Rattle.pgm.specs.Header.{headerOf}
 use Rattle.pgm.specs.Limits.{maxField, upTo}
 use Rattle.pgm.proofs.LimitLaws.{is-up-to}
-use Rattle.pgm.specs.Samples.{wide, pairsOf, samplesOf}
+use Rattle.pgm.specs.Runs.{wide, pairsOf, samplesOf}
 use Rattle.text.specs.Decimal.{numeral}
 use Rattle.text.proofs.DecimalLaws.{one-digit, last-digit}
 use Rattle.picture.specs.Form.{formLargest, formHead, rowBytes}

@@ -1,3 +1,4 @@
+pub mod RowLaws
 pub mod FormLaws
 pub mod FormReads
 pub mod RewritingSame

@@ -41,11 +41,6 @@ Placed t d n o o′ = (n ≡ min (length t - d) (length o)) × (o′ ≡ paste o
 pub placed : (t u : List ℕ) (d n : ℕ) (o o′ : List ℕ) → t ≡ u → Placed t d n o o′ → Placed u d n o o′
 placed t u d n o o′ e p = subst (λ t. Placed t d n o o′) e p
 
--- none of no text
-drop-none : (n : ℕ) → drop {A = ℕ} n [] ≡ []
-drop-none zero = refl
-drop-none (suc n) = refl
-
 pub placed-none : (d : ℕ) (o : List ℕ) → d < 2 ^ 64 → Placed [] d 0 o o
 placed-none d o h = (omega arith, refl, omega arith)
 

@@ -15,13 +15,13 @@ use Rattle.numbers.proofs.Sweep.{both as split-both}
 use Rattle.pgm.specs.Limits.{maxField, sizeFits}
 use Rattle.pgm.specs.Heights.{heightsTaken, tooLarge, bytesOf}
 use Rattle.pgm.specs.Header.{Read, found, short, wrong, andThen, is, one, gap, field, Size, side, sized, headerEnd, headerOf}
-use Rattle.pgm.specs.Samples.{wide, sampleSize, samplesOf, fitting, exceeds, heightsOf}
+use Rattle.pgm.specs.Runs.{wide, sampleSize, samplesOf, fitting, exceeds, heightsOf}
 use Rattle.pgm.proofs.LimitLaws.{up-to}
 use Rattle.pgm.proofs.RunReads.{samples-count}
 use Rattle.picture.specs.Form.{formLargest, formHead, rowBytes}
 use Rattle.text.specs.Refusal.{refusedLine}
 use Rattle.picture.specs.Rewriting.{sizeEnd, pictureOf, heightsIn, wholeRows, rowsOf, bodyOf, rewritingOf, Accepted}
-use Rattle.height_bytes.proofs.RowLaws.{row-length}
+use Rattle.picture.proofs.RowLaws.{row-length}
 use Rattle.picture.proofs.FormReads.{largest-wide, largest-holds, head-read, samples-back}
 
 -- ---- what is found was held to the limits

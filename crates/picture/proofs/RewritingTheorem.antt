@@ -20,7 +20,7 @@ use borrow.Author.Tests.{lt-ltb, le-ltb, eq-eqb, ne-eqb}
 use Rattle.numbers.specs.Signal.{pick}
 use Rattle.pgm.specs.Header.{Read, found, short, wrong, andThen, Size, headerOf}
 use Rattle.pgm.specs.Steps.{begun, stepOf, feed, stepped, readBy}
-use Rattle.pgm.specs.Samples.{wide, sampleSize, pairsOf, samplesOf, fitting, exceeds, heightsOf}
+use Rattle.pgm.specs.Runs.{wide, sampleSize, pairsOf, samplesOf, fitting, exceeds, heightsOf}
 use Rattle.pgm.specs.declared.header.Header.{Header}
 use Rattle.pgm.specs.NextAnswer.{NextAnswer}
 use Rattle.pgm.specs.NextAnswer as next
@@ -435,9 +435,6 @@ module _ {z u t : List ℕ} {s : Kept} (room : maxPictureWidth ≤ length z) (re
   -- what has been written and what is still owed is what is due of the bytes read
   pub moves-owed : (e : Bool) → t ++ owed e (s .state) (s .row) [] ≡ dueOf e u
   moves-owed e = owed-on e [] ∙ ap (dueOf e) (append-nil u)
-
-  pub moves-due : busyOn s ≡ 0 → t ≡ dueOf false u
-  moves-due k = sym (append-nil t) ∙ ap (λ l. t ++ l) (sym (idle-owed (s .state) (s .row) k)) ∙ moves-owed false
 
   pub moves-prefix : (r : List ℕ) × (t ++ r ≡ dueOf false u)
   moves-prefix = (owed false (s .state) (s .row) [], moves-owed false)

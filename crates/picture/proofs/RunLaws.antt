@@ -9,8 +9,8 @@ use lib.ListN.{length, take, drop, getD, set, length-take, length-drop, take-app
 use lib.Seq.{take-suc, drop-cons, drop-drop, drop-append-le, getD-take, length-take-le, paste, paste-zero, paste-suc, length-paste}
 use borrow.Rule.Slice.PartMut.{midOf, putMid, put-same}
 use Rattle.numbers.specs.Signal.{pick}
-use Rattle.pgm_runs.proofs.RunReads.{fitting-prefix, fitting-stop, samples-count, sample-at, bytes-room, bytes-more}
-use Rattle.pgm.specs.Samples.{wide, sampleSize, samplesOf, fitting, heightsOf}
+use Rattle.pgm.proofs.RunReads.{fitting-prefix, fitting-stop, samples-count, sample-at, bytes-room, bytes-more}
+use Rattle.pgm.specs.Runs.{wide, sampleSize, samplesOf, fitting, heightsOf}
 use Rattle.pgm.specs.InputSteps.{readByte, heightsCame}
 use Rattle.pgm.specs.StepAnswer as steps
 use Rattle.pgm.specs.declared.header.Header.{Header}

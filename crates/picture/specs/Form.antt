@@ -1,13 +1,12 @@
 -- The fixed form. Document 02, Q-7: "P5, newline, width, space, height, newline, 65535, newline, two bytes a height, the most significant first."
 use mathlib.Core.Path.{_≡_}
 use mathlib.Core.List.{List, [], _∷_, _++_}
-use Prim.Native.Nat.{ℕ, zero, suc, _+_, _-_, min}
+use Prim.Native.Nat.{ℕ, zero, suc, _+_, _-_, _/_, _%_, min}
 use lib.ListN.{length, drop}
 use lib.Seq.{paste}
 use Rattle.wavelet.specs.Limits.{maxWidth, maxHeight}
 use Rattle.wavelet.specs.Questions.{ask, within}
 use Rattle.text.specs.Decimal.{numeral}
-unfoldable pub use Rattle.height_bytes.specs.Rows.{rowBytes}
 use Rattle.picture.specs.declared.form.Put.{Put}
 use Rattle.picture.specs.declared.form.Put.the-variants.{Written, Refused}
 
@@ -18,6 +17,11 @@ formLargest = 65535
 -- 80 53 is P5, 32 a space, 10 a newline
 unfoldable pub formHead : ℕ → ℕ → List ℕ
 formHead W H = 80 ∷ 53 ∷ 10 ∷ (numeral W ++ (32 ∷ (numeral H ++ (10 ∷ (numeral formLargest ++ (10 ∷ []))))))
+
+-- the bytes of a row of heights
+unfoldable pub rowBytes : List ℕ → List ℕ
+rowBytes [] = []
+rowBytes (h ∷ l) = (h / 256) ∷ (h % 256) ∷ rowBytes l
 
 -- questions 2 and 3
 unfoldable pub headQuestion : ℕ → ℕ → ℕ

@@ -1,7 +1,7 @@
 // What is being written: the header, a row of heights, or the line of a refusal, and as much of it as there is room for. The module is private: only
 // this crate, which meets what is required, can call it.
 use crate::heads;
-use height_bytes::rows;
+use crate::rows;
 use text::bytes;
 use text::refusal;
 ghost use mathlib.Core.Path.{_≡_};

@@ -5,7 +5,7 @@ use pgm::input::Ended;
 use pgm::input::Input;
 use pgm::input::Step;
 use pgm::limits;
-use pgm_runs::runs;
+use pgm::runs;
 use text::bytes;
 ghost use mathlib.Core.Path.{_≡_};
 ghost use mathlib.Core.Bool.{true, false};

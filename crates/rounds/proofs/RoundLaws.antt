@@ -16,10 +16,10 @@ use Rattle.descriptors.specs.Left.{leftIn, Within, readsNow, Fills}
 use Rattle.descriptors.specs.declared.input.Left.{Left}
 use Rattle.descriptors.specs.declared.input.Filled.{Filled}
 use Rattle.descriptors.specs.declared.output.Sent.{Sent}
-use Rattle.descriptors.proofs.LeftLaws.{fills-within, used-within, used-left, length-left}
+use Rattle.descriptors.proofs.LeftLaws.{fills-within, used-within, used-left}
 use Rattle.rounds.specs.Machine.{Machine}
 use Rattle.rounds.specs.Rounds.{waitsAt, overAt, waiting, over, failed, ended, ends, whole}
-use Rattle.rounds.specs.Rounds.{going, started, outcomeOf, Round, Rounds, begun, then, Ran, Run}
+use Rattle.rounds.specs.Rounds.{going, started, outcomeOf, Round, Rounds, begun, then, Ran}
 use Rattle.rounds.specs.Rounds.{mostRounds, before, after, Completed}
 use Rattle.rounds.specs.declared.round.Outcome.{Outcome}
 
@@ -81,14 +81,6 @@ ends-not r e f = go (ended r) (failed r) e f
     go false b h k = refl
     go true false h k = false-true h refl
     go true true h k = false-true k refl
-
-pub whole-parts : (o : Bool) (r : Outcome) → whole o r ≡ true → (failed r ≡ false) × (o ≡ true)
-unfolding whole
-whole-parts o r = go (failed r)
-  where
-    go : (f : Bool) → pick f false o ≡ true → (f ≡ false) × (o ≡ true)
-    go false h = (refl, h)
-    go true h = false-true refl h
 
 -- ---- one round
 pub round-is : {S : Type 0} {M : Machine S} {s s′ : S} {l : Left} {c c′ o o′ : List ℕ} (w : Bool) (g : Filled) (a b : ℕ) (i : Bool) (q : Sent) {r : Outcome}

@@ -1,6 +1,6 @@
 // The fixed form of a picture: its header and its rows. What the calls say is `picture`'s: its definitions give the bytes.
-use height_bytes::rows;
 use picture::form;
+use picture::rows;
 ghost use mathlib.Core.Path.{_≡_};
 ghost use Prim.Native.Nat.{_-_, _*_, min};
 ghost use lib.ListN.{length, drop};

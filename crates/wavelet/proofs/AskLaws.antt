@@ -1,6 +1,6 @@
 -- Questions asked in plain numbers (specs/Asks): there is one answer, a yes goes on, and a test that says exactly what is asked gives it; the limits of Limits
 -- are the plain ones. Assumes nothing.
-use mathlib.Core.Path.{_≡_, refl, sym, _∙_}
+use mathlib.Core.Path.{_≡_, refl}
 use mathlib.Core.Bool.{Bool, true, false}
 use mathlib.Core.Logic.{_↔_}
 use Prim.Native.Nat.{ℕ, _≤_, _<_}
@@ -9,15 +9,12 @@ use lib.Dec.{leb}
 use borrow.Author.Tests.{leb-true, le-leb}
 use Rattle.wavelet.specs.Limits.{maxWidth, maxHeight, maxLevels}
 use Rattle.wavelet.specs.Questions.{ask, within}
-use Rattle.wavelet.specs.Asks.{Asks, yes, no, Passes, Width, Height, Known, Levels, ShapeAsks}
+use Rattle.wavelet.specs.Asks.{Asks, yes, no, Width, Height, Known, Levels, ShapeAsks}
 use Rattle.wavelet.proofs.QuestionLaws.{within-true, within-yes}
 
 -- ---- one answer
 abbrev pub One : (ℕ → Type 0) → Type 0
 One R = (p q : ℕ) → R p → R q → p ≡ q
-
-pub one-passes : One Passes
-one-passes p q d e = d ∙ sym e
 
 module _ {n : ℕ} {P : Type 0} {rest : ℕ → Type 0} where
   pub one-asks : One rest → One (Asks n P rest)

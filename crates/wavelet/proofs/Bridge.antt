@@ -4,7 +4,6 @@
 -- First for any grid within ±M, then for a map, whose values are within `range k` at level k.
 -- Assumes nothing.
 use mathlib.Core.Path.{_≡_, refl, sym, ap, _∙_}
-use mathlib.Core.Bool.{true}
 use Prim.Native.Nat.{ℕ, zero, suc, _+_, _*_, _^_, _≤_, _<_}
 use native.Mathlib.Nat.{pow-zero, pow-suc, pow-le-pow-right, mul-le-mul-left, mul-le-mul-right, mul-assoc, mul-comm, mul-left-comm, one-le-pow}
 use native.Mathlib.Omega.{arith}
@@ -21,13 +20,13 @@ use Rattle.lifting.specs.Filter.{Filter}
 use Rattle.lifting.proofs.FilterLaws.{words, FilterLaws, gain-below, growth-some}
 use Rattle.lifting.proofs.LoneLaws.{lone-high}
 use Rattle.wavelet.specs.Limits.{maxSample, range}
-use Rattle.wavelet.specs.Bands.{Grid, Band, LL, HL, LH, HH, across, down, columnsLifted, subband, levelHas}
+use Rattle.wavelet.specs.Bands.{Grid, Band, LL, HL, LH, HH, across, down, columnsLifted, subband}
 use Rattle.wavelet.specs.Maps.{IsMap}
 use Rattle.wavelet.specs.Levels.{next, sideAt, approximation, levelBand}
 use Rattle.wavelet.specs.Plane.{planeCell, levelAt}
 use Rattle.wavelet.proofs.LimitLaws.{range-last}
 use Rattle.wavelet.proofs.LevelTheory.{OnCells, OnBands, Same, SameBands, subband-same, over, over-same, by-band, bandIn, same-bands, low-all, same-low}
-use Rattle.wavelet.proofs.LevelTheory.{plane-at, level-at, plane-reads, Doubles, AllDouble, none, more, subband-has}
+use Rattle.wavelet.proofs.LevelTheory.{plane-at, level-at, plane-reads, Doubles, AllDouble, none, more}
 
 -- z is within ±M
 abbrev pub Within : ℕ → ℤ → Type 0
@@ -268,12 +267,3 @@ module _ (F : Filter) (laws : FilterLaws F) where
 
     pub map-words : (k : ℕ) → k ≤ F .levels → OnCells (SFits w32) (sideAt k W) (sideAt k H) (approximation F wrap32 W H g k)
     map-words k h = word-cells (range F k) (sideAt k W) (sideAt k H) (approximation F wrap32 W H g k) (range-small k h) (words-within k h)
-
-    pub map-doubles : (k : ℕ) → suc k ≤ F .levels → Doubles F words (sideAt k W) (sideAt k H) (approximation F wrap32 W H g k)
-    map-doubles k h =
-        word-doubles (range F k) (sideAt k W) (sideAt k H) (approximation F wrap32 W H g k) (omega (arith, range-suc k, range-small (suc k) h))
-        (words-within k (omega arith))
-
-    pub map-level-has : (k : ℕ) → suc k ≤ F .levels → levelHas F (sideAt k W) (sideAt k H) (levelBand F wrap32 W H g (suc k)) ≡ true
-    unfolding levelBand
-    map-level-has k h = subband-has F laws (sideAt k W) (sideAt k H) (approximation F wrap32 W H g k) (map-words k (omega arith)) (map-doubles k h)

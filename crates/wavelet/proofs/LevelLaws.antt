@@ -9,10 +9,6 @@ use Rattle.wavelet.specs.Levels.{next, sideAt, approximation, levelBand}
 use Rattle.wavelet.proofs.SideLaws.{size-inner}
 
 module _ (F : Filter) (keep : ℤ → ℤ) (W H : Side) (g : Grid) where
-  pub approximation-zero : approximation F keep W H g 0 ≡ g
-  unfolding approximation
-  approximation-zero = refl
-
   pub approximation-suc : (k : ℕ) → approximation F keep W H g (suc k) ≡ subband F keep (sideAt k W) (sideAt k H) (approximation F keep W H g k) LL
   unfolding approximation
   approximation-suc k = refl

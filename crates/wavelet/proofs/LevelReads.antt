@@ -2,8 +2,7 @@
 -- band row can be made as soon as that row is.
 -- Assumes nothing.
 use mathlib.Core.Path.{_≡_, refl, ap, _∙_}
-use Prim.Native.Nat.{ℕ, zero, suc, _+_, _*_, _%_, _^_, _≤_, _<_}
-use native.Mathlib.Nat.{pow-suc}
+use Prim.Native.Nat.{ℕ, zero, suc, _+_, _*_, _%_, _≤_, _<_}
 use native.Mathlib.Omega.{arith}
 use lib.IntN.{ℤ}
 use Rattle.lifting.specs.Line.{Half, lo, hi}
@@ -12,7 +11,7 @@ use Rattle.lifting.specs.Filter.{Filter}
 use Rattle.lifting.proofs.FilterLaws.{FilterLaws}
 use Rattle.wavelet.specs.Bands.{Grid, Band, LL, across, down, subband}
 use Rattle.wavelet.specs.Levels.{next, sideAt, approximation, levelBand}
-use Rattle.wavelet.proofs.SideLaws.{size-zero, start-suc, start-same}
+use Rattle.wavelet.proofs.SideLaws.{start-same}
 use Rattle.wavelet.proofs.LevelTheory.{subband-reads, subband-inner}
 
 -- the last row of the map that row r of level k reads, for a filter that reads so far ahead: each level reads up to the place of its low row r + a in the one
@@ -24,20 +23,6 @@ need a H (suc k) r = need a H k (place (sideAt k H) lo (r + a))
 place-is : (S : Side) (n : ℕ) → place S lo n ≡ 2 * n + S .start % 2
 unfolding place
 place-is S n = refl
-
-first-start : (H : Side) → sideAt 0 H .start ≡ H .start
-first-start H = ap (λ (S : Side). S .start) (size-zero H)
-
--- by the coordinates: row r of level k has the coordinate start + r, which is 2^k times that at the map
-pub need-is : (a : ℕ) (H : Side) (k r : ℕ) → need a H k r + H .start + 2 * a ≡ 2 ^ k * (sideAt k H .start + r + 2 * a)
-unfolding need
-need-is a H zero r = omega (arith, first-start H)
-need-is a H (suc k) r =
-    let ih = need-is a H k (place (sideAt k H) lo (r + a)) in
-    let e : sideAt k H .start + place (sideAt k H) lo (r + a) + 2 * a ≡ 2 * (sideAt (suc k) H .start + r + 2 * a) =
-    omega (arith, place-is (sideAt k H) (r + a), start-suc k H) in
-    let there = rw e at ih in
-    rw pow-suc (omega arith)
 
 pub need-up : (a : ℕ) (H : Side) (k r s : ℕ) → r ≤ s → need a H k r ≤ need a H k s
 unfolding need

@@ -13,7 +13,7 @@ use Rattle.numbers.specs.Signal.{at, pick}
 use Rattle.numbers.proofs.Parts.{length-mid, at-mid, window-in}
 use Rattle.lifting.specs.Grid.{Side}
 use Rattle.lifting.specs.Filter.{Filter}
-use Rattle.wavelet.specs.Bands.{Grid, Band, code}
+use Rattle.wavelet.specs.Bands.{Grid, Band}
 use Rattle.wavelet.specs.Levels.{levelBand}
 use Rattle.wavelet.specs.Plane.{planeOf}
 use Rattle.wavelet.specs.View.{bandColumns, bandStart}
@@ -70,10 +70,6 @@ module _ (plane : List ℤ) (W H : Side) (L k c r : ℕ) where
 
     pub view-band : Band
     view-band = view .band
-
-    pub view-code : c ≡ code view-band
-    unfolding view-band
-    view-code = view .code-is
 
     pub view-length : length (viewRow plane W H L k c r) ≡ bandColumns W k view-band
     unfolding view-band

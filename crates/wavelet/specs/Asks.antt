@@ -22,7 +22,7 @@ Passes q = q ≡ 0
 abbrev pub Width : ℕ → Type 0
 Width w = (1 ≤ w) × (w ≤ 2049)
 
--- 3, with the limit of document 02, Q-5: "up to 4,294,967,295 rows"
+-- 3: "Is H from 1 to 65,535?", with the limit of document 02, Q-5: "up to 4,294,967,295 rows"
 abbrev pub Height : ℕ → Type 0
 Height h = (1 ≤ h) × (h ≤ 4294967295)
 

@@ -49,7 +49,7 @@ setUpStore f W L n x = changedUnless (setUpQuestion f W L n) (fronted (writerSto
 abbrev pub took : Taking → Took
 took t = record { taken = t .taken; writer = t .writer }
 
--- while rows wait (v, the writer's level, is above 0), into the spare row
+-- while rows wait (v, the writer's level, is above 0), into the spare row. "An offer of no heights that passes takes 0."
 abbrev pub offeredAt : ℕ → List ℕ → Writer → Memory → Taking
 offeredAt zero run s x = offering (kind s) run s x
 offeredAt (suc v) run s x = holding run s x

@@ -26,7 +26,7 @@ unfoldable pub mostColumn : Writer → ℕ → ℕ
 mostColumn s zero = s .width - 1
 mostColumn s (suc v) = pick (both (not (s .finished)) (ltb (s .rows) maxHeight)) (s .width) 0
 
--- question 1: the ranges that docs/STATE.md lists
+-- 1: "Is every count in the state inside its range, as docs/ lists them?" docs/STATE.md lists them
 unfoldable pub inRanges : Writer → Bool
 inRanges s =
     both (onGrid (s .x) (s .y))
@@ -38,7 +38,7 @@ inRanges s =
     (both (leb (s .left) (mostLeft (s .levels) (s .level)))
     (eqb (s .offset) (startOf (s .filter) (columnsOf s) (s .level)))))))))
 
--- question 5
+-- 5, of a stream: "Is each line store .. long enough?", where "an offered run, a fed run and a draw's output area are none of these"
 unfoldable pub longEnough : ℕ → Writer → Bool
 longEnough n s = leb (writerStoreBy (s .filter) (columnsOf s) (s .levels)) n
 
@@ -63,7 +63,8 @@ setUpQuestion f W L n =
 abbrev pub rowsTaken : Writer → ℕ
 rowsTaken s = s .rows + s .column / s .width
 
--- an offer of k heights; "Question 8 no longer turns an offer away"
+-- an offer of k heights: 9, "not finished yet?"; 10, "Offer of at least one height: are fewer than 65,535 rows complete?" (Q-5 has the limit). Q-2: "Question 8
+-- no longer turns an offer away"
 unfoldable pub offerQuestion : Writer → ℕ → ℕ → ℕ
 offerQuestion s n k =
     ask (inRanges s) 1
@@ -72,7 +73,7 @@ offerQuestion s n k =
     (ask (either (eqb k 0) (ltb (rowsTaken s) maxHeight)) 10
     0)))
 
--- a draw into an area of k numbers
+-- a draw into an area of k numbers: 12, "Draw with a row to give: does the output area hold it?"
 unfoldable pub drawQuestion : Writer → ℕ → ℕ → ℕ
 drawQuestion s n k =
     ask (inRanges s) 1
@@ -84,6 +85,7 @@ drawQuestion s n k =
 unfoldable pub waitsQuestion : Writer → ℕ
 waitsQuestion s = ask (inRanges s) 1 0
 
+-- 9, "not finished yet?", "asked before 8", "does no row wait?"; 11, "Finish: is there a row, and none begun?"
 unfoldable pub finishQuestion : Writer → ℕ → ℕ
 finishQuestion s n =
     ask (inRanges s) 1

@@ -6,7 +6,7 @@ use lib.Seq.{length-take-le}
 use mathlib.Core.List.{[]}
 use Rattle.text.proofs.DecimalLaws.{twenty}
 use Rattle.text.proofs.RefusalLaws.{refused-length}
-use Rattle.height_bytes.proofs.RowLaws.{row-length}
+use Rattle.picture.proofs.RowLaws.{row-length}
 use Rattle.picture.proofs.FormLaws.{head-short}
 use Rattle.picture.proofs.PartLaws.{text-head, text-row, text-refused, text-none, placed, placed-none, take-least}
 use Rattle.picture.specs.Form.{rowBytes}
