@@ -5,6 +5,7 @@ mod lines;
 mod passes;
 mod rowwise;
 mod short;
+mod small;
 mod sweep;
 
 ghost use mathlib.Core.Path.{_≡_};
