@@ -2,6 +2,7 @@
 mod heights;
 mod levels;
 mod lines;
+mod pairs;
 mod passes;
 mod rowwise;
 mod short;
