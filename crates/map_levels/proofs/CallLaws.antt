@@ -49,13 +49,6 @@ map-rows W H L n s b =
     let h = s .height in
     record { apart = w .0; wide = omega arith; some = h .0; room = omega (arith, whole-rows W H (h .0)) }
 
--- and all of them as one row
-pub one-row : (W H L n : ℕ) → Sized W H L → W * H ≤ n → Rows n (W * H) (W * H) 1
-one-row W H L n s b =
-    let w = s .width in
-    let h = s .height in
-    record { apart = omega (arith, whole-rows W H (h .0)); wide = omega arith; some = omega arith; room = omega arith }
-
 pub map-doubling : (W H L : ℕ) → Sized W H L → Doubling L W W
 map-doubling W H L s =
     let w = s .width in

@@ -7,10 +7,14 @@ use Prim.Native.Nat.{ℕ, _+_, _*_, _%_, _≤_, _<_}
 use native.Mathlib.Decide.{decLt, ℕ-discrete}
 use native.Mathlib.Omega.{arith}
 use lib.IntN.{ℤ}
-use borrow.Author.Tests.{lt-ltb, le-ltb}
+use borrow.Author.Tests.{lt-ltb, le-ltb, le-leb, ne-eqb}
 use Rattle.numbers.specs.Signal.{at}
+use Rattle.numbers.specs.Word.{wrap32}
+use mathlib.Core.Bool.{true}
 use Rattle.lifting.specs.Grid.{Side}
-use Rattle.lifting.specs.Rows.{rowChanged, rowsChanged}
+use Rattle.lifting.specs.Line.{unupdated, unpredicted}
+use Rattle.lifting.specs.Rows.{rowFits, rowsFit, rowChanged, rowsChanged}
+use Rattle.lifting.specs.Pairs.{pairFits, pairUnlifted}
 use Rattle.lifting.proofs.RowLaws.{rows-fit, changed, row-at, row-other, row-past}
 use Rattle.wavelet.specs.Bands.{Grid}
 use Rattle.map_levels.specs.Passes.{Rows, within, before, after, highRowsChanged, lowRowsChanged, nextChanged, pairChanged}
@@ -34,11 +38,50 @@ before-is b h r g lt =
       | no d ↦ simp (le-ltb 0 r (omega arith)) (omega arith, λ e. omega arith)
     ]
 
--- ---- the calls of one turn back, one after the other: n′ is the area's length after the first of them
-pub pair-changed : (f g : ℤ → ℤ → ℤ → ℤ) (n n′ s w h r p q : ℕ) (x y z : ℕ → ℤ) → z ≡ rowsChanged g n′ s w r p q y → p ≡ before r → q ≡ after h r →
-    y ≡ nextChanged f n s w h r x → n′ ≡ n → z ≡ pairChanged f g n s w h r x
-unfolding pairChanged
-pair-changed f g n n′ s w h r p q x y z e i j k l = cc
+-- ---- one turn back: no low row follows row r, or the low row after it and row r are lifted back in one
+module _ (f g : ℤ → ℤ → ℤ → ℤ) (n s w h r : ℕ) (x z : ℕ → ℤ) where
+  pub pair-last : (p q : ℕ) → h ≤ r + 1 → p ≡ before r → q ≡ after h r → z ≡ rowsChanged g n s w r p q x → z ≡ pairChanged f g n s w h r x
+  unfolding pairChanged nextChanged
+  pair-last p q b i j e = simp (le-ltb (r + 1) h b) (e ∙ rw (i, j))
+
+module _ (n s w h r b p m : ℕ) (R : Rows n s w h) (more : 1 < h) (next : r + 1 < h) (en : m ≡ r + 1) (ep : p ≡ before r) (eb : b ≡ after h (r + 1)) where
+  after-is-next : after h r ≡ r + 1
+  unfolding after
+  after-is-next = simp (lt-ltb (r + 1) h next)
+
+  room-low : m * s + w ≤ n
+  room-low = rw en (row-room n s w h (r + 1) R next)
+
+  room-high : r * s + w ≤ n
+  room-high = row-room n s w h r R (omega arith)
+
+  room-right : b * s + w ≤ n
+  room-right = rw eb (row-room n s w h (after h (r + 1)) R (after-is 0 h (r + 1) more next .0))
+
+  room-before : p * s + w ≤ n
+  room-before = rw ep (row-room n s w h (before r) R (before-is 0 h r more (omega arith) .0))
+
+  pub pair-room : pairFits n s w r m b p ≡ true
+  unfolding pairFits rowsFit rowFits
+  pair-room =
+      simp (
+        ne-eqb m r (λ e. absurd (omega arith)),
+        le-leb w s (R .wide),
+        le-leb (r * s + w) n room-high,
+        le-leb (m * s + w) n room-low,
+        le-leb (b * s + w) n room-right,
+        le-leb (p * s + w) n room-before,
+      )
+
+  pub pair-made : (x z : ℕ → ℤ) → z ≡ pairUnlifted s w r m b p x → z ≡ pairChanged (unupdated wrap32) (unpredicted wrap32) n s w h r x
+  unfolding pairUnlifted pairChanged nextChanged
+  pair-made x z e =
+      let low = rows-fit n s w m r b (R .wide) room-low room-high room-right in
+      let high = rows-fit n s w r p m (R .wide) room-high room-before room-low in
+      e
+      ∙ sym (changed (unpredicted wrap32) s w r p m _ n high)
+      ∙ ap (rowsChanged (unpredicted wrap32) n s w r p m) (sym (changed (unupdated wrap32) s w m r b x n low))
+      ∙ simp (lt-ltb (r + 1) h next, after-is-next) (rw (en, ep, eb))
 
 -- ---- what a pass makes of X
 pub record Column (f : ℤ → ℤ → ℤ → ℤ) (q b w h : ℕ) (Y X : Grid) : Type 0 where

@@ -21,3 +21,4 @@ pub mod ShortSums
 pub mod SweepRows
 pub mod SweepSets
 pub mod SweepLevels
+pub mod SmallLaws

@@ -402,19 +402,15 @@ module _ (F : Filter) (laws : FilterLaws F) where
   level-some (suc L) W H r c h =
       by-within (count lo W) (count lo H) r c (λ rb cb. omega (arith, level-corner L W H r c rb cb)) (λ e. omega (arith, level-rest L W H r c e))
 
-  pub region-least : (L : ℕ) (W H : Side) (x : ℕ → ℤ) → 0 < L →
-      rowsBetween 0 1 0 (W .length * H .length) (negℤ (pos (range F 1))) (pos (range F 1)) (cells (W .length * H .length) x) ≡ true →
+  pub region-least : (L : ℕ) (W H : Side) (x : ℕ → ℤ) → 0 < L → ((i : ℕ) → i < W .length * H .length → natAbs (x i) ≤ range F 1) →
       regionInRange F 1 L W H (cells (W .length) x) ≡ true
   unfolding regionInRange cells
-  region-least L W H x some e =
+  region-least L W H x some small =
       let w = W .length in
       let h = H .length in
       each-cells w h _ (λ r c rh cw.
-      let j : 0 * (w * h) + (r * w + c) ≡ r * w + c = omega arith in
       let place = place-below w h r c rh cw in
       let swap : h * w ≡ w * h = mul-comm h w in
-      let held = rows-hold 0 1 0 (w * h) (range F 1) (cells (w * h) x) e 0 (r * w + c) (omega arith) (omega arith) (omega arith) (omega arith) in
       let least : range F 1 ≤ range F (1 - 1 + levelAt L W H r c) =
       range-le F laws 1 (1 - 1 + levelAt L W H r c) (omega (arith, level-some L W H r c some)) in
-      le-leb (natAbs (x (r * w + c))) (range F (1 - 1 + levelAt L W H r c))
-      (omega (arith, leb-true (natAbs (x (r * w + c))) (range F 1) (rw j at held))))
+      le-leb (natAbs (x (r * w + c))) (range F (1 - 1 + levelAt L W H r c)) (omega (arith, small (r * w + c) (omega arith))))

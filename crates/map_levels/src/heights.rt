@@ -1,5 +1,5 @@
 // Rows of heights loaded into the plane, each in halves, and stored from the work area. The module is private, as `rowwise` is.
-use wavelet::limits;
+use crate::small;
 use wavelet::sizes;
 ghost use mathlib.Core.Path.{_≡_};
 ghost use Prim.Native.Nat.{_+_, _-_, _*_, _<_, _≤_};
@@ -88,7 +88,7 @@ pub fn finish_rows(
     while r < height {
         let a = r * width;
         let e = a + width;
-        if !areas::ranges::all_between(&work[a..e], 0, limits::MAX_SAMPLE) {
+        if !small::all_heights(&work[a..e]) {
             return false;
         }
         finish_row(&mut work[a..e], x, &mut heights[a..e]);

@@ -3,6 +3,7 @@
 // and they begin at the first low row. The plane's rows are `across` apart at every level. x and y are where the level starts on the grid.
 // The module is private: only this crate, which meets what is required, can call it.
 use crate::passes;
+use crate::small;
 use lifting::halves;
 use lifting::lone;
 use lifting::rows;
@@ -11,7 +12,7 @@ use wavelet::sizes;
 ghost use mathlib.Core.Path.{_≡_};
 ghost use mathlib.Core.Bool.{true};
 ghost use Prim.Native.Nat.{ℕ, _+_, _-_, _*_, _<_, _≤_};
-ghost use lib.IntN.{pos, negℤ};
+ghost use lib.IntN.{pos, negℤ, natAbs};
 ghost use lib.Dec.{ltb};
 ghost use lib.ListN.{length};
 ghost use Rattle.numbers.specs.Signal.{at, pick, windowed, spliced};
@@ -639,8 +640,16 @@ fn in_range(
     rows_in_range(plane, across, h, height, 0, width, level, filter)
 }
 
+// Whether the first n numbers of a plane surely lie in the range of level 1.
+fn surely_least(plane: &[i32], n: usize, filter: usize) -> bool
+    requires { ⌜ (n ≤ length (now plane)) × (1 ≤ filterOf filter .levels) ⌝ }
+    ensures { λ ok. ⌜ (ok ≡ true → (i : ℕ) → i < n → natAbs (at (now (plane .entry)) i) ≤ range (filterOf filter) 1) ⌝ }
+{
+    small::surely_within(&plane[0..n], filters::range_of(filter, 1) as u32)
+}
+
 // Question 7 of a map's whole plane. The least range of all, that of level 1, is asked first, of all coefficients one after the other: a plane
-// that keeps it keeps every level's range, and planes of maps do. Only where one does not are the levels asked, each by its own range.
+// that surely keeps it keeps every level's range, and planes of most maps do. Only where one may not are the levels asked, each by its own range.
 pub fn plane_in_range(
     plane: &[i32],
     x: usize,
@@ -654,7 +663,7 @@ pub fn plane_in_range(
     ensures { λ r. ⌜ r ≡ regionInRange (filterOf filter) 1 levels (side x width) (side y height) (cells width (at (now (plane .entry)))) ⌝ }
 {
     let n = width * height;
-    if rows_in_range(plane, n, 0, 1, 0, n, 1, filter) {
+    if surely_least(plane, n, filter) {
         return true;
     }
     in_range(plane, width, x, width, y, height, levels, 1, filter)

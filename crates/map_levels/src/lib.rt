@@ -2,9 +2,11 @@
 mod heights;
 mod levels;
 mod lines;
+mod pairs;
 mod passes;
 mod rowwise;
 mod short;
+mod small;
 mod sweep;
 
 ghost use mathlib.Core.Path.{_≡_};

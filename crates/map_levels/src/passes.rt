@@ -1,5 +1,6 @@
 // Passes over the rows of one area: `height` rows of `width` numbers, `stride` apart, x and y where they start on the grid. The module is private, as `rowwise`
 // is.
+use crate::pairs;
 use crate::rowwise;
 use lifting::line;
 use lifting::lone;
@@ -17,7 +18,7 @@ ghost use Rattle.nine_seven.specs.NineSevenFilter.{nineSevenFilter};
 ghost use Rattle.wavelet.specs.Limits.{maxWidth};
 ghost use Rattle.wavelet.specs.Plane.{cells, flat};
 ghost use Rattle.map_levels.specs.Rowwise.{wovenInPlace, doubledInPlace};
-ghost use Rattle.map_levels.specs.Passes.{after, before, nextChanged, pairChanged, rowsMapped, Rows};
+ghost use Rattle.map_levels.specs.Passes.{after, before, pairChanged, rowsMapped, Rows};
 ghost use Rattle.map_levels.specs.ByFilter.{levelLiftedBy};
 ghost use Rattle.map_levels.specs.LevelPasses.{rowLifted, levelLifted, rowsBetween};
 
@@ -96,27 +97,29 @@ pub fn lift_nine_seven(
     lift_rows(area, stride, x, width, height);
 }
 
-// The row after row r lifted back by the update, where there is one.
-fn unupdate_next(area: &mut [i32], stride: usize, width: usize, height: usize, r: usize)
-    requires { ⌜ (r < height) × (1 < height) ⌝ }
-    ensures { λ _. ⌜ at (now (area .exit)) ≡ nextChanged (unupdated wrap32) (length (now (area .entry))) stride width height r (at (now (area .entry))) ⌝ }
-{
-    let next = r + 1;
-    if height <= next {
-        return;
-    }
-    rows::unupdate_row(area, stride, width, next, r, row_after(height, next));
-}
-
-// One turn of the columns back: the low row after high row r first, and then row r. That it is called twice, in the loop and once behind it, keeps it from
-// being inlined: in one loop over rows of one area the compiler asks once for all rows whether they overlap, and then leaves vector code (docs/PROVING.md).
+// One turn of the columns back: the low row after high row r, where there is one, and then row r. That it is called twice, in the loop and once behind it, keeps
+// it from being inlined: in one loop over rows of one area the compiler asks once for all rows whether they overlap, and then leaves vector code
+// (docs/PROVING.md).
 pub fn unlift_pair(area: &mut [i32], stride: usize, width: usize, height: usize, r: usize)
-    requires { ⌜ (r < height) × (1 < height) ⌝ }
+    requires { ⌜ (r < height) × (1 < height) × Rows (length (now area)) stride width height ⌝ }
     ensures { λ _. ⌜ at (now (area .exit)) ≡
         pairChanged (unupdated wrap32) (unpredicted wrap32) (length (now (area .entry))) stride width height r (at (now (area .entry))) ⌝ }
 {
-    unupdate_next(area, stride, width, height, r);
-    rows::unpredict_row(area, stride, width, r, row_before(r), row_after(height, r));
+    let next = r + 1;
+    let before = row_before(r);
+    if height <= next {
+        rows::unpredict_row(area, stride, width, r, before, row_after(height, r));
+        return;
+    }
+    pairs::unlift_rows(
+        area,
+        stride,
+        width,
+        r,
+        next,
+        row_after(height, next),
+        before,
+    );
 }
 
 // Each row from halves into its own order, through one line for all of them; and whether each number of them lies from `low` to `high`.

@@ -33,20 +33,20 @@ mul-a c = omega (arith, room c)
 add-e : tie.Need-add-e Inv-loop μ-loop
 add-e c = omega (arith, room c)
 
-mul-all-between : tie.Need-mul-all-between Inv-loop μ-loop
-mul-all-between c = omega (arith, room c)
+mul-all-heights : tie.Need-mul-all-heights Inv-loop μ-loop
+mul-all-heights c = omega (arith, room c)
 
-sub-all-between : tie.Need-sub-all-between Inv-loop μ-loop
-sub-all-between c = omega arith
+sub-all-heights : tie.Need-sub-all-heights Inv-loop μ-loop
+sub-all-heights c = omega arith
 
-part-all-between-start : tie.Need-part-all-between-start Inv-loop μ-loop
-part-all-between-start c = omega arith
+part-all-heights-start : tie.Need-part-all-heights-start Inv-loop μ-loop
+part-all-heights-start c = omega arith
 
-part-all-between-end : tie.Need-part-all-between-end Inv-loop μ-loop
-part-all-between-end c = omega (arith, room (c .before))
+part-all-heights-end : tie.Need-part-all-heights-end Inv-loop μ-loop
+part-all-heights-end c = omega (arith, room (c .before))
 
-all-between-requires : tie.Need-all-between-requires Inv-loop μ-loop
-all-between-requires c κs = search needs
+all-heights-requires : tie.Need-all-heights-requires Inv-loop μ-loop
+all-heights-requires c κs = tt
 
 same-length : tie.Need-same-length Inv-loop μ-loop
 same-length c = let head = c .before .before .before .before .before in head .loop .inv .rows .size
@@ -66,7 +66,7 @@ returns c =
     let w = args .width in
     let a = head .loop .r * w in
     finish-no (side (args .x) w) _ _ _ _ _ (head .loop .heights) (head .loop .inv) (a + w - a) (omega arith) (row .loop-test .taken) _
-    (test .all-between .ensures) (not-true _ (c .if1 .taken))
+    (test .all-heights .ensures) (not-true _ (c .if1 .taken))
 
 mul-finish-row : tie.Need-mul-finish-row Inv-loop μ-loop
 mul-finish-row c = omega (arith, room (c .before .before .before .before))
@@ -106,7 +106,7 @@ finish-row-requires c κs =
     let inv = head .loop .inv in (
       row-length w w (args .height) _ _ i (a + w - a) _ (omega arith) (row .loop-test .taken) (inv .rows)
           ∙ sym (swept-length (head .loop .heights) (inv .heights) (a + w - a) (omega arith) (row .loop-test .taken)),
-      row-heights _ _ (sym (test .all-between .ensures) ∙ not-false _ (good .if1 .left)),
+      row-heights _ _ (sym (test .all-heights .ensures) ∙ not-false _ (good .if1 .left)),
     )
 
 add-r : tie.Need-add-r Inv-loop μ-loop
@@ -127,7 +127,7 @@ loop-again c =
     let w = args .width in
     let a = head .loop .r * w in
     finish-turn (side (args .x) w) _ _ _ _ _ (head .loop .heights) (head .loop .inv) (a + w - a) (omega arith) (row .loop-test .taken) _
-    (test .all-between .ensures) (done .finish-row .last .0) (done .finish-row .last .1 .1 .0) (not-false _ (good .if1 .left))
+    (test .all-heights .ensures) (done .finish-row .last .0) (done .finish-row .last .1 .1 .0) (not-false _ (good .if1 .left))
     (done .finish-row .kept .0) (done .finish-row .kept .1 .1 .0) (done .finish-row .ensures .0) (done .finish-row .ensures .1)
 
 same-length-3 : tie.Need-same-length-3 Inv-loop μ-loop
@@ -148,11 +148,11 @@ finish-rows-spec =
     loop-holds
     mul-a
     add-e
-    mul-all-between
-    sub-all-between
-    part-all-between-start
-    part-all-between-end
-    all-between-requires
+    mul-all-heights
+    sub-all-heights
+    part-all-heights-start
+    part-all-heights-end
+    all-heights-requires
     same-length
     same-length-2
     returns

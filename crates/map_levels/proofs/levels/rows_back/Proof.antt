@@ -67,7 +67,11 @@ fetch-row-requires-2 c κs =
     (room-kept (three .fetch-row .kept .1 .0 ∙ inv .4) (inv .5), turn .loop-test .taken, inv .6)
 
 unlift-pair-requires : tie.Need-unlift-pair-requires Inv-loop μ-loop
-unlift-pair-requires c κs = let inv = c .before .before .before .before .before .before .before .before .loop .inv in (inv .1, inv .2)
+unlift-pair-requires c κs =
+    let four = c .before .before in
+    let three = four .before .before .before in
+    let inv = three .before .before .before .loop .inv in
+    (inv .1, inv .2, rows-kept (four .fetch-row2 .kept .1 .0 ∙ three .fetch-row .kept .1 .0 ∙ inv .4) (inv .5 .work))
 
 add-r : tie.Need-add-r Inv-loop μ-loop
 add-r c = let four = c .before .before .before .before in omega (arith, add-fetch-row-2 (four .before))
@@ -101,7 +105,10 @@ fetch-last-requires : tie.Need-fetch-last-requires Inv-loop μ-loop
 fetch-last-requires c κs = let inv = c .before .before .loop .inv in (room-kept (inv .4) (inv .5), inv .6)
 
 unlift-pair-requires-2 : tie.Need-unlift-pair-requires-2 Inv-loop μ-loop
-unlift-pair-requires-2 c κs = let inv = c .before .before .before .before .before .loop .inv in (inv .1, inv .2)
+unlift-pair-requires-2 c κs =
+    let last = c .before .before in
+    let inv = last .before .before .before .loop .inv in
+    (inv .1, inv .2, rows-kept (last .fetch-last .kept .1 .0 ∙ inv .4) (inv .5 .work))
 
 same-length : tie.Need-same-length Inv-loop μ-loop
 same-length c =
