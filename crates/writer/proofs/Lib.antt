@@ -26,3 +26,4 @@ pub mod OfferLaws
 pub mod RangesKept
 pub mod RunLaws
 pub mod RunSets
+pub mod RunList

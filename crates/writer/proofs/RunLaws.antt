@@ -114,7 +114,7 @@ moved-finished zero s x = moving-finished s x
 moved-finished (suc v) s x = refl
 
 -- what is seen of a draw that hands out a row, noted
-note-draw : (p : Run) (s : Writer) (a c : Area) (y : Memory) (q : Reply Handed) (b : BandRow) (v : Writer) → q ≡ gives (aRow b v) →
+pub note-draw : (p : Run) (s : Writer) (a c : Area) (y : Memory) (q : Reply Handed) (b : BandRow) (v : Writer) → q ≡ gives (aRow b v) →
     noted p (record { writer = left (after s) s q; store = y }) (drew a (seen given q) c) ≡
     record {
       world = record { writer = v; store = y };
@@ -237,7 +237,7 @@ next-waits s n x q h some reach p i ep ei more = drew-still s x (withLeft s i) x
     go true e = drew-waits s x x _ there e some
 
 -- ---- an offer
-note-offer : (p : Run) (s : Writer) (run : List ℕ) (y : Memory) (q : Reply Took) (j : ℕ) (v : Writer) → q ≡ gives (record { taken = j; writer = v }) →
+pub note-offer : (p : Run) (s : Writer) (run : List ℕ) (y : Memory) (q : Reply Took) (j : ℕ) (v : Writer) → q ≡ gives (record { taken = j; writer = v }) →
     noted p (record { writer = left (λ t. t .writer) s q; store = y }) (offered run (seen (λ t. t .taken) q)) ≡
     record {
       world = record { writer = v; store = y };

@@ -15,6 +15,7 @@ pub mod Closing
 pub mod Taking
 pub mod Spare
 pub mod Runs
+pub mod RunLists
 -- The writer before it carried an offset: the reference of a theorem.
 pub mod Before
 -- Cited by private functions alone: how the code goes about it. Nothing here needs to be believed.
