@@ -195,7 +195,8 @@ module _ (n k m : ℕ) (d : Counts) (s : Writer) (x z : Memory) (l : List ℕ) (
       after-it = ap (λ c. noted p (next c (p .world)) (event c (p .world))) call
 
       note-it : noted p (next (draw n lent) (p .world)) (event (draw n lent) (p .world)) ≡
-          runAt (oneMore d (r .length)) v (drawStore s n room x) (joinAt (d .numbers) z (drawArea s n room x (rest (d .numbers) z))) (named (d .rows) (rowAt r) l)
+          runAt (oneMore d (r .length)) v (drawStore s n room x) (joinAt (d .numbers) z (drawArea s n room x (rest (d .numbers) z))) (named (d .rows)
+          (rowAt r) l)
       unfolding next event
       note-it = note-draw p s lent _ (drawStore s n room x) (drawReply s n room x) (rowAt r) v (sym (reply .0))
 
@@ -208,7 +209,8 @@ module _ (n k m : ℕ) (d : Counts) (s : Writer) (x z : Memory) (l : List ℕ) (
       becomes : afterCall n hs k m p ≡ runAt (oneMore d (r .length)) v x′ z′ l′
       becomes =
           after-it ∙ note-it
-          ∙ ap (λ (y : Memory). runAt (oneMore d (r .length)) v y (joinAt (d .numbers) z (drawArea s n room x (rest (d .numbers) z))) (named (d .rows) (rowAt r) l))
+          ∙ ap (λ (y : Memory). runAt (oneMore d (r .length)) v y (joinAt (d .numbers) z (drawArea s n room x (rest (d .numbers) z))) (named (d .rows)
+          (rowAt r) l))
           (sym (reply .1))
           ∙ ap₂ (λ (y : Memory) (o : List ℕ). runAt (oneMore d (r .length)) v x′ y o) area-is names-are
 

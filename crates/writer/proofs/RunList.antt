@@ -1,4 +1,5 @@
--- A run is the list of its calls: `run-is-list`, whatever the state; and demand 3 of lists of runs and single calls: `demand-3-runs`. Assumes nothing.
+-- A run is the list of its calls: `run-is-list`, whatever the state; it ends where no call is due: `run-ends`; and demand 3 of lists of runs and single
+-- calls: `demand-3-runs`. Assumes nothing.
 use mathlib.Core.Path.{_≡_, refl, sym, ap, ap₂, subst, _∙_, fun-ext}
 use mathlib.Core.Bool.{Bool, true, false}
 use mathlib.Core.List.{List, [], _∷_, _++_, append-assoc}
@@ -8,7 +9,7 @@ use native.Mathlib.Omega.{arith}
 use lib.Dec.{eqb, ltb, leb}
 use lib.ListN.{length, take, drop, length-take, length-drop, length-append, take-append-drop}
 use lib.Seq.{take-take, drop-drop, take-append-add, drop-append-add, length-take-le}
-use borrow.Author.Tests.{eqb-true, ltb-true, eq-eqb, ne-eqb}
+use borrow.Author.Tests.{eqb-true, ltb-true, le-ltb, eq-eqb, ne-eqb}
 use Rattle.numbers.specs.Signal.{pick, both}
 use Rattle.numbers.proofs.Sweep as sweep
 use Rattle.lifting.specs.Grid.{Side}
@@ -30,6 +31,7 @@ use Rattle.writer.specs.History.{taken, DrawnRow, drawn}
 use Rattle.writer.specs.Demand3.{Demand3}
 use Rattle.writer.specs.Runs.{Run, named, noted, rowLeft, areaLeft, callOf, due, afterCall, ran, calls, begin, runOf, runCalls}
 use Rattle.writer.specs.RunLists.{laid, total, listed, IsList, Piece, allCalls}
+use Rattle.writer.proofs.CallLaws.{offer-sound, offer-takes}
 use Rattle.writer.proofs.DrawLaws.{join-rest}
 use Rattle.writer.proofs.Demand3.{demand-3}
 
@@ -354,6 +356,69 @@ module _ (n : ℕ) (hs : List ℕ) (k m : ℕ) where
               | yes h ↦ drew-one d h g
               | no h ↦ took-one d (omega arith) g
             ]
+
+-- ---- a call that is made takes a height or puts a name, so the run ends where no call is due, and not for want of calls
+took-some : (K : LevelKind) (run : List ℕ) (s : Writer) (x : Memory) → takes s ≡ true → 0 < length run → 0 < offering K run s x .taken
+unfolding offering
+took-some K [] s x t h = absurd (omega arith)
+took-some K (i ∷ run) s x t h = rw t (omega arith)
+
+module _ (n : ℕ) (hs : List ℕ) (k m : ℕ) where
+  -- what is left of heights and of room for names
+  abbrev over-left : Run → ℕ
+  over-left p = length hs - p .taken + (m - p .rows)
+
+  none-left : (p : Run) → over-left p ≡ 0 → due n hs k m p ≡ false
+  unfolding due
+  none-left p h = rw (le-ltb (p .taken) (length hs) (omega arith), le-ltb (p .rows) m (omega arith)) (go (eqb (p .world .writer .level) 0))
+    where
+      go : (t : Bool) → pick t false false ≡ false
+      go true = refl
+      go false = refl
+
+  module _ (p : Run) (d : due n hs k m p ≡ true) (h : p .world .writer .level ≡ 0) where
+    heights-left : p .taken < length hs
+    unfolding due
+    heights-left =
+        let e : both (ltb (p .taken) (length hs)) (eqb (offerQuestion (p .world .writer) n (length (rowLeft n hs k m p))) 0) ≡ true =
+        sym (ap (λ (t : Bool). pick t (both (ltb (p .taken) (length hs)) (eqb (offerQuestion (p .world .writer) n (length (rowLeft n hs k m p))) 0))
+        (both (ltb (p .rows) m) (eqb (drawQuestion (p .world .writer) n (k - p .numbers)) 0))) (eq-eqb (p .world .writer .level) 0 h)) ∙ d in
+        ltb-true _ _ (sweep.both (ltb (p .taken) (length hs)) _ e .0)
+
+    took-one-more : 0 < took-count n hs k m p d h
+    took-one-more =
+        let q = passes-offer n hs k m p d h in
+        let w = p .world .writer in
+        let c = offer-sound w n (length (rowLeft n hs k m p)) q .column h in
+        let some : 0 < length (rowLeft n hs k m p) =
+        simp (length-take, length-drop) (omega (arith, heights-left, c)) in
+        took-some (kind w) (rowLeft n hs k m p) w (p .world .store) (offer-takes w n (length (rowLeft n hs k m p)) q h some) some
+
+  ran-over : (f : ℕ) (p : Run) → over-left p ≤ f → due n hs k m (ran n hs k m f p) ≡ false
+  unfolding ran
+  ran-over zero p h = none-left p (omega arith)
+  ran-over (suc f) p h = go (due n hs k m p) refl (λ y. ran-over f (afterCall n hs k m p) y)
+    where
+      less : due n hs k m p ≡ true → over-left (afterCall n hs k m p) ≤ f
+      less d =
+          elim (decLt 0 (p .world .writer .level)) [
+            | yes g ↦
+                let e = after-draw n hs k m p d g in
+                omega (arith, draw-tests n hs k m p d g .0, ap (λ (q : Run). q .taken) e, ap (λ (q : Run). q .rows) e)
+            | no g ↦
+                let z : p .world .writer .level ≡ 0 = omega arith in
+                let e = after-offer n hs k m p d z in
+                omega (arith, heights-left p d z, took-one-more p d z, ap (λ (q : Run). q .taken) e, ap (λ (q : Run). q .rows) e)
+          ]
+
+      go : (t : Bool) → due n hs k m p ≡ t → (over-left (afterCall n hs k m p) ≤ f → due n hs k m (ran n hs k m f (afterCall n hs k m p)) ≡ false) →
+          due n hs k m (pick t (ran n hs k m f (afterCall n hs k m p)) p) ≡ false
+      go false d i = d
+      go true d i = i (less d)
+
+pub run-ends : (s : Writer) (n : ℕ) (hs : List ℕ) (k : ℕ) (x z : Memory) (l : List ℕ) → due n hs k (length l / 4) (runOf s n hs k x z l) ≡ false
+unfolding runOf
+run-ends s n hs k x z l = ran-over n hs k (length l / 4) (length hs + length l / 4) (begin s x z l) (omega arith)
 
 -- ---- the theorem: whatever the state and whatever was lent
 pub run-is-list : (s : Writer) (n : ℕ) (hs : List ℕ) (k : ℕ) (x z : Memory) (l : List ℕ) →

@@ -29,18 +29,22 @@ waiting-requires : tie.Need-waiting-requires Inv-loop μ-loop
 waiting-requires c κs = put-waits _ _ _ _ _ _ _ _ _ _ _ (c .before .before .loop .inv) _ (c .with-left .ensures)
 
 put-row-requires : tie.Need-put-row-requires Inv-loop μ-loop
-put-row-requires c κs = put-room _ _ _ _ _ _ _ _ _ _ _ (c .before .before .before .before .before .loop .inv) _ (c .before .before .before .with-left .ensures) _ (c .before .before .waiting .ensures)
+put-row-requires c κs = put-room _ _ _ _ _ _ _ _ _ _ _ (c .before .before .before .before .before .loop .inv) _
+    (c .before .before .before .with-left .ensures) _ (c .before .before .waiting .ensures)
 
 same-length : tie.Need-same-length Inv-loop μ-loop
-same-length c = c .before .before .before .before .put-row .kept .1 .1 .0 ∙ c .before .before .before .before .before .before .before .before .before .before .loop .inv .size
+same-length c = c .before .before .before .before .put-row .kept .1 .1 .0 ∙ c .before .before .before .before .before .before .before .before .before
+    .before .loop .inv .size
 
 same-length-2 : tie.Need-same-length-2 Inv-loop μ-loop
-same-length-2 c = c .before .before .before .before .put-row .kept .1 .1 .1 .0 ∙ c .before .before .before .before .before .before .before .before .before .before .loop .inv .names-size
+same-length-2 c = c .before .before .before .before .put-row .kept .1 .1 .1 .0 ∙ c .before .before .before .before .before .before .before .before
+    .before .before .loop .inv .names-size
 
 returns : tie.Need-returns Inv-loop μ-loop
 returns c = let p = c .before .before .before .before in
     let w = c .before .before .before .before .before .before .before in
-    put-stops _ _ _ _ _ _ _ _ _ _ _ (c .before .before .before .before .before .before .before .before .before .before .loop .inv) _ (w .before .with-left .ensures) _ (w .waiting .ensures) _ (p .put-row .ensures .0)
+    put-stops _ _ _ _ _ _ _ _ _ _ _ (c .before .before .before .before .before .before .before .before .before .before .loop .inv) _
+    (w .before .with-left .ensures) _ (w .waiting .ensures) _ (p .put-row .ensures .0)
     (p .put-row .last .1 .1 .0) (p .put-row .last .1 .1 .1 .0) (p .put-row .ensures .1 .0)
     (p .put-row .ensures .1 .1 .0) (not-true _ (c .if1 .taken))
 
@@ -54,14 +58,18 @@ next-band-requires-2 : tie.Need-next-band-requires-2 Inv-loop μ-loop
 next-band-requires-2 c κs = tt
 
 loop-less : tie.Need-loop-less Inv-loop μ-loop
-loop-less c = put-less _ _ _ _ _ _ (c .before .before .before .before .before .before .before .before .before .before .before .before .loop-test .taken) (c .before .minus2 .ensures) (c .next-band2 .ensures)
+loop-less c = put-less _ _ _ _ _ _ (c .before .before .before .before .before .before .before .before .before .before .before .before .loop-test
+    .taken) (c .before .minus2 .ensures) (c .next-band2 .ensures)
 
 loop-again : tie.Need-loop-again Inv-loop μ-loop
 loop-again c = let p = c .before .before .before .before .before .before .before in
     let w = c .before .before .before .before .before .before .before .before .before .before in
-    put-more _ _ _ _ _ _ _ _ _ _ _ (c .before .before .before .before .before .before .before .before .before .before .before .before .before .loop .inv) _ (w .before .with-left .ensures) _ (w .waiting .ensures) _ (p .put-row .ensures .0)
+    put-more _ _ _ _ _ _ _ _ _ _ _ (c .before .before .before .before .before .before .before .before .before .before .before .before .before .loop
+    .inv) _ (w .before .with-left .ensures) _ (w .waiting .ensures) _ (p .put-row .ensures .0)
     (p .put-row .last .1 .1 .0) (p .put-row .last .1 .1 .1 .0) (p .put-row .ensures .1 .0)
-    (p .put-row .ensures .1 .1 .0) (not-false _ (c .before .before .before .if1 .left)) (c .before .before .before .before .before .before .before .before .before .before .before .before .loop-test .taken) _ (c .before .before .one-more .ensures) _ _ (c .before .minus2 .ensures)
+    (p .put-row .ensures .1 .1 .0) (not-false _ (c .before .before .before .if1 .left))
+    (c .before .before .before .before .before .before .before .before .before .before .before .before .loop-test .taken) _
+    (c .before .before .one-more .ensures) _ _ (c .before .minus2 .ensures)
     (c .next-band2 .ensures) (p .put-row .kept .1 .1 .0) (p .put-row .kept .1 .1 .1 .0)
 
 same-length-3 : tie.Need-same-length-3 Inv-loop μ-loop

@@ -24,14 +24,16 @@ loop-less : tie.Need-loop-less Inv-loop μ-loop
 loop-less c = let t = c .before .before .before .before in
     let g = c .before .before .before .before .before .before .before .before .before in
     going-less _ _ _ _ _ _ _ _ _ _ _ _ (g .loop .inv) (t .one-turn .last .1 .0) (t .one-turn .last .1 .1 .1 .0) (t .one-turn .last .1 .1 .1 .1 .0)
-    (t .one-turn .result .done) (t .one-turn .result .writer) (t .one-turn .result .on) (t .one-turn .ensures) (t .one-turn .kept .1 .0) (t .one-turn .kept .1 .1 .1 .0)
+    (t .one-turn .result .done) (t .one-turn .result .writer) (t .one-turn .result .on) (t .one-turn .ensures) (t .one-turn .kept .1 .0)
+    (t .one-turn .kept .1 .1 .1 .0)
     (t .one-turn .kept .1 .1 .1 .1 .0) (c .before .before .before .before .before .before .before .before .loop-test .taken)
 
 loop-again : tie.Need-loop-again Inv-loop μ-loop
 loop-again c = let t = c .before .before .before .before in
     let g = c .before .before .before .before .before .before .before .before .before in
     going-on _ _ _ _ _ _ _ _ _ _ _ _ (g .loop .inv) (t .one-turn .last .1 .0) (t .one-turn .last .1 .1 .1 .0) (t .one-turn .last .1 .1 .1 .1 .0)
-    (t .one-turn .result .done) (t .one-turn .result .writer) (t .one-turn .result .on) (t .one-turn .ensures) (t .one-turn .kept .1 .0) (t .one-turn .kept .1 .1 .1 .0)
+    (t .one-turn .result .done) (t .one-turn .result .writer) (t .one-turn .result .on) (t .one-turn .ensures) (t .one-turn .kept .1 .0)
+    (t .one-turn .kept .1 .1 .1 .0)
     (t .one-turn .kept .1 .1 .1 .1 .0)
 
 same-length : tie.Need-same-length Inv-loop μ-loop

@@ -34,7 +34,8 @@ same-length-4 : tie.Need-same-length-4
 same-length-4 c = c .before .before .before .before .draw-set .kept .1 .1 .1 .0
 
 returns-2 : tie.Need-returns-2
-returns-2 c = set-turned _ _ _ _ _ _ _ (c .before .before .before .before .before .before .before .before .before .before .before .before .pre .2) (c .before .before .before .before .draw-set .ensures)
+returns-2 c = set-turned _ _ _ _ _ _ _ (c .before .before .before .before .before .before .before .before .before .before .before .before .pre .2)
+    (c .before .before .before .before .draw-set .ensures)
 
 pub one-turn-spec : {M : Type 1} → statement M
 one-turn-spec =

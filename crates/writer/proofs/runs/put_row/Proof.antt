@@ -20,12 +20,22 @@ sub-if1 : tie.Need-sub-if1
 sub-if1 c = search needs
 
 returns : tie.Need-returns
-returns c = let a = c .before .before .before .args in
-    (no-numbers (a .r .length) (length (a .out .now) - a .done .numbers) (ltb (a .done .rows) (length (a .names .now) / 4)) (omega arith), (refl, (refl, λ f. false-true f)))
+returns c = let a = c .before .before .before .args in (
+  no-numbers (a .r .length) (length (a .out .now) - a .done .numbers) (ltb (a .done .rows) (length (a .names .now) / 4)) (omega arith),
+  (
+    refl,
+    (refl, λ f. false-true f),
+  ),
+)
 
 returns-2 : tie.Need-returns-2
-returns-2 c = let a = c .before .before .before .before .before .args in
-    (no-name (leb (a .r .length) (length (a .out .now) - a .done .numbers)) (a .done .rows) (length (a .names .now) / 4) (omega arith), (refl, (refl, λ f. false-true f)))
+returns-2 c = let a = c .before .before .before .before .before .args in (
+  no-name (leb (a .r .length) (length (a .out .now) - a .done .numbers)) (a .done .rows) (length (a .names .now) / 4) (omega arith),
+  (
+    refl,
+    (refl, λ f. false-true f),
+  ),
+)
 
 mul-b : tie.Need-mul-b
 mul-b c = search needs
@@ -72,8 +82,13 @@ returns-3 c = let a = c .before .before .before .before .before .before .before 
     let h = c .before .before .before .before .before in
     let p = c .before .before in
     let one : a .done .rows + 1 < 2 ^ 64 = omega (arith, mul-b (c .before .before .before .before .before .before .before)) in
-    let two : a .done .numbers + a .r .length < 2 ^ 64 = omega (arith, c .before .before .before .before .before .before .before .before .before .before .before .before .before .good .1 .1 .0 .1) in (
-      sym (simp (le-leb (a .r .length) (length (a .out .now) - a .done .numbers) (omega arith), lt-ltb (a .done .rows) (length (a .names .now) / 4) (omega arith))),
+    let two : a .done .numbers + a .r .length < 2 ^ 64 = omega
+    (arith, c .before .before .before .before .before .before .before .before .before .before .before .before .before .good .1 .1 .0 .1) in (
+      sym (simp (
+        le-leb (a .r .length) (length (a .out .now) - a .done .numbers) (omega arith),
+        lt-ltb (a .done .rows) (length (a .names .now) / 4)
+            (omega arith),
+      )),
       (
         at-join (a .done .numbers) (a .out .now) (h .hand-out .last .1 .1 .1 .0) (omega arith)
             ∙ ap (joinAt (a .done .numbers) (at (a .out .now)))

@@ -47,7 +47,8 @@ same-length-3 : tie.Need-same-length-3
 same-length-3 c = c .before .before .before .before .before .before .before .before .before .before .go .kept .1 .1 .1 .1 .0
 
 returns-2 : tie.Need-returns-2
-returns-2 c = let a = c .before .before .before .before .before .before .before .before .before .before .before .before .before .before .before .before .before .before .args in
+returns-2 c = let a = c .before .before .before .before .before .before .before .before .before .before .before .before .before .before .before
+    .before .before .before .args in
     let q : runQuestion (a .s) (length (a .store .now)) (length (a .heights .now)) ≡ 0 = omega arith in
     let g = c .before .before .before .before .before .before .before .before .before .before in
     let e = run-idle (a .s) (length (a .store .now)) (a .heights .now) (length (a .out .now)) (at (a .store .now)) (at (a .out .now)) (a .names .now) _
@@ -72,7 +73,8 @@ same-length-6 : tie.Need-same-length-6
 same-length-6 c = c .before .before .before .before .before .before .before .before .before .before .go .kept .1 .1 .1 .1 .0
 
 returns-3 : tie.Need-returns-3
-returns-3 c = let a = c .before .before .before .before .before .before .before .before .before .before .before .before .before .before .before .before .before .before .args in
+returns-3 c = let a = c .before .before .before .before .before .before .before .before .before .before .before .before .before .before .before
+    .before .before .before .args in
     let q : runQuestion (a .s) (length (a .store .now)) (length (a .heights .now)) ≡ 0 = omega arith in
     let g = c .before .before .before .before .before .before .before .before .before .before in
     let e = run-none (a .s) (length (a .store .now)) (a .heights .now) (length (a .out .now)) (at (a .store .now)) (at (a .out .now)) (a .names .now) _
@@ -97,7 +99,8 @@ same-length-9 : tie.Need-same-length-9
 same-length-9 c = c .before .before .before .before .before .before .before .before .go .kept .1 .1 .1 .1 .0
 
 returns-4 : tie.Need-returns-4
-returns-4 c = let a = c .before .before .before .before .before .before .before .before .before .before .before .before .before .before .before .before .args in
+returns-4 c = let a = c .before .before .before .before .before .before .before .before .before .before .before .before .before .before .before
+    .before .args in
     let q : runQuestion (a .s) (length (a .store .now)) (length (a .heights .now)) ≡ 0 = omega arith in
     let g = c .before .before .before .before .before .before .before .before in
     let e = run-went (a .s) (length (a .store .now)) (a .heights .now) (length (a .out .now)) (at (a .store .now)) (at (a .out .now)) (a .names .now) _

@@ -22,7 +22,8 @@ returns c = let n = c .before in
     let s = n .before .before .before in
     let p = s .pre in
     let a = s .args in
-    λ k m z l h g. no-offer (length (a .store .now)) (a .heights .now) k m (a .done) (a .s) (at (a .store .now)) z l (record { sound = p .0; numbers = h; rows = g }) (p .1) (p .2) (p .3) _ (n .next .ensures) (omega arith)
+    λ k m z l h g. no-offer (length (a .store .now)) (a .heights .now) k m (a .done) (a .s) (at (a .store .now)) z l
+    (record { sound = p .0; numbers = h; rows = g }) (p .1) (p .2) (p .3) _ (n .next .ensures) (omega arith)
 
 add-e : tie.Need-add-e
 add-e c = let n = c .before in
@@ -61,7 +62,8 @@ returns-2 c = let n = c .before .before .before .before .before in
     let p = s .pre in
     let e : a .done .taken + n .next .result - a .done .taken ≡ n .next .result = omega arith in
     λ k m z l h g.
-    one-offer (length (a .store .now)) (a .heights .now) k m (a .done) (a .s) (at (a .store .now)) z l (record { sound = p .0; numbers = h; rows = g }) (p .1) (p .2) (p .3) _ (n .next .ensures) (omega arith)
+    one-offer (length (a .store .now)) (a .heights .now) k m (a .done) (a .s) (at (a .store .now)) z l
+    (record { sound = p .0; numbers = h; rows = g }) (p .1) (p .2) (p .3) _ (n .next .ensures) (omega arith)
     _ (ap (λ (i : ℕ). take i (drop (a .done .taken) (a .heights .now))) e) _ _ _ (c .before .stretch .ensures)
 
 pub take-row-spec : {M : Type 1} → statement M
