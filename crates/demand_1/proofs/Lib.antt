@@ -4,3 +4,4 @@ pub mod Readers
 pub mod Maps
 pub mod Lines
 pub mod Rounding
+pub mod Runs
