@@ -8,9 +8,10 @@
 
 static size_t W, H, n;
 static uint16_t *heights, *back;
-static int32_t *plane, *other, *work, *store;
+static int32_t *plane, *other, *packed, *work, *store;
 static size_t store_len, *starts, rows;
-static uint64_t state[16];
+static uint64_t state[16], *names;
+static size_t names_len;
 static terrain_shape shape;
 
 static void check(uint32_t answer)
@@ -49,6 +50,35 @@ static void writer(void)
     }
     check(terrain_writer_finish(state, store, store_len));
     draw_all(&k);
+}
+
+/* many rows a call: heights of 64 rows, and what they make one after the other */
+static size_t run_on(size_t taken, size_t count, size_t *put)
+{
+    uint64_t counts[3];
+    check(terrain_writer_run(state, store, store_len, heights + taken, count, packed + *put, n - *put, names + 4 * rows, names_len - 4 * rows, counts));
+    rows += counts[1], *put += counts[2];
+    return counts[0];
+}
+
+static void writer_run(void)
+{
+    size_t taken = 0, put = 0;
+    rows = 0;
+    check(terrain_writer_set_up(state, shape, store, store_len));
+    while (taken < n) taken += run_on(taken, n - taken < 64 * W ? n - taken : 64 * W, &put);
+    check(terrain_writer_finish(state, store, store_len));
+    run_on(taken, 0, &put);
+}
+
+/* each row to its place in the plane, by its name */
+static void spread(void)
+{
+    size_t start, length, put = 0;
+    for (size_t k = 0; k < rows; k++, put += length) {
+        check(terrain_band_row(n, shape, names[4 * k], names[4 * k + 1], names[4 * k + 2], &start, &length));
+        memcpy(other + start, packed + put, length * sizeof *other);
+    }
 }
 
 static void reader(void)
@@ -131,6 +161,7 @@ static const struct {
     { "forward", nothing, forward, 0 },          { "backward", nothing, backward, 1 },
     { "fused-forward", nothing, plain_c_forward, 0 }, { "fused-backward", nothing, plain_c_backward, 1 },
     { "writer", find_written, writer, 0 },       { "reader", find_read, reader, 1 },
+    { "writer-run", nothing, writer_run, 0 },
 };
 
 __attribute__((noinline)) void counted(void (*run)(void))
@@ -144,7 +175,8 @@ static void prepare(void)
     uint32_t seed = 1;
     n = W * H, shape = shape_of(W, H), store_len = terrain_store_length(shape);
     heights = area(n * sizeof *heights), back = area(n * sizeof *back);
-    plane = area(n * sizeof *plane), other = area(n * sizeof *other), work = area(n * sizeof *work);
+    plane = area(n * sizeof *plane), other = area(n * sizeof *other), packed = area(n * sizeof *packed), work = area(n * sizeof *work);
+    names_len = 4 * (8 * H + 64), names = area(names_len * sizeof *names);
     store = area(store_len * sizeof *store), starts = area((8 * H + 64) * sizeof *starts);
     for (size_t i = 0; i < n; i++) heights[i] = (uint16_t)((seed = seed * 1664525u + 1013904223u) >> 16);
     proved_forward(heights, W, H, plane, work);
@@ -161,6 +193,7 @@ int main(int argc, char **argv)
         memset(other, 0, n * sizeof *other), memset(back, 0, n * sizeof *back);
         ways[k].run(); /* once before: the fused C takes its areas then */
         counted(ways[k].run);
+        if (ways[k].run == writer_run) spread();
         int differs = ways[k].makes_heights ? memcmp(heights, back, n * sizeof *back) : memcmp(plane, other, n * sizeof *plane);
         if (differs) fprintf(stderr, "count: %s: the results differ\n", argv[1]);
         return differs != 0;

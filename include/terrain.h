@@ -267,6 +267,17 @@ uint32_t terrain_writer_offer(uint64_t state[16], int32_t *store, size_t store_l
 TERRAIN_CHECKED
 uint32_t terrain_writer_draw(uint64_t state[16], int32_t *store, size_t store_len, int32_t *out, size_t out_len, uint64_t row[4]);
 
+/* Many rows at once: heights are taken, and the band rows that they make are put into `out` one after the other and their names, four numbers
+ * a row as in a draw's row, into `names`, until the heights are used up and nothing waits, 4,294,967,295 rows are complete, or the next row has no
+ * room in `out` or its name none in `names`. counts[0] says how many heights were taken, counts[1] how many rows were put and counts[2] how many
+ * numbers these have. State, store and areas are then what the same offers (each up to the end of the row begun) and draws leave, so runs and
+ * single calls can be mixed. After the finish a run without heights draws the rows that are left. A run that can do nothing is turned away.
+ * 1; 5; 9 (there are heights, and the map is finished already); 12 (a row waits, and `out` or `names` has no room for it); 10 (there are heights,
+ * nothing waits and 4,294,967,295 rows are complete). */
+TERRAIN_CHECKED
+uint32_t terrain_writer_run(uint64_t state[16], int32_t *store, size_t store_len, const uint16_t *heights, size_t heights_len,
+                            int32_t *out, size_t out_len, uint64_t *names, size_t names_len, uint64_t counts[3]);
+
 /* A look at the band row that waits, before it is drawn: level, band, number and length in row[0] to row[3], as the next draw will give them;
  * four zeros where nothing waits. With it the row's own place in a plane or file can be lent to the draw. Nothing is changed but row.
  * 1. */

@@ -1,6 +1,6 @@
 //! The writer against the independent transform and the independent order, by each filter.
 use std::sync::{Condvar, Mutex};
-use terrain::raw::State;
+use terrain::raw::{self, State};
 use terrain::{reader_store_length, store_length, Band, OwnedWriter, Shape, Writer};
 use terrain_tests::areas::Guarded;
 use terrain_tests::filter::{self, FILTERS, NINE_SEVEN};
@@ -773,4 +773,94 @@ fn a_store_scribbled_in_between_two_calls() {
             assert!(out.content().len() == width && store.is_unset_from(needed));
         }
     }
+}
+
+/// What is lent to a run of many rows, what it leaves there, and what it answers.
+#[derive(Clone, Debug, PartialEq)]
+struct Lent {
+    state: State,
+    store: Vec<i32>,
+    out: Vec<i32>,
+    names: Vec<u64>,
+    answer: Result<[usize; 3], u32>,
+}
+
+impl Lent {
+    /// By one call.
+    fn run(mut self, heights: &[u16]) -> Lent {
+        let mut counts = [7; 3];
+        let number = raw::writer_run(&mut self.state, &mut self.store, heights, &mut self.out, &mut self.names, &mut counts);
+        assert!(number == 0 || counts == [7; 3], "a refusal changes nothing");
+        self.answer = if number == 0 { Ok(counts.map(|n| n as usize)) } else { Err(number) };
+        self
+    }
+
+    /// By single calls: draws while a row waits and has room, as its name has, else offers up to the end of the row begun.
+    fn row_by_row(mut self, heights: &[u16], width: usize) -> Lent {
+        let [mut taken, mut rows, mut put] = [0; 3];
+        let (finished, column) = (self.state[5] == 1, 4);
+        if finished && !heights.is_empty() {
+            return Lent { answer: Err(9), ..self };
+        }
+        let none = loop {
+            match writer::waits(&self.state) {
+                Ok(Some(row)) if row.length <= self.out.len() - put && 4 * rows + 4 <= self.names.len() => {
+                    let drawn = writer::draw(&mut self.state, &mut self.store, &mut self.out[put..]);
+                    assert_eq!(drawn, Ok(Some(row)));
+                    self.names[4 * rows..4 * rows + 4].copy_from_slice(&[row.level, row.band, row.row, row.length].map(|n| n as u64));
+                    (rows, put) = (rows + 1, put + row.length);
+                }
+                Ok(Some(_)) => break 12,
+                Ok(None) if taken < heights.len() => {
+                    let end = heights.len().min(taken + width - self.state[column] as usize);
+                    let answer = writer::offer(&mut self.state, &mut self.store, &heights[taken..end]);
+                    assert_eq!(answer, Ok(end - taken), "up to the end of the row all are taken");
+                    taken = end;
+                }
+                other => break if other == Ok(None) { 0 } else { panic!("{other:?}") },
+            }
+        };
+        let answer = if taken + rows == 0 && none > 0 { Err(none) } else { Ok([taken, rows, put]) };
+        Lent { answer, ..self }
+    }
+}
+
+/// A call for many rows does what single calls do, wherever the runs and the areas are cut, and mixed with these: answer, counts, state, store,
+/// areas with their surplus.
+#[test]
+fn many_rows_at_once() {
+    let mut random = Random::new(41);
+    let mut seen = [0; 3];
+    for _ in 0..400 {
+        let filter = random.below(2) as u32;
+        let (width, height) = (1 + random.below(24), 1 + random.below(24));
+        let shape = Shape::new(width, height, 1 + random.below(4)).by(filter).at(random.below(4) as u16, random.below(4) as u16);
+        let heights: Vec<u16> = (0..width * height).map(|_| random.below(65_536) as u16).collect();
+        let (mut state, mut store) = ([0; 16], vec![0; store_length(shape) + SURPLUS]);
+        assert_eq!(writer::set_up(&mut state, shape, &mut store), Ok(()));
+        let (mut taken, mut done) = (0, false);
+        for _ in 0..200 {
+            // after the finish, sometimes heights that can no longer come
+            let from = if done && random.below(4) == 0 { 0 } else { taken };
+            let cut = from + random.below(heights.len() - from + 1).min(random.below(4 * width + 1));
+            let (out, names) = (random.below(3 * width + 2), 4 * random.below(9) + random.below(4));
+            let lent = Lent { state, store, out: vec![-7; out], names: vec![9; names], answer: Err(0) };
+            let run = lent.clone().run(&heights[from..cut]);
+            assert_eq!(run, lent.row_by_row(&heights[from..cut], width), "{shape:?}");
+            (state, store) = (run.state, run.store);
+            seen[run.answer.map_or_else(|q| if q == 9 { 1 } else { 2 }, |_| 0)] += 1;
+            taken += run.answer.map_or(0, |[heights, ..]| heights);
+            // and single calls between
+            if random.below(3) == 0 {
+                let end = taken + random.below(heights.len() - taken + 1).min(width);
+                taken += writer::offer(&mut state, &mut store, &heights[taken..end]).unwrap_or(0);
+            }
+            if random.below(3) == 0 {
+                writer::draw(&mut state, &mut store, &mut vec![0; width]).expect("room for any row");
+            }
+            done = done || taken == heights.len() && writer::finish(&mut state, &mut store).is_ok();
+        }
+        assert!(done || taken < heights.len() || writer::waits(&state).is_ok());
+    }
+    assert!(seen.iter().all(|&n| n > 100), "{seen:?}: runs that passed, that came after the finish and that had no room");
 }

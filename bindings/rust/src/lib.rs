@@ -66,7 +66,7 @@ pub use profile::profile;
 pub use question::{Call, Question};
 pub use reader::{Reader, Want};
 pub use turns::Turns;
-pub use writer::Writer;
+pub use writer::{Run, Writer};
 
 pub use owned::{OwnedReader, OwnedWriter};
 

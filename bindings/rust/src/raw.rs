@@ -135,6 +135,18 @@ mod c {
             out_len: usize,
             row: *mut [u64; 4],
         ) -> u32;
+        pub fn terrain_writer_run(
+            state: *mut [u64; 16],
+            store: *mut i32,
+            store_len: usize,
+            heights: *const u16,
+            heights_len: usize,
+            out: *mut i32,
+            out_len: usize,
+            names: *mut u64,
+            names_len: usize,
+            counts: *mut [u64; 3],
+        ) -> u32;
         pub fn terrain_writer_waits(state: *const [u64; 16], row: *mut [u64; 4]) -> u32;
         pub fn terrain_writer_finish(state: *mut [u64; 16], store: *mut i32, store_len: usize) -> u32;
         pub fn terrain_reader_set_up(state: *mut [u64; 16], shape: Shape, store: *mut i32, store_len: usize) -> u32;
@@ -280,6 +292,14 @@ pub fn writer_offer(state: &mut State, store: &mut [i32], run: &[u16], taken: &m
 
 pub fn writer_draw(state: &mut State, store: &mut [i32], out: &mut [i32], row: &mut [u64; 4]) -> u32 {
     unsafe { c::terrain_writer_draw(state, store.as_mut_ptr(), store.len(), out.as_mut_ptr(), out.len(), row) }
+}
+
+pub fn writer_run(state: &mut State, store: &mut [i32], heights: &[u16], out: &mut [i32], names: &mut [u64], counts: &mut [u64; 3]) -> u32 {
+    let (lent, count) = (store.as_mut_ptr(), store.len());
+    let (into, room) = (out.as_mut_ptr(), out.len());
+    unsafe {
+        c::terrain_writer_run(state, lent, count, heights.as_ptr(), heights.len(), into, room, names.as_mut_ptr(), names.len(), counts)
+    }
 }
 
 pub fn writer_waits(state: &State, row: &mut [u64; 4]) -> u32 {

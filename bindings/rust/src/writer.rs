@@ -2,6 +2,21 @@
 use crate::raw::{self, State};
 use crate::{BandRow, Call, Question, Shape};
 
+/// What a call for many rows did: the heights it took, the band rows it put and the numbers that these have.
+#[derive(Clone, Copy, Debug, PartialEq, Eq, Hash)]
+pub struct Run {
+    pub taken: usize,
+    pub rows: usize,
+    pub numbers: usize,
+}
+
+impl Run {
+    /// The rows that it put, in their order; `names` is the area that was lent to it.
+    pub fn names(self, names: &[u64]) -> impl Iterator<Item = BandRow> + '_ {
+        names.chunks_exact(4).take(self.rows).map(|n| BandRow::of([n[0], n[1], n[2], n[3]]))
+    }
+}
+
 /// A writer and the line store lent to it.
 #[derive(Debug)]
 pub struct Writer<'s> {
@@ -49,6 +64,16 @@ impl<'s> Writer<'s> {
         Question::of(Call::WriterDraw, raw::writer_draw(&mut self.state, self.store, out, &mut row))?;
         let row = BandRow::of(row);
         Ok((row.level > 0).then(|| (row, &out[..row.length])))
+    }
+
+    /// Many rows at once: takes heights and puts the band rows that they make into `out`, one after the other, each with the four numbers of its
+    /// name into `names` ([`Run::names`] reads them), until the heights are used up or the next row or its name has no room. It does what single
+    /// offers and draws do; where nothing can be done it is turned away, and nothing is changed.
+    pub fn run(&mut self, heights: &[u16], out: &mut [i32], names: &mut [u64]) -> Result<Run, Question> {
+        let mut counts = [0; 3];
+        Question::of(Call::WriterRun, raw::writer_run(&mut self.state, self.store, heights, out, names, &mut counts))?;
+        let [taken, rows, numbers] = counts.map(|n| n as usize);
+        Ok(Run { taken, rows, numbers })
     }
 
     /// The band row that the next draw gives, so that its own place in a plane or file can be lent to that draw; `None`: nothing waits.

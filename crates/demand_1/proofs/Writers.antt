@@ -14,7 +14,7 @@ use Rattle.wavelet.specs.Questions.{within}
 use Rattle.wavelet.specs.Asks.{Width, Known, Levels}
 use Rattle.wavelet.proofs.AskLaws.{width-exactly}
 use Rattle.filters.specs.Filters.{filterOf, isFilter}
-use Rattle.calls.specs.Lists.{Reply, gives, refused, unless, changedUnless}
+use Rattle.calls.specs.Lists.{Reply, gives, refused, unless, changedUnless, seen}
 use Rattle.level.specs.Level.{Memory}
 use Rattle.filters.specs.Figures.{storeBy, writerStoreBy, streamable}
 use Rattle.filters.proofs.PlainFigures.{known-exactly, levels-exactly, needed-is}
@@ -25,12 +25,14 @@ use Rattle.writer.specs.Questions.{setUpQuestion, offerQuestion, drawQuestion, 
 use Rattle.writer.specs.Calls.{setUpReply, setUpStore, offerReply, offerStore, drawReply, drawStore, drawArea, waitsReply, finishReply, finishStore}
 use Rattle.writer.proofs.SetUpPasses.{set-up-asks, set-up-passes}
 use Rattle.writer.proofs.Surplus.{offer-surplus, draw-surplus, finish-surplus}
-use Rattle.states.specs.WriterAnswers.{number, takenOf, rowOf}
+use Rattle.writer.specs.Runs.{Run, progress, runOf, runTurned, runReply, leftBy}
+use Rattle.states.specs.WriterAnswers.{number, takenOf, rowOf, ranWords, countsOf}
 use Rattle.states.specs.WriterState.{isWriter, writerOf}
 use Rattle.terrain.specs.WriterCalls as c
 use Rattle.demand_1.specs.Words.{Kept, Zeroed}
-use Rattle.demand_1.specs.Writers.{own, StoreLength, SetUp, Offer, Draw, Finish, COffer, CDraw, CLook, CFinish, WriterCalls}
+use Rattle.demand_1.specs.Writers.{own, StoreLength, SetUp, Offer, Draw, Finish, Many, COffer, CDraw, CLook, CFinish, CMany, WriterCalls}
 use Rattle.demand_1.proofs.WordLaws.{front-zeroed}
+use Rattle.demand_1.proofs.Runs.{run-surplus}
 
 -- ---- the number of an answer, and an area by it
 pub number-is : {A : Type 0} (q : ℕ) (a : A) → number (unless q a) ≡ q
@@ -191,6 +193,40 @@ c-finish-of s n x = record {
     q : ℕ
     q = finishQuestion (writerOf s) n
 
+many-answer : (w : Writer) (n : ℕ) (hs : List ℕ) (k : ℕ) (x z : Memory) (l : List ℕ) →
+    number (runReply w n hs k x z l) ≡ runTurned w n hs (runOf w n hs k x z l)
+unfolding runReply
+many-answer w n hs k x z l = number-is (runTurned w n hs (runOf w n hs k x z l)) _
+
+many-of : (w : Writer) (n : ℕ) (hs : List ℕ) (k : ℕ) (x z : Memory) (l : List ℕ) → Many w n hs k x z l
+many-of w n hs k x z l = record {
+  answer = many-answer w n hs k x z l;
+  surplus = λ j h. run-surplus w n hs k x z l j (past w h);
+  store = told-kept (leftBy (λ p. p .world .store) x) x (λ q. refl) (runReply w n hs k x z l);
+  area = told-kept (leftBy (λ p. p .area) z) z (λ q. refl) (runReply w n hs k x z l);
+  names = told-kept (leftBy (λ p. p .names) l) l (λ q. refl) (runReply w n hs k x z l);
+}
+
+c-many-of : (s : List ℕ) (n : ℕ) (hs : List ℕ) (k : ℕ) (x z : Memory) (l y : List ℕ) → CMany s n hs k x z l y
+unfolding runReply
+c-many-of s n hs k x z l y = record {
+  same = number-seen (c.ran s n hs k x z l);
+  other = other-one (isWriter s) q (runOf (writerOf s) n hs k x z l);
+  answer = own-number (isWriter s) q (runOf (writerOf s) n hs k x z l);
+  array = told-kept (λ r. ranWords (seen progress r) s) s (λ q. refl) (c.ran s n hs k x z l);
+  store = told-kept (leftBy (λ p. p .world .store) x) x (λ q. refl) (c.ran s n hs k x z l);
+  area = told-kept (leftBy (λ p. p .area) z) z (λ q. refl) (c.ran s n hs k x z l);
+  names = told-kept (leftBy (λ p. p .names) l) l (λ q. refl) (c.ran s n hs k x z l);
+  counts = told-kept (λ r. countsOf (seen progress r) y) y (λ q. refl) (c.ran s n hs k x z l);
+}
+  where
+    q : ℕ
+    q = runTurned (writerOf s) n hs (runOf (writerOf s) n hs k x z l)
+
+    number-seen : (r : Reply Run) → number (seen progress r) ≡ number r
+    number-seen (gives a) = refl
+    number-seen (refused q) = refl
+
 pub writer-calls : WriterCalls
 writer-calls = record {
   store-length = store-length-of;
@@ -203,4 +239,6 @@ writer-calls = record {
   c-draw = c-draw-of;
   c-look = c-look-of;
   c-finish = c-finish-of;
+  many = many-of;
+  c-many = c-many-of;
 }

@@ -16,7 +16,9 @@ use Rattle.writer.specs.Taking.{columnsOf}
 use Rattle.writer.specs.Asks.{writerNeeded, WriterSetUpAsks}
 use Rattle.writer.specs.Questions.{offerQuestion, drawQuestion, waitsQuestion, finishQuestion}
 use Rattle.writer.specs.Calls.{setUpReply, setUpStore, offerReply, offerStore, drawReply, drawStore, drawArea, waitsReply, finishReply, finishStore}
-use Rattle.states.specs.WriterAnswers.{number, takenOf, rowOf}
+use Rattle.calls.specs.Lists.{seen}
+use Rattle.writer.specs.Runs.{progress, runOf, runTurned, runReply, leftBy}
+use Rattle.states.specs.WriterAnswers.{number, takenOf, rowOf, ranWords, countsOf}
 use Rattle.states.specs.WriterState.{isWriter, writerOf}
 use Rattle.terrain.specs.WriterCalls as c
 use Rattle.demand_1.specs.Words.{Kept, Zeroed, Surplus}
@@ -51,6 +53,14 @@ pub record Finish (w : Writer) (n : ℕ) (x : Memory) : Type 0 where
   pub store : Kept (number (finishReply w n x)) x (finishStore w n x)
   pub surplus : Surplus (own w) x (finishStore w n x)
 
+-- a run of the heights hs, into an area of k numbers that holds z and an area for names that holds l
+pub record Many (w : Writer) (n : ℕ) (hs : List ℕ) (k : ℕ) (x z : Memory) (l : List ℕ) : Type 0 where
+  pub answer : number (runReply w n hs k x z l) ≡ runTurned w n hs (runOf w n hs k x z l)
+  pub store : Kept (number (runReply w n hs k x z l)) x (leftBy (λ p. p .world .store) x (runReply w n hs k x z l))
+  pub area : Kept (number (runReply w n hs k x z l)) z (leftBy (λ p. p .area) z (runReply w n hs k x z l))
+  pub names : Kept (number (runReply w n hs k x z l)) l (leftBy (λ p. p .names) l (runReply w n hs k x z l))
+  pub surplus : Surplus (own w) x (leftBy (λ p. p .world .store) x (runReply w n hs k x z l))
+
 -- ---- C's: an array that holds no writer gives 1; `taken` and `row` held z
 pub record COffer (s : List ℕ) (n : ℕ) (run : List ℕ) (x : Memory) (z : ℕ) : Type 0 where
   pub other : isWriter s ≡ false → number (c.offered s n run x) ≡ 1
@@ -79,6 +89,17 @@ pub record CFinish (s : List ℕ) (n : ℕ) (x : Memory) : Type 0 where
   pub array : Kept (number (c.finished s n x)) s (c.stateOf (c.finished s n x) s)
   pub store : Kept (number (c.finished s n x)) x (c.finishedStore s n x)
 
+-- `counts` held y
+pub record CMany (s : List ℕ) (n : ℕ) (hs : List ℕ) (k : ℕ) (x z : Memory) (l y : List ℕ) : Type 0 where
+  pub same : number (seen progress (c.ran s n hs k x z l)) ≡ number (c.ran s n hs k x z l)
+  pub other : isWriter s ≡ false → number (c.ran s n hs k x z l) ≡ 1
+  pub answer : isWriter s ≡ true → number (c.ran s n hs k x z l) ≡ runTurned (writerOf s) n hs (runOf (writerOf s) n hs k x z l)
+  pub array : Kept (number (c.ran s n hs k x z l)) s (ranWords (seen progress (c.ran s n hs k x z l)) s)
+  pub store : Kept (number (c.ran s n hs k x z l)) x (leftBy (λ p. p .world .store) x (c.ran s n hs k x z l))
+  pub area : Kept (number (c.ran s n hs k x z l)) z (leftBy (λ p. p .area) z (c.ran s n hs k x z l))
+  pub names : Kept (number (c.ran s n hs k x z l)) l (leftBy (λ p. p .names) l (c.ran s n hs k x z l))
+  pub counts : Kept (number (c.ran s n hs k x z l)) y (countsOf (seen progress (c.ran s n hs k x z l)) y)
+
 -- the numbers that a line store needs, as `terrain_store_length` tells a writer's and `terrain_reader_store_length` a reader's: 0 where a set-up would give
 -- 2, 18 or 4
 abbrev pub writerNumbers : ℕ → Side → ℕ → ℕ
@@ -105,3 +126,5 @@ pub record WriterCalls : Type 0 where
   pub c-draw : (s : List ℕ) (n k : ℕ) (x y : Memory) (z : List ℕ) → CDraw s n k x y z
   pub c-look : (s z : List ℕ) → CLook s z
   pub c-finish : (s : List ℕ) (n : ℕ) (x : Memory) → CFinish s n x
+  pub many : (w : Writer) (n : ℕ) (hs : List ℕ) (k : ℕ) (x z : Memory) (l : List ℕ) → Many w n hs k x z l
+  pub c-many : (s : List ℕ) (n : ℕ) (hs : List ℕ) (k : ℕ) (x z : Memory) (l y : List ℕ) → CMany s n hs k x z l y

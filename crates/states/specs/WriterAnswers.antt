@@ -3,7 +3,8 @@ use mathlib.Core.List.{List, [], _∷_}
 use Prim.Native.Nat.{ℕ}
 use Rattle.calls.specs.Lists.{Reply, gives, refused}
 use Rattle.writer.specs.Answers.{Took, Handed, aRow, nothing}
-use Rattle.states.specs.WriterState.{offeredWords, drawnWords}
+use Rattle.writer.specs.Runs.{Progress}
+use Rattle.states.specs.WriterState.{writerWords, offeredWords, drawnWords}
 
 -- 0, or the number of the question that turned the call away
 abbrev pub number : {A : Type 0} → Reply A → ℕ
@@ -30,3 +31,12 @@ abbrev pub rowOf : Reply Handed → List ℕ → List ℕ
 rowOf (gives (aRow r w)) z = r .level ∷ r .band ∷ r .row ∷ r .length ∷ []
 rowOf (gives nothing) z = 0 ∷ 0 ∷ 0 ∷ 0 ∷ []
 rowOf (refused q) z = z
+
+-- ---- a run: the array, and the heights taken, the rows put and the numbers put
+abbrev pub ranWords : Reply Progress → List ℕ → List ℕ
+ranWords (gives p) s = writerWords (p .writer)
+ranWords (refused q) s = s
+
+abbrev pub countsOf : Reply Progress → List ℕ → List ℕ
+countsOf (gives p) z = p .taken ∷ p .rows ∷ p .numbers ∷ []
+countsOf (refused q) z = z

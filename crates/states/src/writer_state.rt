@@ -3,11 +3,13 @@ use crate::array;
 use writer::Drawn;
 use writer::Offered;
 use writer::Writer;
+use writer::runs::Ran;
 ghost use mathlib.Core.Path.{_≡_};
 ghost use lib.ListN.{length};
 ghost use Rattle.writer.specs.Answers.{ofOffered, ofDrawn};
+ghost use Rattle.writer.specs.Runs.{ofRan};
 ghost use Rattle.states.specs.WriterState.{isWriter, writerOf, writerWords};
-ghost use Rattle.states.specs.WriterAnswers.{number, tookWords, takenOf, handedWords, rowOf};
+ghost use Rattle.states.specs.WriterAnswers.{number, tookWords, takenOf, handedWords, rowOf, ranWords, countsOf};
 
 // Is this the state array of a writer?
 pub fn is_writer(s: &[u64; 16]) -> bool
@@ -111,5 +113,21 @@ pub fn pack_drawn(answer: Drawn, s: &mut [u64; 16], row: &mut [u64; 4]) -> u32
             0
         }
         Drawn::Refused(no) => no as u32,
+    }
+}
+
+// A run's answer: the whole array, and the counts.
+pub fn pack_ran(answer: Ran, s: &mut [u64; 16], counts: &mut [u64; 3]) -> u32
+    ensures { λ r. ⌜ r ≡ number (ofRan answer) ⌝ }
+    ensures { λ _. ⌜ now (s .exit) ≡ ranWords (ofRan answer) (now (s .entry)) ⌝ }
+    ensures { λ _. ⌜ now (counts .exit) ≡ countsOf (ofRan answer) (now (counts .entry)) ⌝ }
+{
+    match answer {
+        Ran::Went(done, w) => {
+            pack_writer(w, s);
+            *counts = [done.taken as u64, done.rows as u64, done.numbers as u64];
+            0
+        }
+        Ran::Refused(no) => no as u32,
     }
 }

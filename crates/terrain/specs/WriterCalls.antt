@@ -9,6 +9,7 @@ use Rattle.writer.specs.declared.Writer.{Writer}
 use Rattle.writer.specs.Answers.{Took, Handed, aRow, nothing}
 use Rattle.writer.specs.declared.BandRow.{BandRow}
 use Rattle.writer.specs.Calls.{offerReply, offerStore, drawReply, drawStore, drawArea, waitsReply, finishReply, finishStore}
+use Rattle.writer.specs.Runs.{Run, runReply}
 use Rattle.states.specs.WriterState.{isWriter, writerOf, writerWords}
 
 -- the state array afterwards: as it was, s, where the call was turned away
@@ -56,3 +57,7 @@ finished s n x = pick (isWriter s) (finishReply (writerOf s) n x) (refused 1)
 
 abbrev pub finishedStore : List ℕ → ℕ → (ℕ → ℤ) → ℕ → ℤ
 finishedStore s n x = pick (isWriter s) (finishStore (writerOf s) n x) x
+
+-- ---- a run of the heights hs, into an output area of k numbers that holds z and an area for names that holds l
+abbrev pub ran : List ℕ → ℕ → List ℕ → ℕ → (ℕ → ℤ) → (ℕ → ℤ) → List ℕ → Reply Run
+ran s n hs k x z l = pick (isWriter s) (runReply (writerOf s) n hs k x z l) (refused 1)

@@ -5,15 +5,18 @@ use writer::Finished;
 use writer::Look;
 use writer::SetUp;
 use writer::Writer;
+use writer::runs;
 ghost use mathlib.Core.Path.{_≡_};
 ghost use lib.ListN.{length};
 ghost use Rattle.numbers.specs.Signal.{at, pick};
 ghost use Rattle.wavelet.specs.Shape.{columns};
 ghost use Rattle.filters.specs.Figures.{storeBy, writerStoreBy, streamable};
+ghost use Rattle.calls.specs.Lists.{seen};
 ghost use Rattle.writer.specs.Calls.{setUpReply, setUpStore};
-ghost use Rattle.states.specs.WriterAnswers.{number, takenOf, rowOf};
+ghost use Rattle.writer.specs.Runs.{progress, leftBy};
+ghost use Rattle.states.specs.WriterAnswers.{number, takenOf, rowOf, ranWords, countsOf};
 ghost use Rattle.terrain.specs.WriterCalls.{stateOf, offered, offeredStore, stateTook, drawn, drawnStore, drawnArea, stateHanded};
-ghost use Rattle.terrain.specs.WriterCalls.{waiting, lookOf, finished, finishedStore};
+ghost use Rattle.terrain.specs.WriterCalls.{waiting, lookOf, finished, finishedStore, ran};
 
 // The numbers that the line store of a writer needs, more than a reader's; 0 where set-up would give 2, 18 or 4. The height does not count.
 #[no_mangle]
@@ -149,4 +152,35 @@ pub extern "C" fn terrain_writer_finish(state: &mut [u64; 16], store: &mut [i32]
         }
         Finished::Refused(no) => no as u32,
     }
+}
+
+// Many rows at once. The questions are 1, 5, 9, 12 and 10, the last two where nothing could be done.
+#[no_mangle]
+pub extern "C" fn terrain_writer_run(
+    state: &mut [u64; 16],
+    store: &mut [i32],
+    heights: &[u16],
+    out: &mut [i32],
+    names: &mut [u64],
+    counts: &mut [u64; 3],
+) -> u32
+    ensures { λ r. ⌜ r ≡ number (seen progress (ran (now (state .entry)) (length (now (store .entry))) (now (heights .entry)) (length (now (out .entry)))
+        (at (now (store .entry))) (at (now (out .entry))) (now (names .entry)))) ⌝ }
+    ensures { λ r. ⌜ now (state .exit) ≡ ranWords (seen progress (ran (now (state .entry)) (length (now (store .entry))) (now (heights .entry))
+        (length (now (out .entry))) (at (now (store .entry))) (at (now (out .entry))) (now (names .entry)))) (now (state .entry)) ⌝ }
+    ensures { λ r. ⌜ at (now (store .exit)) ≡ leftBy (λ p. p .world .store) (at (now (store .entry))) (ran (now (state .entry))
+        (length (now (store .entry))) (now (heights .entry)) (length (now (out .entry))) (at (now (store .entry))) (at (now (out .entry)))
+        (now (names .entry))) ⌝ }
+    ensures { λ r. ⌜ at (now (out .exit)) ≡ leftBy (λ p. p .area) (at (now (out .entry))) (ran (now (state .entry)) (length (now (store .entry)))
+        (now (heights .entry)) (length (now (out .entry))) (at (now (store .entry))) (at (now (out .entry))) (now (names .entry))) ⌝ }
+    ensures { λ r. ⌜ now (names .exit) ≡ leftBy (λ p. p .names) (now (names .entry)) (ran (now (state .entry)) (length (now (store .entry)))
+        (now (heights .entry)) (length (now (out .entry))) (at (now (store .entry))) (at (now (out .entry))) (now (names .entry))) ⌝ }
+    ensures { λ r. ⌜ now (counts .exit) ≡ countsOf (seen progress (ran (now (state .entry)) (length (now (store .entry))) (now (heights .entry))
+        (length (now (out .entry))) (at (now (store .entry))) (at (now (out .entry))) (now (names .entry)))) (now (counts .entry)) ⌝ }
+{
+    if !writer_state::is_writer(state) {
+        return 1;
+    }
+    let w = writer_state::unpack_writer(state);
+    writer_state::pack_ran(runs::run(w, store, heights, out, names), state, counts)
 }

@@ -376,10 +376,10 @@ module _ (s : Writer) (n k : ℕ) where
   draw-none : stateQuestion s n ≡ 0 → s .level ≡ 0 → drawQuestion s n k ≡ 0
   draw-none h e = draw-rest h ∙ simp (eq-eqb (s .level) 0 e)
 
-  draw-short : stateQuestion s n ≡ 0 → 0 < s .level → k < waitingRow s .length → drawQuestion s n k ≡ 12
+  pub draw-short : stateQuestion s n ≡ 0 → 0 < s .level → k < waitingRow s .length → drawQuestion s n k ≡ 12
   draw-short h e g = draw-rest h ∙ simp (ne-eqb (s .level) 0 (omega arith), lt-leb (waitingRow s .length) k g)
 
-  draw-long : stateQuestion s n ≡ 0 → 0 < s .level → waitingRow s .length ≤ k → drawQuestion s n k ≡ 0
+  pub draw-long : stateQuestion s n ≡ 0 → 0 < s .level → waitingRow s .length ≤ k → drawQuestion s n k ≡ 0
   draw-long h e g = draw-rest h ∙ simp (ne-eqb (s .level) 0 (omega arith), le-leb (waitingRow s .length) k g)
 
 module _ (s : Writer) (x z : Memory) where

@@ -23,3 +23,7 @@ pub mod SetUpPasses
 pub mod CallLaws
 pub mod Surplus
 pub mod OfferLaws
+pub mod RangesKept
+pub mod RunLaws
+pub mod RunSets
+pub mod RunList

@@ -41,7 +41,7 @@ use Rattle.writer.specs.Stretch.{nextCount, Roomy, Taker, Reaching, Stre
 abbrev pub plus : ℕ → Taking → Taking
 plus n t = record { taken = n + t .taken; writer = t .writer; store = t .store }
 
-plus-none : (t : Taking) → t ≡ plus 0 t
+pub plus-none : (t : Taking) → t ≡ plus 0 t
 plus-none t = ap (λ (k : ℕ). record { taken = k; writer = t .writer; store = t .store }) (omega arith)
 
 plus-plus : (a b : ℕ) (t : Taking) → plus a (plus b t) ≡ plus (a + b) t

@@ -14,6 +14,8 @@ pub mod Draws
 pub mod Closing
 pub mod Taking
 pub mod Spare
+pub mod Runs
+pub mod RunLists
 -- The writer before it carried an offset: the reference of a theorem.
 pub mod Before
 -- Cited by private functions alone: how the code goes about it. Nothing here needs to be believed.
@@ -21,3 +23,4 @@ pub mod Steps
 pub mod Gate
 pub mod Stretch
 pub mod SpareSteps
+pub mod RunSteps

@@ -6,6 +6,7 @@ mod copies;
 mod draws;
 mod gate;
 mod offers;
+pub mod runs;
 mod spare;
 
 use progress::levels;
