@@ -97,8 +97,8 @@ pub fn lift_nine_seven(
     lift_rows(area, stride, x, width, height);
 }
 
-// One turn of the columns back: the low row after high row r, where there is one, and then row r. That it is called twice, in the loop and once behind it, keeps
-// it from being inlined: in one loop over rows of one area the compiler asks once for all rows whether they overlap, and then leaves vector code
+// One turn of the columns back: the low row after high row r, where there is one, and then row r. That it is called twice, in the loop and once behind it,
+// keeps it from being inlined: in one loop over rows of one area the compiler asks once for all rows whether they overlap, and then leaves vector code
 // (docs/PROVING.md).
 pub fn unlift_pair(area: &mut [i32], stride: usize, width: usize, height: usize, r: usize)
     requires { ⌜ (r < height) × (1 < height) × Rows (length (now area)) stride width height ⌝ }

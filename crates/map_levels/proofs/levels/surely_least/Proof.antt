@@ -46,7 +46,8 @@ returns : tie.Need-returns
 returns c e =
     let called = c .before in
     let start = called .before .before in
-    front-small (start .args .n) (start .args .n - 0) _ _ (start .args .plane .now) (start .pre .0) (natural-is _ _ (largest called)) (c .surely-within .ensures e) (omega arith)
+    front-small (start .args .n) (start .args .n - 0) _ _ (start .args .plane .now) (start .pre .0) (natural-is _ _ (largest called))
+    (c .surely-within .ensures e) (omega arith)
 
 pub surely-least-spec : {M : Type 1} → statement M
 surely-least-spec =
