@@ -1,4 +1,5 @@
 pub mod WordLaws
+pub mod Runs
 pub mod Writers
 pub mod Readers
 pub mod Stops
@@ -6,4 +7,3 @@ pub mod Maps
 pub mod Lines
 pub mod Rounding
 pub mod Tolerant
-pub mod Runs

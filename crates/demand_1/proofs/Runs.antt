@@ -1,5 +1,5 @@
 -- A run of the writer leaves what stands past the needed part of its line store: `run-surplus`. Assumes nothing.
-use mathlib.Core.Path.{_≡_, refl, sym, ap, _∙_}
+use mathlib.Core.Path.{_≡_, refl, _∙_}
 use mathlib.Core.Bool.{Bool, true, false}
 use mathlib.Core.List.{List, [], _∷_}
 use Prim.Native.Nat.{ℕ, zero, suc, _+_, _-_, _/_, _≤_}
@@ -7,17 +7,17 @@ use native.Mathlib.Omega.{arith}
 use lib.Dec.{ltb, eqb}
 use lib.ListN.{length}
 use Rattle.numbers.specs.Signal.{pick}
-use Rattle.calls.specs.Lists.{Reply, gives, refused, unless, Area}
+use Rattle.calls.specs.Lists.{gives, refused, unless, Area}
 use Rattle.level.specs.Level.{Memory, LevelKind}
 use Rattle.filters.specs.Figures.{writerStoreBy}
 use Rattle.writer.specs.declared.Writer.{Writer}
-use Rattle.writer.specs.Answers.{Handed, aRow, nothing}
-use Rattle.writer.specs.Taking.{kind, columnsOf, Taking, takes, begun, complete, none, oneMore, heightPut, rowMakes, offering}
-use Rattle.writer.specs.Spare.{holding, moving, movedOn, movedRow}
+use Rattle.writer.specs.Answers.{nothing}
+use Rattle.writer.specs.Taking.{kind, columnsOf, Taking, takes, begun, complete, none, heightPut, rowMakes, offering}
+use Rattle.writer.specs.Spare.{holding, moving, movedOn}
 use Rattle.writer.specs.Questions.{offerQuestion, drawQuestion}
-use Rattle.writer.specs.Calls.{waits, afterDraw, drawnOn, took, offeredAt, handed, offerReply, offerStore, drawReply, drawStore}
+use Rattle.writer.specs.Calls.{waits, afterDraw, took, offeredAt, handed, offerReply, drawReply}
 use Rattle.writer.specs.Holds.{left, after}
-use Rattle.writer.specs.History.{Call, offer, draw, Given, row, Event, offered, drew, finished, looked, World, event, next}
+use Rattle.writer.specs.History.{offer, draw, row, Event, offered, drew, finished, looked, World, event, next}
 use Rattle.writer.specs.History as history
 use Rattle.writer.specs.Runs.{Run, noted, rowLeft, areaLeft, callOf, due, afterCall, ran, begin, runOf, runTurned, runReply, leftBy}
 use Rattle.writer.proofs.Surplus.{offer-surplus, draw-surplus}

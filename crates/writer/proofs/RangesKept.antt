@@ -16,7 +16,7 @@ use Rattle.wavelet.specs.Limits.{maxHeight, maxOrigin}
 use Rattle.filters.specs.Filters.{filterOf}
 use Rattle.filters.specs.Figures.{writerStoreBy, streamable}
 use Rattle.level.specs.Level.{Memory, LevelKind, completes, prev, rest, ahead}
-use Rattle.progress.specs.Counts.{made, lowRows, most, mostLeft, skip, startOf}
+use Rattle.progress.specs.Counts.{made, lowRows, most, mostLeft, startOf}
 use Rattle.progress.proofs.CountLaws.{deeper-le, left-first, left-under, left-next}
 use Rattle.writer.specs.declared.Writer.{Writer}
 use Rattle.writer.specs.Taking.{kind, columnsOf, Taking, atColumn, complete, rowMakes}
@@ -29,7 +29,7 @@ use Rattle.writer.specs.Machine.{Out, still, under, passed, settled, arr
 use Rattle.writer.specs.Draws.{pull}
 use Rattle.writer.specs.Closing.{Shut, stepped, onward, closeStep, closeLevel, shut}
 use Rattle.writer.proofs.Waiting.{skip-le}
-use Rattle.writer.proofs.GateLaws.{ranges-last, Sound, sound}
+use Rattle.writer.proofs.GateLaws.{ranges-last, sound}
 use Rattle.writer.proofs.CallLaws.{moving-part, moving-whole}
 
 pub false-true : {A : Type 0} → false ≡ true → A

@@ -1,19 +1,19 @@
 -- A run step by step: each turn of the code is one call or several of the run's list. Assumes nothing.
 use mathlib.Core.Path.{_≡_, refl, sym, ap, ap₂, subst, _∙_}
-use mathlib.Core.Bool.{Bool, true, false, not}
-use mathlib.Core.List.{List, [], _∷_, _++_}
+use mathlib.Core.Bool.{Bool, true, false}
+use mathlib.Core.List.{List}
 use Prim.Native.Nat.{ℕ, zero, suc, _+_, _-_, _≤_, _<_, min}
 use native.Mathlib.Decide.{decLt}
 use native.Mathlib.Omega.{arith}
 use lib.Dec.{leb, ltb, eqb}
 use lib.ListN.{length, take, drop, length-take, length-drop}
 use lib.Seq.{take-all}
-use borrow.Author.Tests.{leb-true, ltb-true, leb-false, ltb-false, le-leb, lt-leb, lt-ltb, le-ltb, eq-eqb, ne-eqb}
+use borrow.Author.Tests.{leb-true, ltb-true, leb-false, le-leb, lt-leb, lt-ltb, le-ltb, eq-eqb, ne-eqb}
 use Rattle.numbers.specs.Signal.{pick, both}
 use Rattle.numbers.proofs.Sweep as sweep
 use Rattle.lifting.specs.Halves.{fronted}
 use Rattle.wavelet.specs.Limits.{maxHeight}
-use Rattle.calls.specs.Lists.{Reply, gives, refused, seen, Area}
+use Rattle.calls.specs.Lists.{Reply, gives, seen, Area}
 use Rattle.level.specs.Level.{Memory, prev, rest, joinAt}
 use Rattle.progress.specs.declared.levels.Level.{Level}
 use Rattle.progress.specs.Counts.{skip}
@@ -26,10 +26,10 @@ use Rattle.writer.specs.Taking.{columnsOf, kind, Taking, takes, offering
 use Rattle.writer.specs.Spare.{moving, movedOn}
 use Rattle.writer.specs.Questions.{rowsTaken, waitingRow, offerQuestion, drawQuestion}
 use Rattle.writer.specs.Gate.{stateQuestion}
-use Rattle.writer.specs.Calls.{pulled, waits, afterDraw, drawnOn, offerReply, offerStore, drawReply, drawStore, drawArea}
+use Rattle.writer.specs.Calls.{pulled, waits, afterDraw, offerReply, offerStore, drawReply, drawStore, drawArea}
 use Rattle.writer.specs.Holds.{left, after}
-use Rattle.writer.specs.History.{Call, offer, draw, given, Event, offered, drew, World, event, next}
-use Rattle.writer.specs.Steps.{Left, columns, received, Reached, Placed, Found, Drew, DrewOn}
+use Rattle.writer.specs.History.{offer, draw, given, offered, drew, event, next}
+use Rattle.writer.specs.Steps.{Left, columns, received, Reached, Found, Drew, DrewOn}
 use Rattle.writer.specs.Stretch.{nextCount, Stretched}
 use Rattle.writer.specs.Runs.{Run, named, noted, rowLeft, areaLeft, callOf, due, afterCall, ran}
 use Rattle.writer.specs.RunSteps.{withLeft, rowAt, runAt, oneMore, Steps, stay, step, Went, Ready, Draws, Turned, SetDrawn, Over}

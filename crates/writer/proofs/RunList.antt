@@ -6,7 +6,7 @@ use mathlib.Core.List.{List, [], _∷_, _++_, append-assoc}
 use Prim.Native.Nat.{ℕ, zero, suc, _+_, _-_, _*_, _/_, _≤_, _<_}
 use native.Mathlib.Decide.{decLt}
 use native.Mathlib.Omega.{arith}
-use lib.Dec.{eqb, ltb, leb}
+use lib.Dec.{eqb, ltb}
 use lib.ListN.{length, take, drop, length-take, length-drop, length-append, take-append-drop}
 use lib.Seq.{take-take, drop-drop, take-append-add, drop-append-add, length-take-le}
 use borrow.Author.Tests.{eqb-true, ltb-true, le-ltb, eq-eqb, ne-eqb}
@@ -17,16 +17,16 @@ use Rattle.lifting.specs.Halves.{fronted}
 use Rattle.areas.proofs.AreaLaws.{front-rest}
 use Rattle.wavelet.specs.Limits.{maxOrigin}
 use Rattle.calls.specs.Lists as lists
-use Rattle.calls.specs.Lists.{Reply, gives, refused, unless, changedUnless, seen, Area}
+use Rattle.calls.specs.Lists.{Reply, gives, seen, Area}
 use Rattle.level.specs.Level.{Memory, LevelKind, rest, joinAt}
 use Rattle.level.proofs.RestLaws.{rest-at, join-below, join-past}
 use Rattle.writer.specs.declared.Writer.{Writer}
 use Rattle.writer.specs.declared.BandRow.{BandRow}
 use Rattle.writer.specs.Answers.{Took, Handed, aRow}
-use Rattle.writer.specs.Taking.{kind, Taking, takes, begun, complete, none, oneMore, heightPut, rowMakes, offering}
+use Rattle.writer.specs.Taking.{kind, Taking, takes, begun, complete, none, heightPut, rowMakes, offering}
 use Rattle.writer.specs.Questions.{waitingRow, inRanges, offerQuestion, drawQuestion, setUpQuestion}
-use Rattle.writer.specs.Calls.{offeredAt, drawnOn, bandRow, handed, handedArea, offerReply, drawReply, drawStore, drawArea}
-use Rattle.writer.specs.History.{Call, offer, draw, Given, row, given, Event, offered, drew, World, event, next, events, final, freshWorld}
+use Rattle.writer.specs.Calls.{offeredAt, drawnOn, bandRow, handed, handedArea, offerReply, drawReply, drawArea}
+use Rattle.writer.specs.History.{Call, offer, draw, row, given, offered, drew, event, next, events, final, freshWorld}
 use Rattle.writer.specs.History.{taken, DrawnRow, drawn}
 use Rattle.writer.specs.Demand3.{Demand3}
 use Rattle.writer.specs.Runs.{Run, named, noted, rowLeft, areaLeft, callOf, due, afterCall, ran, calls, begin, runOf, runCalls}

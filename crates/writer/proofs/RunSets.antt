@@ -14,7 +14,7 @@ use Rattle.numbers.specs.Signal.{at, pick, both}
 use Rattle.lifting.specs.Grid.{Side}
 use Rattle.lifting.specs.Halves.{fronted}
 use Rattle.wavelet.specs.Limits.{maxHeight}
-use Rattle.calls.specs.Lists.{Reply, gives, refused, unless}
+use Rattle.calls.specs.Lists.{gives, refused, unless}
 use Rattle.calls.proofs.QuestionLaws.{asked-yes, not-yes}
 use Rattle.filters.specs.Filters.{filterOf}
 use Rattle.level.specs.Level.{Memory, prev, rest, joinAt}

@@ -8,14 +8,14 @@ use lib.Dec.{eqb, ltb}
 use lib.ListN.{length, take, drop}
 use Rattle.numbers.specs.Signal.{pick, both}
 use Rattle.wavelet.specs.Questions.{ask}
-use Rattle.calls.specs.Lists.{Reply, gives, refused, Area, unless, changedUnless}
+use Rattle.calls.specs.Lists.{Reply, gives, refused, Area, unless}
 use Rattle.level.specs.Level.{Memory, rest, joinAt}
 use Rattle.writer.specs.declared.Writer.{Writer}
 use Rattle.writer.specs.declared.BandRow.{BandRow}
 use Rattle.writer.specs.declared.runs.Ran.{Ran}
 use Rattle.writer.specs.declared.runs.Ran.the-variants as ran-as
 use Rattle.writer.specs.Questions.{either, inRanges, longEnough, offerQuestion, drawQuestion}
-use Rattle.writer.specs.History.{Call, offer, draw, Given, row, none, Event, offered, drew, finished, looked, World, event, next}
+use Rattle.writer.specs.History.{Call, offer, draw, row, none, Event, offered, drew, finished, looked, World, event, next}
 
 -- a run on its way: the heights taken, the rows put, the numbers that these have; the whole output area and the whole area for names
 pub record Run : Type 0 where

@@ -3,7 +3,7 @@ use mathlib.Core.Path.{_≡_, refl, sym, ap, _∙_}
 use mathlib.Core.Bool.{Bool, true, false}
 use lib.ListN.{length}
 use Rattle.numbers.specs.Signal.{at, pick}
-use Rattle.calls.specs.Lists.{Reply, gives, refused, seen}
+use Rattle.calls.specs.Lists.{Reply, refused, seen}
 use Rattle.writer.specs.declared.Writer.{Writer}
 use Rattle.writer.specs.Runs.{Run, Progress, progress, runReply, leftBy}
 use Rattle.states.specs.WriterState.{isWriter, writerOf}

@@ -1,11 +1,11 @@
 -- `runs::draw_set` meets its contract: the rows of the set but the last, and then the last of them, each a draw. Assumes nothing.
-use mathlib.Core.Path.{_≡_, refl, sym, subst, _∙_}
+use mathlib.Core.Path.{refl, _∙_}
 use native.Mathlib.Omega.{arith}
 use Prim.Native.Nat.{_/_}
 use lib.ListN.{length}
 use borrow.Author.Tests.{not-true, not-false}
 use Rattle.numbers.specs.Signal.{at}
-use Rattle.writer.proofs.RunSets.{set-reached, left-waits, left-drawable, found-room, last-row, last-stops, last-draws}
+use Rattle.writer.proofs.RunSets.{set-reached, left-drawable, found-room, last-row, last-stops, last-draws}
 use Rattle.writer.proofs.runs.draw_set.Statement.{statement}
 use Rattle.writer.proofs.runs.draw_set.Tie as tie
 

@@ -1,6 +1,5 @@
 -- `runs::first_rows` meets its contract: every turn is a draw after which another row of the set waits. Assumes nothing.
 use mathlib.Core.Path.{_∙_}
-use native.Mathlib.Omega.{arith}
 use borrow.Author.Tests.{not-true, not-false}
 use Rattle.writer.proofs.RunSets.{Putting, put-start, put-less, put-waits, put-room, put-stops, put-more}
 use Rattle.writer.proofs.runs.first_rows.Statement.{statement}

@@ -1,6 +1,5 @@
 -- `runs::go` meets its contract: turn by turn, until nothing more is to be done. Assumes nothing.
 use Prim.Native.Nat.{_/_}
-use native.Mathlib.Omega.{arith}
 use lib.ListN.{length}
 use Rattle.writer.proofs.RunSets.{Going, todo, going-start, going-ready, going-over, going-on, going-less}
 use Rattle.writer.proofs.runs.go.Statement.{statement}

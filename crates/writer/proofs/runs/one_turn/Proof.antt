@@ -1,5 +1,4 @@
 -- `runs::one_turn` meets its contract: an offer where nothing waits, else draws. Assumes nothing.
-use mathlib.Core.Path.{refl}
 use Prim.Native.Nat.{_/_}
 use native.Mathlib.Omega.{arith}
 use lib.ListN.{length}

@@ -1,9 +1,9 @@
 -- `runs::run` meets its contract: the questions, and what the turns come to. Assumes nothing.
-use mathlib.Core.Path.{_≡_, refl, sym, ap, _∙_}
+use mathlib.Core.Path.{_≡_, sym, ap, _∙_}
 use native.Mathlib.Omega.{arith}
 use lib.ListN.{length}
 use Rattle.numbers.specs.Signal.{at}
-use Rattle.calls.specs.Lists.{Reply, seen}
+use Rattle.calls.specs.Lists.{seen}
 use Rattle.writer.specs.Runs.{Run, runQuestion, progress, leftBy}
 use Rattle.writer.proofs.RunSets.{run-refused, run-idle, run-none, run-went}
 use Rattle.writer.proofs.runs.run.Statement.{statement}
