@@ -7,3 +7,4 @@ pub mod SamplesHold
 pub mod Packing
 pub mod WidthLaws
 pub mod PutLaws
+pub mod ValueLaws

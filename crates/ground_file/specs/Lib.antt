@@ -3,3 +3,4 @@ pub mod File
 pub mod Maps
 pub mod Samples
 pub mod Local
+pub mod Values
