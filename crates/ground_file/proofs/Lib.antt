@@ -8,3 +8,5 @@ pub mod Packing
 pub mod WidthLaws
 pub mod PutLaws
 pub mod ValueLaws
+pub mod SaverLaws
+pub mod SaverAsks

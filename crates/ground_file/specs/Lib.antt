@@ -4,3 +4,4 @@ pub mod Maps
 pub mod Samples
 pub mod Local
 pub mod Values
+pub mod Saving

@@ -4,7 +4,7 @@ ghost use Prim.Native.Nat.{_≤_, _<_, _^_, _%_};
 ghost use lib.ListN.{length, take};
 ghost use Rattle.ground_file.specs.File.{asNumber, prime};
 
-const PRIME: u64 = 4293501227;
+pub const PRIME: u64 = 4293501227;
 
 // The sum of bytes that are followed by the first n of these.
 pub fn sum_of(sum: u64, bytes: &[u8], n: usize) -> u64
