@@ -10,3 +10,4 @@ pub mod PutLaws
 pub mod ValueLaws
 pub mod SaverLaws
 pub mod SaverAsks
+pub mod FileSaved

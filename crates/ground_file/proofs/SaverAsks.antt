@@ -118,7 +118,7 @@ module _ (s : Shape) (q : ℕ) where
         step = within-true 1 maxStep q (f .0);
       }
 
-filter-few : (f : ℕ) → isFilter f ≡ true → f ≤ 1
+pub filter-few : (f : ℕ) → isFilter f ≡ true → f ≤ 1
 unfolding isFilter
 filter-few f e = leb-true f 1 e
 

@@ -153,3 +153,9 @@ pub record Ran (s : Saver) (p : List ℤ) (before after : List ℕ) (r : Saved) 
 pub record Saves (s : Saver) (p : List ℤ) (before after : List ℕ) (r : Saved) : Type 0 where
   pub refused : 0 < saveNumber s (length p) → (r .answer ≡ saveNumber s (length p)) × (r .written ≡ 0) × (r .saver ≡ s) × (after ≡ before)
   pub done : saveNumber s (length p) ≡ 0 → Ran s p before after r
+
+-- ---- a list of saving calls lent one plane, into any areas: the bytes that they wrote, one after the other, and the saver that they leave
+pub data Calls (p : List ℤ) (s₀ : Saver) : List ℕ → Saver → Type 0 where
+  none : Calls p s₀ [] s₀
+  call : {b : List ℕ} {s : Saver} (before after : List ℕ) (r : Saved) → Calls p s₀ b s → Saves s p before after r →
+      Calls p s₀ (b ++ take (r .written) after) (r .saver)
