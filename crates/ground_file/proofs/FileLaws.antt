@@ -39,7 +39,7 @@ zigzag-told (pos m) (negsuc n) e = absurd (omega arith)
 zigzag-told (negsuc m) (pos n) e = absurd (omega arith)
 zigzag-told (negsuc m) (negsuc n) e = let h : m ≡ n = omega arith in ap negsuc h
 
-listed-length : (n : ℕ) (x : ℕ → ℕ) → length (listed n x) ≡ n
+pub listed-length : (n : ℕ) (x : ℕ → ℕ) → length (listed n x) ≡ n
 unfolding listed
 listed-length zero x = refl
 listed-length (suc n) x = ap suc (listed-length n (λ i. x (suc i)))

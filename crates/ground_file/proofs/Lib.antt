@@ -7,3 +7,7 @@ pub mod SamplesHold
 pub mod Packing
 pub mod WidthLaws
 pub mod PutLaws
+pub mod ValueLaws
+pub mod SaverLaws
+pub mod SaverAsks
+pub mod FileSaved

@@ -38,7 +38,7 @@ unfolding zigzag
 zigzag-small (pos n) h = omega arith
 zigzag-small (negsuc n) h = omega arith
 
-by-one : (v : ℤ) → shrZ v 1 ≡ v
+pub by-one : (v : ℤ) → shrZ v 1 ≡ v
 by-one = each _ λ p q. simp lin (omega arith)
 
 one-times : (v : ℤ) → v ≡ pos 1 *ℤ shrZ v 1
@@ -52,7 +52,7 @@ stored-one LH v = by-one v
 stored-one HH v = by-one v
 
 -- no level's range needs more than 27 bits
-range-small : (f k : ℕ) → f ≤ 1 → k ≤ byFilter f 5 4 → largest f k < 2 ^ 27
+pub range-small : (f k : ℕ) → f ≤ 1 → k ≤ byFilter f 5 4 → largest f k < 2 ^ 27
 range-small zero k p h =
     let l : 65535 * 4 ^ k ≤ 65535 * 4 ^ 5 = mul-le-mul-left 65535 (pow-le-pow-right (zero-lt-suc 3) h) in omega arith
 range-small (suc f) k p h =

@@ -3,3 +3,5 @@ pub mod File
 pub mod Maps
 pub mod Samples
 pub mod Local
+pub mod Values
+pub mod Saving

@@ -1,4 +1,8 @@
-// The ground file: a map's band rows as bytes, in the order in which a reader wants them (docs/FORMAT.md). Definitions and theorems, and a group as bytes.
+// The ground file: a map's band rows as bytes, in the order in which a reader wants them (docs/FORMAT.md). Definitions, theorems and the saver.
 mod groups;
 mod parts;
+mod pieces;
+pub mod saver;
+mod sums;
+mod values;
 mod widths;

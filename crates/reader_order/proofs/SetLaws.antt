@@ -1,0 +1,147 @@
+-- The laws of sets as the code finds them, and of a band by its code. Assumes nothing.
+use mathlib.Core.Path.{_≡_, refl, sym, ap, ap₂, subst, _∙_}
+use mathlib.Core.Bool.{Bool, true, false, _||_}
+use Prim.Native.Nat.{ℕ, zero, suc, _+_, _-_, _*_, _/_, _%_, min, _≤_, _<_, _^_}
+use native.Mathlib.Omega.{arith}
+use lib.Dec.{T, leb, ltb, eqb}
+use mir.Syntax.{w64}
+use mir.Val.{Fits}
+use borrow.Author.Tests.{eqb-true, eqb-false}
+use Rattle.numbers.specs.Signal.{both}
+use Rattle.lifting.specs.Grid.{Side}
+use Rattle.wavelet.specs.Bands.{down}
+use Rattle.wavelet.specs.Order.{firstSet, lastSet, setRow}
+use Rattle.wavelet.specs.Steps.{setTo, setOf, setsBefore}
+use Rattle.wavelet.proofs.StepLaws.{to-first, to-later, set-of, before-suc}
+use Rattle.filters.specs.Filters.{filterOf}
+use Rattle.level.specs.Sets.{opens}
+use Rattle.reader_steps.specs.Sets.{ahead, rowTo, firstRow}
+use Rattle.reader_steps.specs.Asked.{named}
+use Rattle.reader_steps.specs.Places.{hasCells}
+use Rattle.reader_steps.proofs.OpenedSets.{looks}
+use Rattle.reader_steps.proofs.CellLaws.{Empty, wide, high, empty-not, cells-yes}
+
+-- ---- the set of a row, as the code finds it
+ahead-small : (f : ℕ) → ahead f ≤ 2 ^ 16
+unfolding filterOf
+ahead-small zero = omega arith
+ahead-small (suc f) = omega arith
+
+-- of a number that is the look-ahead
+pub ahead-fits : (f n : ℕ) → n ≡ ahead f → (1 ≤ n) × (n ≤ 2 ^ 16)
+ahead-fits f n e = (omega (arith, looks f), omega (arith, ahead-small f))
+
+pub set-first : (f : ℕ) (S : Side) (r : ℕ) → S .start % 2 + r ≡ 0 → 0 ≡ setOf (ahead f) S r
+set-first f S r e =
+    let u : setTo (ahead f) (S .start % 2 + r) ≡ 0 = ap (setTo (ahead f)) e ∙ to-first (ahead f) in
+    omega (arith, set-of (ahead f) S r, u)
+
+-- its numbers fit, a being the look-ahead
+pub set-places : (f y r a : ℕ) → r ≤ 2 ^ 34 → a ≡ ahead f → Fits w64 (y % 2 + r) × Fits w64 ((y % 2 + r - 1) / 2 + a)
+set-places f y r a h e = (omega arith, omega (arith, ahead-small f))
+
+module _ (f : ℕ) (S : Side) (r a b : ℕ) (late : S .start % 2 + r ≡ 0 → ⊥) (ea : a ≡ ahead f) (eb : b ≡ lastSet S) where
+  later : min ((S .start % 2 + r - 1) / 2 + a) b ≡ setOf (ahead f) S r
+  later =
+      let u : setTo (ahead f) (S .start % 2 + r) ≡ (S .start % 2 + r - 1) / 2 + ahead f =
+      ap (setTo (ahead f)) (omega (arith, late)) ∙ to-later (ahead f) (S .start % 2 + r - 1) in
+      omega (arith, set-of (ahead f) S r, u)
+
+  pub set-ahead : (S .start % 2 + r - 1) / 2 + a < b → (S .start % 2 + r - 1) / 2 + a ≡ setOf (ahead f) S r
+  set-ahead h = omega (arith, later)
+
+  pub set-end : b ≤ (S .start % 2 + r - 1) / 2 + a → b ≡ setOf (ahead f) S r
+  set-end h = omega (arith, later)
+
+pub before-later : (f : ℕ) (S : Side) (r n : ℕ) → 0 < r → n ≡ setOf (ahead f) S (r - 1) → n + 1 ≡ setsBefore (ahead f) S r
+before-later f S zero n p e = absurd (omega arith)
+before-later f S (suc r) n p e = let z : suc r - 1 ≡ r = omega arith in ap (λ i. i + 1) (e ∙ ap (setOf (ahead f) S) z) ∙ sym (before-suc (ahead f) S r)
+
+-- ---- whether a row needs a set that no row before it needs
+pub down-none : (f : ℕ) (W H : Side) (r : ℕ) → Empty W H → false ≡ both (hasCells W H) (opens (ahead f) H r)
+down-none f W H r e = sym (ap (λ (t : Bool). both t (opens (ahead f) H r)) (empty-not W H e))
+
+pub down-some : (f : ℕ) (W H : Side) (r n m : ℕ) → 0 < W .length → 0 < H .length → n ≡ setsBefore (ahead f) H r → m ≡ setOf (ahead f) H r →
+    ltb n (m + 1) ≡ both (hasCells W H) (opens (ahead f) H r)
+unfolding opens
+down-some f W H r n m w h en em =
+    let z : m + 1 ≡ setsBefore (ahead f) H (suc r) = ap (λ i. i + 1) em ∙ sym (before-suc (ahead f) H r) in
+    ap₂ ltb en z ∙ sym (ap (λ (t : Bool). both t (ltb (setsBefore (ahead f) H r) (setsBefore (ahead f) H (suc r)))) (cells-yes W H w h))
+
+-- ---- the first row that needs a set
+pub row-none : (f : ℕ) (S : Side) (n : ℕ) → S .length ≡ 0 → 0 ≡ firstRow f S n
+unfolding firstRow
+row-none f S zero e = refl
+row-none f S (suc n) e = omega arith
+
+row-some : (f : ℕ) (S : Side) (n r : ℕ) → 0 < n → r ≡ rowTo f S n → min r (S .length - 1) ≡ firstRow f S n
+unfolding firstRow
+row-some f S zero r p e = absurd (omega arith)
+row-some f S (suc n) r p e = ap (λ i. min i (S .length - 1)) e
+
+pub row-either : (f : ℕ) (S : Side) (n : ℕ) → eqb n 0 || eqb (S .length) 0 ≡ true → 0 ≡ firstRow f S n
+row-either f S n e = go (eqb n 0) refl (eqb (S .length) 0) refl e
+  where
+    go : (a : Bool) → eqb n 0 ≡ a → (b : Bool) → eqb (S .length) 0 ≡ b → a || b ≡ true → 0 ≡ firstRow f S n
+    go true p b q z = let y : n ≡ 0 = eqb-true n 0 p in rw y (unfold firstRow in refl)
+    go false p true q z = row-none f S n (eqb-true (S .length) 0 q)
+    go false p false q z = absurd (subst T (sym z) tt)
+
+row-high : (S : Side) (n : ℕ) → eqb n 0 || eqb (S .length) 0 ≡ false → (0 < n) × (0 < S .length)
+row-high S n e = go (eqb n 0) refl (eqb (S .length) 0) refl e
+  where
+    positive : (n : ℕ) → (n ≡ 0 → ⊥) → 0 < n
+    positive n f = omega (arith, f)
+
+    go : (a : Bool) → eqb n 0 ≡ a → (b : Bool) → eqb (S .length) 0 ≡ b → a || b ≡ false → (0 < n) × (0 < S .length)
+    go true p b q z = absurd (subst T z tt)
+    go false p true q z = absurd (subst T z tt)
+    go false p false q z = (positive n (eqb-false n 0 p), positive (S .length) (eqb-false (S .length) 0 q))
+
+-- past set 0 of rows that there are, m being how far n is past the look-ahead a: the numbers fit, and which of the two is the row
+module _ (f : ℕ) (S : Side) (n a m : ℕ) (there : eqb n 0 || eqb (S .length) 0 ≡ false) (ea : a ≡ ahead f) (em : m ≡ n - a) where
+  pub row-places : n ≤ 2 ^ 33 → Fits w64 (2 * m) × Fits w64 (2 * m + 1) × (S .start % 2 ≤ 2 * m + 1) × (1 ≤ S .length)
+  row-places h = (omega arith, omega arith, omega arith, row-high S n there .1)
+
+  row-min : min (2 * m + 1 - S .start % 2) (S .length - 1) ≡ firstRow f S n
+  row-min = row-some f S n (2 * m + 1 - S .start % 2) (row-high S n there .0) (omega arith)
+
+  pub row-own : 2 * m + 1 - S .start % 2 < S .length → 2 * m + 1 - S .start % 2 ≡ firstRow f S n
+  row-own h = omega (arith, row-min)
+
+  pub row-last : S .length ≤ 2 * m + 1 - S .start % 2 → S .length - 1 ≡ firstRow f S n
+  row-last h = omega (arith, row-min)
+
+-- the row of a band that set n has
+pub row-low : (H : Side) (c n : ℕ) → c < 2 → setRow H (named c) n ≡ n - H .start % 2
+unfolding setRow named down firstSet
+row-low H zero n lt = refl
+row-low H (suc zero) n lt = refl
+row-low H (suc (suc c)) n lt = absurd (omega arith)
+
+pub row-hi : (H : Side) (c n : ℕ) → 2 ≤ c → setRow H (named c) n ≡ n
+unfolding setRow named down firstSet
+row-hi H zero n le = absurd (omega arith)
+row-hi H (suc zero) n le = absurd (omega arith)
+row-hi H (suc (suc zero)) n le = omega arith
+row-hi H (suc (suc (suc c))) n le = omega arith
+
+-- ---- a side of no length, as the code tests it
+pub none-of : (W H : Side) → eqb (W .length) 0 || eqb (H .length) 0 ≡ true → Empty W H
+none-of W H e = go (eqb (W .length) 0) (eqb (H .length) 0) refl refl e
+  where
+    go : (a b : Bool) → eqb (W .length) 0 ≡ a → eqb (H .length) 0 ≡ b → a || b ≡ true → Empty W H
+    go true b p q z = wide (eqb-true (W .length) 0 p)
+    go false true p q z = high (eqb-true (H .length) 0 q)
+    go false false p q z = absurd (subst T (sym z) tt)
+
+pub some-of : (W H : Side) → eqb (W .length) 0 || eqb (H .length) 0 ≡ false → (0 < W .length) × (0 < H .length)
+some-of W H e = go (eqb (W .length) 0) (eqb (H .length) 0) refl refl e
+  where
+    positive : (n : ℕ) → (n ≡ 0 → ⊥) → 0 < n
+    positive n f = omega (arith, f)
+
+    go : (a b : Bool) → eqb (W .length) 0 ≡ a → eqb (H .length) 0 ≡ b → a || b ≡ false → (0 < W .length) × (0 < H .length)
+    go true b p q z = absurd (subst T z tt)
+    go false true p q z = absurd (subst T z tt)
+    go false false p q z = (positive (W .length) (eqb-false (W .length) 0 p), positive (H .length) (eqb-false (H .length) 0 q))

@@ -1,0 +1,27 @@
+-- `reader_order::walk::begin_row` meets its contract: the search from the map's own sides on. Assumes nothing.
+use mathlib.Core.Path.{_∙_}
+use native.Mathlib.Omega.{arith}
+use borrow.Author.Needs.{needs}
+use Rattle.reader_order.proofs.WalkLaws.{is-spot, spot-of, enter-is}
+use Rattle.reader_order.proofs.walk.begin_row.Statement.{statement}
+use Rattle.reader_order.proofs.walk.begin_row.Tie as tie
+
+cast-dive-from : tie.Need-cast-dive-from
+cast-dive-from c = search needs
+
+cast-t5 : tie.Need-cast-t5
+cast-t5 c = search needs
+
+cast-dive-from-2 : tie.Need-cast-dive-from-2
+cast-dive-from-2 c = search needs
+
+dive-from-requires : tie.Need-dive-from-requires
+dive-from-requires c κs = search needs
+
+returns : tie.Need-returns
+returns c =
+    let e = c .dive-from .ensures in
+    (is-spot _ _ (spot-of _ _ (e .0) ∙ enter-is _ _ _ _ _), e .1, e .2)
+
+pub begin-row-spec : {M : Type 1} → statement M
+begin-row-spec = tie.close (tie.spec cast-dive-from cast-t5 cast-dive-from-2 dive-from-requires returns)

@@ -1,0 +1,72 @@
+-- `reader_order::walk::begin_set` meets its contract: a set without a low row, or the search from the next sides on. Assumes nothing.
+use mathlib.Core.Path.{_∙_, sym}
+use native.Mathlib.Omega.{arith}
+use borrow.Author.Needs.{needs}
+use Prim.Native.Nat.{_+_}
+use Rattle.reader_order.proofs.WalkLaws.{is-spot, spot-of, small-at, wide-at, high-at, begin-alone, begin-on}
+use Rattle.reader_order.proofs.walk.begin_set.Statement.{statement}
+use Rattle.reader_order.proofs.walk.begin_set.Tie as tie
+
+cast-start-at : tie.Need-cast-start-at
+cast-start-at c = search needs
+
+start-at-requires : tie.Need-start-at-requires
+start-at-requires c κs = tt
+
+add-t8 : tie.Need-add-t8
+add-t8 c = search needs
+
+returns : tie.Need-returns
+returns c =
+    let y = c .before in
+    let e = y .before .before in
+    (is-spot _ _ (begin-alone _ _ _ _ (e .args .k) (e .args .n) _ (y .start-at .ensures (e .args .s .height)) (c .if1 .taken)), omega arith, omega arith)
+
+cast-dive-from : tie.Need-cast-dive-from
+cast-dive-from c = search needs
+
+add-dive-from : tie.Need-add-dive-from
+add-dive-from c = search needs
+
+add-sides-at : tie.Need-add-sides-at
+add-sides-at c = search needs
+
+sides-at-requires : tie.Need-sides-at-requires
+sides-at-requires c κs = tt
+
+dive-from-requires : tie.Need-dive-from-requires
+dive-from-requires c κs =
+    let e = c .before .before .before .before .before in
+    let m = small-at (e .args .s) _ (c .sides-at .result) (c .sides-at .ensures) (e .pre .0) in
+    (omega arith, e .pre .0 .3, m .1, e .pre .2, omega arith)
+
+returns-2 : tie.Need-returns-2
+returns-2 c =
+    let v = c .before in
+    let on = v .before .before in
+    let y = on .before in
+    let e = y .before .before in
+    let d = c .dive-from .ensures in (
+      is-spot _ _
+          (spot-of _ _ (d .0)
+          ∙ begin-on _ _ _ _ (e .args .k) (e .args .n) _ (y .start-at .ensures (e .args .s .height)) (omega arith)
+          (wide-at (e .args .s) (e .args .k + 1) (v .sides-at .result) (v .sides-at .ensures))
+          (high-at (e .args .s) (e .args .k + 1) (v .sides-at .result) (v .sides-at .ensures))),
+      d .1,
+      d .2,
+    )
+
+pub begin-set-spec : {M : Type 1} → statement M
+begin-set-spec =
+    tie.close
+    (tie.spec
+    cast-start-at
+    start-at-requires
+    add-t8
+    returns
+    cast-dive-from
+    add-dive-from
+    add-sides-at
+    sides-at-requires
+    dive-from-requires
+    returns-2)
