@@ -1,0 +1,3 @@
+pub mod SmallestLaws
+pub mod NumberLaws
+pub mod ByteLaws

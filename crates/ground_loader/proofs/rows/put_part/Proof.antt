@@ -1,0 +1,33 @@
+-- `rows::put_part` meets its contract: with the second part where it takes no byte. Assumes nothing.
+use native.Mathlib.Omega.{arith}
+use borrow.Author.Needs.{needs}
+use Rattle.ground_loader.proofs.ByteLaws.{whole-left, put-second, put-only}
+use Rattle.ground_loader.proofs.rows.put_part.Statement.{statement}
+use Rattle.ground_loader.proofs.rows.put_part.Tie as tie
+
+ends-first-requires : tie.Need-ends-first-requires
+ends-first-requires c κs = tt
+
+add-end : tie.Need-add-end
+add-end c = let a = c .before .before .before in omega (arith, whole-left (a .pre .0) _ _ (a .pre .1), a .pre .0 .room, a .fits .n .fits)
+
+put-numbers-requires : tie.Need-put-numbers-requires
+put-numbers-requires c κs = search needs
+
+put-second-requires : tie.Need-put-second-requires
+put-second-requires c κs = let a = c .before .before .before .before .before .before .before .before in (omega (arith, whole-left (a .pre .0) _ _ (a .pre .1), a .pre .0 .room), search needs)
+
+same-length : tie.Need-same-length
+same-length c = search needs
+
+returns : tie.Need-returns
+returns c = put-second _ _ _ _ (c .before .before .before .before .before .before .before .before .before .ends-first .ensures) (c .before .before .before .if1 .taken) (c .before .before .before .before .before .put-numbers .ensures) (c .before .put-second .ensures)
+
+same-length-2 : tie.Need-same-length-2
+same-length-2 c = search needs
+
+returns-2 : tie.Need-returns-2
+returns-2 c = put-only _ _ _ _ (c .before .before .before .before .before .before .ends-first .ensures) (c .if1 .left) (c .before .before .put-numbers .ensures)
+
+pub put-part-spec : {M : Type 1} → statement M
+put-part-spec = tie.close (tie.spec ends-first-requires add-end put-numbers-requires put-second-requires same-length returns same-length-2 returns-2)

@@ -1,0 +1,4 @@
+// Loading a ground file (docs/FORMAT.md), from its bytes: a band row as its bytes come in.
+mod parts;
+mod rows;
+mod widths;
