@@ -1,3 +1,4 @@
 pub mod SmallestLaws
 pub mod NumberLaws
 pub mod ByteLaws
+pub mod PartCame

@@ -1,4 +1,5 @@
--- A band row of n numbers, byte by byte as it comes in: what a byte makes of what came (`tookOf`) and of the row's values (`putOn`), and where no row has it (`refused`).
+-- A band row of n numbers, byte by byte as it comes in: what a byte makes of what came (`tookOf`) and of the values (`putOn`), and where it is turned away
+-- (`refused`).
 use mathlib.Core.Path.{_≡_}
 use mathlib.Core.Bool.{Bool, true, false, not}
 use mathlib.Core.List.{[], _∷_}

@@ -6,7 +6,8 @@ ghost use Prim.Native.Nat.{_+_, _*_, _/_, _^_, _≤_, _<_, min};
 ghost use lib.ListN.{length};
 ghost use Rattle.numbers.specs.Signal.{at, pick};
 ghost use Rattle.ground_loader.specs.Coming.{partSize, between, opened, second, secondPut, grouped, groupPut, groupRefused};
-ghost use Rattle.ground_loader.specs.Coming.{seenOf, partRefused, stayed, parted, endsFirst, partStored, partPut, refused, tookOf, putOn, InPart, Standing};
+ghost use Rattle.ground_loader.specs.Coming.{seenOf, partRefused, stayed, parted, endsFirst, partStored, partPut};
+ghost use Rattle.ground_loader.specs.Coming.{refused, tookOf, putOn, InPart, Standing};
 
 // What came of a row. `phase` is what the next byte belongs to: 0 a group's byte, 1 its first part, 2 its second. `done` numbers are stored. Of the part: its
 // code, that of the part after it, how many of its numbers are not stored, the bits that came of these and how many they are, the largest number stored.

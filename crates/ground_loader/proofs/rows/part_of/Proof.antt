@@ -11,16 +11,25 @@ returns : tie.Need-returns
 returns c = parted-stay _ _ _ (omega arith) (c .stay .ensures)
 
 add-second-of : tie.Need-add-second-of
-add-second-of c = let a = c .before .before .before .before .before .before .before in omega (arith, whole-left (a .pre .0) _ _ (a .pre .1), a .pre .0 .room, a .fits .n .fits)
+add-second-of c =
+    let p7 = c .before .before .before .before .before .before .before in
+    let a = p7 in
+    omega (arith, whole-left (a .pre .0) _ _ (a .pre .1), a .pre .0 .room, a .fits .n .fits)
 
 second-of-requires : tie.Need-second-of-requires
-second-of-requires c κs = let a = c .before .before .before .before .before .before .before in omega (arith, whole-left (a .pre .0) _ _ (a .pre .1), a .pre .0 .room, a .fits .n .fits)
+second-of-requires c κs =
+    let p7 = c .before .before .before .before .before .before .before in
+    let a = p7 in
+    omega (arith, whole-left (a .pre .0) _ _ (a .pre .1), a .pre .0 .room, a .fits .n .fits)
 
 returns-2 : tie.Need-returns-2
 returns-2 c = parted-second _ _ _ (omega arith) (omega arith) (c .second-of .ensures)
 
 add-before-group : tie.Need-add-before-group
-add-before-group c = let a = c .before .before .before .before .before .before .before in omega (arith, whole-left (a .pre .0) _ _ (a .pre .1), a .pre .0 .room, a .fits .n .fits)
+add-before-group c =
+    let p7 = c .before .before .before .before .before .before .before in
+    let a = p7 in
+    omega (arith, whole-left (a .pre .0) _ _ (a .pre .1), a .pre .0 .room, a .fits .n .fits)
 
 before-group-requires : tie.Need-before-group-requires
 before-group-requires c κs = tt

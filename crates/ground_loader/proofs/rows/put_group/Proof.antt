@@ -27,7 +27,11 @@ same-length : tie.Need-same-length
 same-length c = search needs
 
 returns-2 : tie.Need-returns-2
-returns-2 c = group-zeros _ _ _ _ (omega arith) (c .before .before .before .before .before .before .part-size .ensures) (c .before .before .before .before .store .ensures .1) (c .before .put-second .ensures)
+returns-2 c =
+    let p1 = c .before in
+    let p4 = p1 .before .before .before in
+    let p6 = p4 .before .before in
+    group-zeros _ _ _ _ (omega arith) (p6 .part-size .ensures) (p4 .store .ensures .1) (p1 .put-second .ensures)
 
 pub put-group-spec : {M : Type 1} → statement M
 put-group-spec = tie.close (tie.spec returns part-size-requires store-requires add-put-second cast-put-second put-second-requires same-length returns-2)

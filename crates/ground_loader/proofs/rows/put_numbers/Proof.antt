@@ -10,7 +10,11 @@ width-of-requires : tie.Need-width-of-requires
 width-of-requires c κs = tt
 
 store-requires : tie.Need-store-requires
-store-requires c κs = let a = c .before .before in (omega (arith, c .before .width-of .ensures, widest (a .args .c .code)), omega (arith, whole-left (a .pre .0) _ _ (a .pre .1), a .pre .0 .room, a .pre .2))
+store-requires c κs =
+    let p1 = c .before in
+    let p2 = p1 .before in
+    let a = p2 in
+    (omega (arith, p1 .width-of .ensures, widest (a .args .c .code)), omega (arith, whole-left (a .pre .0) _ _ (a .pre .1), a .pre .0 .room, a .pre .2))
 
 same-length : tie.Need-same-length
 same-length c = search needs

@@ -18,7 +18,10 @@ same-length : tie.Need-same-length
 same-length c = search needs
 
 returns-2 : tie.Need-returns-2
-returns-2 c = second-zeros _ _ _ _ (omega arith) (c .before .before .before .part-size .ensures) (c .before .store .ensures .1)
+returns-2 c =
+    let p1 = c .before in
+    let p3 = p1 .before .before in
+    second-zeros _ _ _ _ (omega arith) (p3 .part-size .ensures) (p1 .store .ensures .1)
 
 pub put-second-spec : {M : Type 1} → statement M
 put-second-spec = tie.close (tie.spec returns part-size-requires store-requires same-length returns-2)

@@ -19,10 +19,18 @@ whole-of-requires : tie.Need-whole-of-requires
 whole-of-requires c κs = omega (arith, c .before .before .width-of .ensures, wide (c .before .before .before .pre))
 
 largest-requires : tie.Need-largest-requires
-largest-requires c κs = omega (arith, c .before .before .before .width-of .ensures, widest (c .before .before .before .before .args .c .code))
+largest-requires c κs =
+    let p3 = c .before .before .before in
+    let p4 = p3 .before in
+    omega (arith, p3 .width-of .ensures, widest (p4 .args .c .code))
 
 returns : tie.Need-returns
-returns c = seen-is (c .before .before .before .before .before .args .c) _ (c .before .before .before .before .width-of .ensures) (c .before .before .before .joined .ensures) (c .before .whole-of .ensures) (c .largest .ensures)
+returns c =
+    let p1 = c .before in
+    let p3 = p1 .before .before in
+    let p4 = p3 .before in
+    let p5 = p4 .before in
+    seen-is (p5 .args .c) _ (p4 .width-of .ensures) (p3 .joined .ensures) (p1 .whole-of .ensures) (c .largest .ensures)
 
 pub see-spec : {M : Type 1} → statement M
 see-spec = tie.close (tie.spec width-of-requires joined-requires add-whole-of whole-of-requires largest-requires returns)

@@ -21,7 +21,12 @@ same-length : tie.Need-same-length
 same-length c = search needs
 
 returns-2 : tie.Need-returns-2
-returns-2 c = group-on _ _ _ (c .before .before .before .before .before .before .pre .0) _ (c .before .before .before .before .before .group-refused .ensures) (c .before .before .before .before .if1 .left) (c .group-of .ensures) (c .before .before .put-group .ensures)
+returns-2 c =
+    let p2 = c .before .before in
+    let p4 = p2 .before .before in
+    let p5 = p4 .before in
+    let p6 = p5 .before in
+    group-on _ _ _ (p6 .pre .0) _ (p5 .group-refused .ensures) (p4 .if1 .left) (c .group-of .ensures) (p2 .put-group .ensures)
 
 pub take-group-spec : {M : Type 1} → statement M
 take-group-spec = tie.close (tie.spec group-refused-requires returns put-group-requires group-of-requires same-length returns-2)
