@@ -93,7 +93,7 @@ pub size-room : (n d : ℕ) {k : ℕ} → d ≤ n → k ≡ partSize n d → d +
 size-room n d h e = omega arith
 
 -- ---- a part: what its numbers allow
-greatest-below : (w k m b : ℕ) → m < 2 ^ w → greatest m (numbersIn w k b) < 2 ^ w
+pub greatest-below : (w k m b : ℕ) → m < 2 ^ w → greatest m (numbersIn w k b) < 2 ^ w
 unfolding greatest numbersIn
 greatest-below w zero m b h = h
 greatest-below w (suc k) m b h = greatest-below w k (pick (ltb m (b % 2 ^ w)) (b % 2 ^ w) m) (b / 2 ^ w) (go (ltb m (b % 2 ^ w)))

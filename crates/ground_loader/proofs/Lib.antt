@@ -2,3 +2,4 @@ pub mod SmallestLaws
 pub mod NumberLaws
 pub mod ByteLaws
 pub mod PartCame
+pub mod RowCame
