@@ -3,3 +3,4 @@ pub mod NumberLaws
 pub mod ByteLaws
 pub mod PartCame
 pub mod RowCame
+pub mod RowTheorems
