@@ -4,3 +4,4 @@ pub mod ByteLaws
 pub mod PartCame
 pub mod RowCame
 pub mod RowTheorems
+pub mod SumLaws

@@ -79,7 +79,7 @@ nothing-more : (l : List ℕ) → l ++ [] ≡ l
 nothing-more [] = refl
 nothing-more (x ∷ l) = ap (λ r. x ∷ r) (nothing-more l)
 
-drop-past : (i : ℕ) (m : List ℕ) → length m ≤ i → drop i m ≡ []
+pub drop-past : (i : ℕ) (m : List ℕ) → length m ≤ i → drop i m ≡ []
 drop-past i m h = no-length (drop i m) (length-drop i m ∙ gone i (length m) h)
   where
     gone : (a b : ℕ) → b ≤ a → b - a ≡ 0
@@ -146,6 +146,10 @@ zeros-code k =
 zeros-part : (l : List ℕ) → partOf (widthOf 0) l ≡ []
 unfolding partOf widthOf bytesOf
 zeros-part l = ap (λ i. bytesOf ((i + 7) / 8) (digits (2 ^ 0) l)) (zero-mul (length l))
+
+pub none-code : codeOf [] ≡ 0
+unfolding numbersIn
+none-code = zeros-code 0
 
 -- ---- what came of a row
 -- before a group, or the whole row

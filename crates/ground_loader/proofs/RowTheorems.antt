@@ -1,5 +1,5 @@
 -- The bytes of a band row that are taken, whatever they are: the call that takes the next is met with what it requires (`row-standing`); when the row is over
--- they are the bytes of the row whose values are stored (`row-over`); a byte is turned away only where no row has it after them (`row-refused`).
+-- they are the bytes of the row whose values are stored (`row-over`); a byte that some row has after them is not turned away (`row-goes`).
 -- Assumes nothing.
 use mathlib.Core.Path.{_≡_, refl, sym, ap, ap₂, _∙_, subst}
 use mathlib.Core.Bool.{Bool, true, false, not}
@@ -22,6 +22,8 @@ use Rattle.ground_loader.specs.Coming.{partSize, groupRefused, seenBits,
 use Rattle.ground_loader.specs.Taken.{Wanting, Over, Taken, none, more}
 use Rattle.ground_loader.proofs.PartCame.{came-told}
 use Rattle.ground_loader.proofs.RowCame.{Values, Group, First, Second, Within, RowCame, in-group, in-first, in-second, in-part, last-came, last-long, row-byte}
+use Rattle.ground_loader.proofs.RowCame.{drop-past, none-code}
+use Rattle.ground_loader.proofs.ByteLaws.{group-few, group-many, refused-more, refused-code}
 
 -- ---- what came
 start : (n : ℕ) (x : ℕ → ℤ) → Group n [] (Rattle.ground_loader.specs.Coming.between 0) x
@@ -141,3 +143,92 @@ there zs l v u even room bz bl e =
   where
     small : (x y : ℕ) → x ≤ y → min x y ≡ x
     small x y h = omega arith
+
+module _ (n b : ℕ) (byte : b < 2 ^ 8) (t : List ℕ) where
+  -- a part q that has the byte there
+  part-goes : {d m : ℕ} {ps xs : List ℕ} {c : Coming} (i : Within n d m ps xs c) (q v : List ℕ) → length q ≡ m → Below (2 ^ 28) q → codeOf q ≡ c .code
+      → ps ++ (b ∷ t) ≡ partOf (widthOf (codeOf q)) q ++ v → partRefused c (seenOf c b) ≡ false
+  part-goes {d} {m} {ps} {xs} {c} i q v size below code e =
+      elim (decLt (wholeOf c) (c .left)) [
+        | yes p ↦ sym (refused-more c (seenOf c b) p)
+        | no p ↦
+            let all : c .left ≤ wholeOf c = omega arith in
+            let held : Below (2 ^ widthOf (c .code)) q = subst (λ k. Below (2 ^ widthOf k) q) code (code-holds q below) in
+            let bytes : (ps ++ (b ∷ [])) ++ t ≡ partOf (widthOf (c .code)) q ++ v =
+            append-assoc ps (b ∷ []) t ∙ e ∙ ap (λ k. partOf (widthOf k) q ++ v) code in
+            let told = came-told (last-came i b byte all) (last-long i b byte all) q t v size held bytes in
+            sym (refused-code c (seenOf c b) all refl (omega (arith, told .0)) refl) ∙ ap not (eq-eqb _ _ (told .3 ∙ code))
+      ]
+
+  module _ (l u : List ℕ) (size : length l ≡ n) (bl : Below (2 ^ 28) l) where
+    group-goes : {bs : List ℕ} {c : Coming} {y : ℕ → ℤ} → Group n bs c y → Wanting n c → bs ++ (b ∷ t) ≡ rowBytes l ++ u → groupRefused n (c .done) b ≡ false
+    unfolding groupOf
+    group-goes {bs} {c} g wants e =
+        let place : c .done ≡ length (g .zs) = ap (λ v. v .done) (g .is) in
+        let inside : length (g .zs) < n = omega (arith, wants (ap (λ v. v .phase) (g .is)), place) in
+        let th =
+        there (g .zs) l (b ∷ t) u (g .even inside) (omega (arith, size)) (g .below) bl (ap (λ z. z ++ (b ∷ t)) (sym (g .bytes)) ∙ e) in
+        let code : b ≡ codeOf (take 8 (th .g)) + 16 * codeOf (drop 8 (th .g)) = head-is (th .is) in
+        let small : codeOf (take 8 (th .g)) ≤ 15 = code-small (take 8 (th .g)) (below-take (2 ^ 28) 8 (th .g) (th .below)) in
+        elim (decLt b 16) [
+          | yes p ↦ sym (group-few n (c .done) b p)
+          | no p ↦ elim (decLt 8 (n - c .done)) [
+            | yes q ↦ sym (group-many n (c .done) b (omega arith)) ∙ lt-leb (n - c .done) 8 q
+            | no q ↦
+                let short : length (th .g) ≤ 8 = omega (arith, th .size, size, place) in
+                absurd (omega (arith, code, small, ap codeOf (drop-past 8 (th .g) short) ∙ none-code))
+          ]
+        ]
+
+    first-goes : {bs : List ℕ} {c : Coming} {y : ℕ → ℤ} → First n bs c y → bs ++ (b ∷ t) ≡ rowBytes l ++ u → partRefused c (seenOf c b) ≡ false
+    unfolding groupOf
+    first-goes {bs} {c} f e =
+        let v = (c .code + 16 * c .next) ∷ (f .ps ++ (b ∷ t)) in
+        let th =
+        there (f .zs) l v u (f .even) (omega (arith, size, f .within .room)) (f .below) bl
+        (sym (append-assoc (rowBytes (f .zs)) ((c .code + 16 * c .next) ∷ f .ps) (b ∷ t)) ∙ ap (λ z. z ++ (b ∷ t)) (sym (f .bytes)) ∙ e) in
+        let q = take 8 (th .g) in
+        let r = drop 8 (th .g) in
+        let bq = below-take (2 ^ 28) 8 (th .g) (th .below) in
+        let codes : c .code + 16 * c .next ≡ codeOf q + 16 * codeOf r = head-is (th .is) in
+        let code : codeOf q ≡ c .code = omega (arith, codes, code-small q bq, f .within .code-few) in
+        let long : length q ≡ partSize n (length (f .zs)) = omega (arith, length-take 8 (th .g), th .size, size) in
+        part-goes (f .within) q (partOf (widthOf (codeOf r)) r ++ th .rest) long bq code
+        (tail-is (th .is) ∙ append-assoc (partOf (widthOf (codeOf q)) q) (partOf (widthOf (codeOf r)) r) (th .rest))
+
+    second-goes : {bs : List ℕ} {c : Coming} {y : ℕ → ℤ} → Second n bs c y → bs ++ (b ∷ t) ≡ rowBytes l ++ u → partRefused c (seenOf c b) ≡ false
+    unfolding groupOf
+    second-goes {bs} {c} f e =
+        let p = partOf (widthOf (codeOf (f .ys))) (f .ys) in
+        let v = (codeOf (f .ys) + 16 * c .code) ∷ (p ++ (f .ps ++ (b ∷ t))) in
+        let bytes : rowBytes (f .zs) ++ v ≡ bs ++ (b ∷ t) =
+        sym (ap (λ z. z ++ (b ∷ t)) (f .bytes)
+        ∙ append-assoc (rowBytes (f .zs)) ((codeOf (f .ys) + 16 * c .code) ∷ (p ++ f .ps)) (b ∷ t)
+        ∙ ap (λ z. rowBytes (f .zs) ++ ((codeOf (f .ys) + 16 * c .code) ∷ z)) (append-assoc p (f .ps) (b ∷ t))) in
+        let th = there (f .zs) l v u (f .even) (omega (arith, size, f .within .room)) (f .below) bl (bytes ∙ e) in
+        let q = take 8 (th .g) in
+        let r = drop 8 (th .g) in
+        let bq = below-take (2 ^ 28) 8 (th .g) (th .below) in
+        let br = below-drop (2 ^ 28) 8 (th .g) (th .below) in
+        let codes : codeOf (f .ys) + 16 * c .code ≡ codeOf q + 16 * codeOf r = head-is (th .is) in
+        let few : codeOf (f .ys) ≤ 15 = code-small (f .ys) (f .below-first) in
+        let low : codeOf q ≡ codeOf (f .ys) = omega (arith, codes, code-small q bq, few) in
+        let high : codeOf r ≡ c .code = omega (arith, codes, code-small q bq, few) in
+        let long : length r ≡ partSize n (length (f .zs) + length (f .ys)) = omega (arith, length-drop 8 (th .g), th .size, size, f .eight) in
+        let same : length (f .ys) ≡ length q = omega (arith, length-take 8 (th .g), th .size, size, f .eight, f .within .room) in
+        let told =
+        part-told (widthOf (codeOf (f .ys))) (f .ys) q same (code-holds (f .ys) (f .below-first))
+        (subst (λ k. Below (2 ^ widthOf k) q) low (code-holds q bq))
+        (tail-is (th .is) ∙ append-assoc (partOf (widthOf (codeOf q)) q) (partOf (widthOf (codeOf r)) r) (th .rest)
+        ∙ ap (λ k. partOf (widthOf k) q ++ (partOf (widthOf (codeOf r)) r ++ th .rest)) low) in
+        part-goes (f .within) r (th .rest) long br high (told .1)
+
+    -- a row l whose bytes, followed by others, are those taken, the byte and others: the byte is not turned away
+    pub row-goes : {x y : ℕ → ℤ} {bs : List ℕ} {c : Coming} → Taken n x bs c y → Wanting n c → bs ++ (b ∷ t) ≡ rowBytes l ++ u → refused n c b ≡ false
+    unfolding refused
+    row-goes {x} {y} {bs} {c} k wants e = go (taken-came k)
+      where
+        go : RowCame n bs c y → refused n c b ≡ false
+        go (in-group g) = rw (eq-eqb (c .phase) 0 (ap (λ v. v .phase) (g .is))) (group-goes g wants e)
+        go (in-first f) = rw (ne-eqb (c .phase) 0 (λ v. omega (arith, f .phase))) (first-goes f e)
+        go (in-second f) = rw (ne-eqb (c .phase) 0 (λ v. omega (arith, f .phase))) (second-goes f e)
