@@ -75,7 +75,7 @@ no-length : (l : List ℕ) → length l ≡ 0 → l ≡ []
 no-length [] e = refl
 no-length (x ∷ l) e = absurd (omega arith)
 
-nothing-more : (l : List ℕ) → l ++ [] ≡ l
+pub nothing-more : (l : List ℕ) → l ++ [] ≡ l
 nothing-more [] = refl
 nothing-more (x ∷ l) = ap (λ r. x ∷ r) (nothing-more l)
 

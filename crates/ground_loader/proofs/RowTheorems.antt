@@ -1,10 +1,12 @@
 -- The bytes of a band row that are taken, whatever they are: the call that takes the next is met with what it requires (`row-standing`); when the row is over
--- they are the bytes of the row whose values are stored (`row-over`); a byte that some row has after them is not turned away (`row-goes`).
+-- they are the bytes of the row whose values are stored (`row-over`); a byte that some row has after them is not turned away (`row-goes`); and
+-- while bytes are wanted they are not all of a row's (`row-short`).
 -- Assumes nothing.
 use mathlib.Core.Path.{_≡_, refl, sym, ap, ap₂, _∙_, subst}
 use mathlib.Core.Bool.{Bool, true, false, not}
 use mathlib.Core.List.{List, [], _∷_, _++_, append-assoc}
 use Prim.Native.Nat.{ℕ, zero, suc, _+_, _*_, _-_, _/_, _%_, _^_, _≤_, _<_, min}
+use native.Mathlib.Nat.{mul-add, mul-one, mul-le-mul-left}
 use native.Mathlib.Omega.{arith}
 use native.Mathlib.Decide.{decLt}
 use lib.IntN.{ℤ, pos, negsuc}
@@ -15,14 +17,14 @@ use Rattle.numbers.specs.Signal.{pick}
 use Rattle.ground_file.specs.Groups.{zigzag, widthOf, codeOf, partOf, groupOf, groupsOf, rowBytes}
 use Rattle.ground_file.specs.File.{listed}
 use Rattle.ground_file.proofs.Digits.{Below, none, more, head-is, tail-is}
-use Rattle.ground_file.proofs.GroupLaws.{code-small, code-holds, below-take, below-drop, part-told, row-told}
+use Rattle.ground_file.proofs.GroupLaws.{code-small, code-holds, below-take, below-drop, part-length, part-told, row-told}
 use Rattle.ground_loader.specs.declared.rows.Coming.{Coming}
 use Rattle.ground_loader.specs.Numbers.{valueOf}
 use Rattle.ground_loader.specs.Coming.{partSize, groupRefused, seenBits, wholeOf, seenOf, partRefused, refused, Standing}
 use Rattle.ground_loader.specs.Taken.{Wanting, Over, Taken, none, more}
 use Rattle.ground_loader.proofs.PartCame.{came-told}
 use Rattle.ground_loader.proofs.RowCame.{Values, Group, First, Second, Within, RowCame, in-group, in-first, in-second, in-part, last-came, last-long, row-byte}
-use Rattle.ground_loader.proofs.RowCame.{drop-past, none-code}
+use Rattle.ground_loader.proofs.RowCame.{drop-past, none-code, nothing-more}
 use Rattle.ground_loader.proofs.ByteLaws.{group-few, group-many, refused-more, refused-code}
 
 -- ---- what came
@@ -232,3 +234,71 @@ module _ (n b : ℕ) (byte : b < 2 ^ 8) (t : List ℕ) where
         go (in-group g) = rw (eq-eqb (c .phase) 0 (ap (λ v. v .phase) (g .is))) (group-goes g wants e)
         go (in-first f) = rw (ne-eqb (c .phase) 0 (λ v. omega (arith, f .phase))) (first-goes f e)
         go (in-second f) = rw (ne-eqb (c .phase) 0 (λ v. omega (arith, f .phase))) (second-goes f e)
+
+-- ---- a row that wants bytes is not whole
+-- fewer bytes of the part came than it has
+part-short : {n d m : ℕ} {ps xs : List ℕ} {c : Coming} → Within n d m ps xs c → (q v : List ℕ) → length q ≡ m → codeOf q ≡ c .code
+    → ps ≡ partOf (widthOf (codeOf q)) q ++ v → ⊥
+part-short {m = m} {ps} {xs} {c} i q v size code e =
+    let w = widthOf (c .code) in
+    let parts : w * m ≡ w * length xs + w * c .left = ap (λ k. w * k) (sym (i .came .size)) ∙ mul-add w (length xs) (c .left) in
+    let least : w * 1 ≤ w * c .left = mul-le-mul-left w (i .some) in
+    let long : length (partOf (widthOf (codeOf q)) q) ≡ (w * m + 7) / 8 =
+    part-length (widthOf (codeOf q)) q ∙ ap₂ (λ k j. (widthOf k * j + 7) / 8) code size in
+    let whole : length ps ≡ length (partOf (widthOf (codeOf q)) q) + length v = ap length e ∙ length-append (partOf (widthOf (codeOf q)) q) v in
+    omega (arith, parts, least, mul-one w, long, whole, i .few, i .came .count)
+
+module _ (n : ℕ) (l u : List ℕ) (size : length l ≡ n) (bl : Below (2 ^ 28) l) where
+  group-short : {bs : List ℕ} {c : Coming} {y : ℕ → ℤ} → Group n bs c y → Wanting n c → bs ≡ rowBytes l ++ u → ⊥
+  unfolding groupOf
+  group-short {bs} {c} g wants e =
+      let place : c .done ≡ length (g .zs) = ap (λ v. v .done) (g .is) in
+      let inside : length (g .zs) < n = omega (arith, wants (ap (λ v. v .phase) (g .is)), place) in
+      let th = there (g .zs) l [] u (g .even inside) (omega (arith, size)) (g .below) bl (nothing-more (rowBytes (g .zs)) ∙ sym (g .bytes) ∙ e) in
+      let none-there : 0 ≡ length (groupOf (th .g) ++ th .rest) = ap length (th .is) in
+      omega arith
+
+  first-short : {bs : List ℕ} {c : Coming} {y : ℕ → ℤ} → First n bs c y → bs ≡ rowBytes l ++ u → ⊥
+  unfolding groupOf
+  first-short {bs} {c} f e =
+      let th =
+      there (f .zs) l ((c .code + 16 * c .next) ∷ f .ps) u (f .even) (omega (arith, size, f .within .room)) (f .below) bl (sym (f .bytes) ∙ e) in
+      let q = take 8 (th .g) in
+      let r = drop 8 (th .g) in
+      let bq = below-take (2 ^ 28) 8 (th .g) (th .below) in
+      let codes : c .code + 16 * c .next ≡ codeOf q + 16 * codeOf r = head-is (th .is) in
+      let code : codeOf q ≡ c .code = omega (arith, codes, code-small q bq, f .within .code-few) in
+      let long : length q ≡ partSize n (length (f .zs)) = omega (arith, length-take 8 (th .g), th .size, size) in
+      part-short (f .within) q (partOf (widthOf (codeOf r)) r ++ th .rest) long code
+      (tail-is (th .is) ∙ append-assoc (partOf (widthOf (codeOf q)) q) (partOf (widthOf (codeOf r)) r) (th .rest))
+
+  second-short : {bs : List ℕ} {c : Coming} {y : ℕ → ℤ} → Second n bs c y → bs ≡ rowBytes l ++ u → ⊥
+  unfolding groupOf
+  second-short {bs} {c} f e =
+      let p = partOf (widthOf (codeOf (f .ys))) (f .ys) in
+      let th =
+      there (f .zs) l ((codeOf (f .ys) + 16 * c .code) ∷ (p ++ f .ps)) u (f .even) (omega (arith, size, f .within .room)) (f .below) bl (sym (f .bytes) ∙ e) in
+      let q = take 8 (th .g) in
+      let r = drop 8 (th .g) in
+      let bq = below-take (2 ^ 28) 8 (th .g) (th .below) in
+      let codes : codeOf (f .ys) + 16 * c .code ≡ codeOf q + 16 * codeOf r = head-is (th .is) in
+      let few : codeOf (f .ys) ≤ 15 = code-small (f .ys) (f .below-first) in
+      let low : codeOf q ≡ codeOf (f .ys) = omega (arith, codes, code-small q bq, few) in
+      let high : codeOf r ≡ c .code = omega (arith, codes, code-small q bq, few) in
+      let long : length r ≡ partSize n (length (f .zs) + length (f .ys)) = omega (arith, length-drop 8 (th .g), th .size, size, f .eight) in
+      let same : length (f .ys) ≡ length q = omega (arith, length-take 8 (th .g), th .size, size, f .eight, f .within .room) in
+      let told =
+      part-told (widthOf (codeOf (f .ys))) (f .ys) q same (code-holds (f .ys) (f .below-first))
+      (subst (λ k. Below (2 ^ widthOf k) q) low (code-holds q bq))
+      (tail-is (th .is) ∙ append-assoc (partOf (widthOf (codeOf q)) q) (partOf (widthOf (codeOf r)) r) (th .rest)
+      ∙ ap (λ k. partOf (widthOf k) q ++ (partOf (widthOf (codeOf r)) r ++ th .rest)) low) in
+      part-short (f .within) r (th .rest) long high (told .1)
+
+  -- while bytes are wanted, those taken are not all of a row's
+  pub row-short : {x y : ℕ → ℤ} {bs : List ℕ} {c : Coming} → Taken n x bs c y → Wanting n c → bs ≡ rowBytes l ++ u → ⊥
+  row-short {x} {y} {bs} {c} k wants e = go (taken-came k)
+    where
+      go : RowCame n bs c y → ⊥
+      go (in-group g) = group-short g wants e
+      go (in-first f) = first-short f e
+      go (in-second f) = second-short f e
