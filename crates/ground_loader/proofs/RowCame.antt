@@ -21,7 +21,8 @@ use Rattle.ground_loader.specs.declared.rows.Coming.{Coming}
 use Rattle.ground_loader.specs.declared.rows.Seen.{Seen}
 use Rattle.ground_loader.specs.Numbers.{valueOf, numberAt, numbersIn, greatest}
 use Rattle.ground_loader.specs.Coming.{put, partSize, between, opened, second, secondPut, grouped, groupPut, groupRefused}
-use Rattle.ground_loader.specs.Coming.{seenBits, wholeOf, seenOf, stayed, partRefused, parted, partStored, endsFirst, partPut, refused, moved, putOn, InPart}
+use Rattle.ground_loader.specs.Coming.{seenBits, wholeOf, seenOf, stayed, partRefused, parted, partStored, endsFirst, partPut}
+use Rattle.ground_loader.specs.Coming.{refused, moved, putOn, InPart}
 use Rattle.ground_loader.proofs.SmallestLaws.{widest, some-width, smallest-none}
 use Rattle.ground_loader.proofs.ByteLaws.{whole-used, greatest-below, second-open, second-kept, second-none, second-zeros}
 use Rattle.ground_loader.proofs.ByteLaws.{group-open, group-kept, group-none, group-zeros, group-many, parted-stay, parted-second, parted-over}
@@ -108,26 +109,30 @@ module _ (ys xs : List ℕ) (h : Halves ys xs) where
   unfolding groupOf
   group-is = rw (first-is, second-is) refl
 
-groups-end : (k : ℕ) (l g : List ℕ) → length l ≡ 16 * k → 0 < length g → length g ≤ 16 → groupsOf (k + 1) (l ++ g) ≡ groupsOf k l ++ groupOf g
+-- groups after groups
+pub groups-front : (k m : ℕ) (a r : List ℕ) → length a ≡ 16 * k → groupsOf (k + m) (a ++ r) ≡ groupsOf k a ++ groupsOf m r
 unfolding groupsOf
-groups-end zero l g e p q =
-    let none-there : l ≡ [] = no-length l (omega arith) in
-    ap (λ r. groupOf (take 16 (r ++ g)) ++ []) none-there ∙ nothing-more (groupOf (take 16 g)) ∙ ap groupOf (take-all 16 g q)
-groups-end (suc k) l g e p q =
-    let s : suc k + 1 ≡ suc (k + 1) = omega arith in
-    let front = take-drop-front 16 l g (omega arith) in
+groups-front zero m [] r e = let z : 0 + m ≡ m = omega arith in rw z refl
+groups-front zero m (x ∷ a) r e = absurd (omega arith)
+groups-front (suc k) m a r e =
+    let s : suc k + m ≡ suc (k + m) = omega arith in
+    let front = parts 16 a (omega arith) in
     rw s
-    (ap₂ (λ a b. groupOf a ++ groupsOf (k + 1) b) (front .0) (front .1)
-    ∙ ap (λ r. groupOf (take 16 l) ++ r) (groups-end k (drop 16 l) g (length-drop 16 l ∙ less (length l) e) p q)
-    ∙ sym (append-assoc (groupOf (take 16 l)) (groupsOf k (drop 16 l)) (groupOf g)))
+    (ap₂ (λ p q. groupOf p ++ groupsOf (k + m) q) (front .0) (front .1)
+    ∙ ap (λ q. groupOf (take 16 a) ++ q) (groups-front k m (drop 16 a) r (length-drop 16 a ∙ less (length a) e))
+    ∙ sym (append-assoc (groupOf (take 16 a)) (groupsOf k (drop 16 a)) (groupsOf m r)))
   where
     less : (n : ℕ) → n ≡ 16 * suc k → n - 16 ≡ 16 * k
     less n f = omega arith
 
-    take-drop-front : (i : ℕ) (m r : List ℕ) → i ≤ length m → (take i (m ++ r) ≡ take i m) × (drop i (m ++ r) ≡ drop i m ++ r)
-    take-drop-front zero m r f = (refl, refl)
-    take-drop-front (suc i) [] r f = absurd (omega arith)
-    take-drop-front (suc i) (z ∷ m) r f = let t = take-drop-front i m r (omega arith) in (ap (λ v. z ∷ v) (t .0), t .1)
+    parts : (i : ℕ) (l : List ℕ) → i ≤ length l → (take i (l ++ r) ≡ take i l) × (drop i (l ++ r) ≡ drop i l ++ r)
+    parts zero l f = (refl, refl)
+    parts (suc i) [] f = absurd (omega arith)
+    parts (suc i) (z ∷ l) f = let t = parts i l (omega arith) in (ap (λ v. z ∷ v) (t .0), t .1)
+
+groups-end : (k : ℕ) (l g : List ℕ) → length l ≡ 16 * k → 0 < length g → length g ≤ 16 → groupsOf (k + 1) (l ++ g) ≡ groupsOf k l ++ groupOf g
+unfolding groupsOf
+groups-end k l g e p q = groups-front k 1 l g e ∙ ap (λ r. groupsOf k l ++ r) (nothing-more (groupOf (take 16 g)) ∙ ap groupOf (take-all 16 g q))
 
 pub row-more : (l g : List ℕ) → length l % 16 ≡ 0 → 0 < length g → length g ≤ 16 → rowBytes (l ++ g) ≡ rowBytes l ++ groupOf g
 unfolding rowBytes
@@ -442,7 +447,8 @@ module _ (n : ℕ) (b : ℕ) (byte : b < 2 ^ 8) where
             values = subst (Values x) (sym (nothing-more (g .zs))) (g .values);
           }
 
-      skips : b % 16 ≡ 0 → RowCame n (bs ++ (b ∷ [])) (second n (d + partSize n d) (b / 16)) (secondPut n (d + partSize n d) (b / 16) (put d 0 (partSize n d) 0 x))
+      skips : b % 16 ≡ 0
+          → RowCame n (bs ++ (b ∷ [])) (second n (d + partSize n d) (b / 16)) (secondPut n (d + partSize n d) (b / 16) (put d 0 (partSize n d) 0 x))
       skips e =
           let k = partSize n d in
           let zeros = numbersIn 0 k 0 in
@@ -458,7 +464,9 @@ module _ (n : ℕ) (b : ℕ) (byte : b < 2 ^ 8) where
   goes-on : (c : Coming) → partRefused c (seenOf c b) ≡ false → c .left ≤ wholeOf c
       → (seenBits c b / 2 ^ (widthOf (c .code) * wholeOf c) ≡ 0) × (codeOf (seenOf c b .most ∷ []) ≡ c .code)
   unfolding partRefused
-  goes-on c e h = go (ltb 0 rest) (eqb (codeOf (seenOf c b .most ∷ [])) (c .code)) refl refl (subst (λ t. pick t false later ≡ false) (le-ltb (wholeOf c) (c .left) h) e)
+  goes-on c e h =
+      go (ltb 0 rest) (eqb (codeOf (seenOf c b .most ∷ [])) (c .code)) refl refl
+      (subst (λ t. pick t false later ≡ false) (le-ltb (wholeOf c) (c .left) h) e)
     where
       rest : ℕ
       rest = seenBits c b / 2 ^ (widthOf (c .code) * wholeOf c)
@@ -526,7 +534,8 @@ module _ (n : ℕ) (b : ℕ) (byte : b < 2 ^ 8) where
             values = values;
           }
 
-      ends : c .left ≤ wholeOf c → RowCame n (bs ++ (b ∷ [])) (second n (c .done + wholeOf c) (c .next)) (secondPut n (c .done + wholeOf c) (c .next) (partStored c s x))
+      ends : c .left ≤ wholeOf c
+          → RowCame n (bs ++ (b ∷ [])) (second n (c .done + wholeOf c) (c .next)) (secondPut n (c .done + wholeOf c) (c .next) (partStored c s x))
       ends p =
           let came = last-came (f .within) b byte p in
           let on = goes-on c goes p in

@@ -23,8 +23,9 @@ use Rattle.ground_loader.specs.Numbers.{valueOf}
 use Rattle.ground_loader.specs.Coming.{partSize, groupRefused, seenBits, wholeOf, seenOf, partRefused, refused, Standing}
 use Rattle.ground_loader.specs.Taken.{Wanting, Over, Taken, none, more}
 use Rattle.ground_loader.proofs.PartCame.{came-told}
-use Rattle.ground_loader.proofs.RowCame.{Values, Group, First, Second, Within, RowCame, in-group, in-first, in-second, in-part, last-came, last-long, row-byte}
-use Rattle.ground_loader.proofs.RowCame.{drop-past, none-code, nothing-more}
+use Rattle.ground_loader.proofs.RowCame.{Values, Group, First, Second, Within, RowCame, in-group, in-first, in-second}
+use Rattle.ground_loader.proofs.RowCame.{in-part, last-came, last-long, row-byte}
+use Rattle.ground_loader.proofs.RowCame.{drop-past, none-code, nothing-more, groups-front}
 use Rattle.ground_loader.proofs.ByteLaws.{group-few, group-many, refused-more, refused-code}
 
 -- ---- what came
@@ -89,26 +90,6 @@ record There (m : ℕ) (v : List ℕ) : Type 0 where
   is : v ≡ groupOf g ++ rest
   size : length g ≡ min 16 m
   below : Below (2 ^ 28) g
-
-groups-front : (k m : ℕ) (a r : List ℕ) → length a ≡ 16 * k → groupsOf (k + m) (a ++ r) ≡ groupsOf k a ++ groupsOf m r
-unfolding groupsOf
-groups-front zero m [] r e = let z : 0 + m ≡ m = omega arith in rw z refl
-groups-front zero m (x ∷ a) r e = absurd (omega arith)
-groups-front (suc k) m a r e =
-    let s : suc k + m ≡ suc (k + m) = omega arith in
-    let front = parts 16 a (omega arith) in
-    rw s
-    (ap₂ (λ p q. groupOf p ++ groupsOf (k + m) q) (front .0) (front .1)
-    ∙ ap (λ q. groupOf (take 16 a) ++ q) (groups-front k m (drop 16 a) r (length-drop 16 a ∙ less (length a) e))
-    ∙ sym (append-assoc (groupOf (take 16 a)) (groupsOf k (drop 16 a)) (groupsOf m r)))
-  where
-    less : (n : ℕ) → n ≡ 16 * suc k → n - 16 ≡ 16 * k
-    less n f = omega arith
-
-    parts : (i : ℕ) (l : List ℕ) → i ≤ length l → (take i (l ++ r) ≡ take i l) × (drop i (l ++ r) ≡ drop i l ++ r)
-    parts zero l f = (refl, refl)
-    parts (suc i) [] f = absurd (omega arith)
-    parts (suc i) (z ∷ l) f = let t = parts i l (omega arith) in (ap (λ v. z ∷ v) (t .0), t .1)
 
 row-front : (a r : List ℕ) → length a % 16 ≡ 0 → 0 < length r
     → rowBytes (a ++ r) ≡ rowBytes a ++ (groupOf (take 16 r) ++ groupsOf ((length r + 15) / 16 - 1) (drop 16 r))
