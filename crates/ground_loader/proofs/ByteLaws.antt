@@ -1,15 +1,14 @@
 -- Behind the calls that take a byte, over plain variables: what each case of a definition says. Assumes nothing.
-use mathlib.Core.Path.{_≡_, refl, sym, ap, ap₂, _∙_, subst}
+use mathlib.Core.Path.{_≡_, refl, sym, ap, ap₂, _∙_}
 use mathlib.Core.Bool.{Bool, true, false, not}
-use mathlib.Core.List.{List, [], _∷_}
+use mathlib.Core.List.{[], _∷_}
 use Prim.Native.Nat.{ℕ, zero, suc, _+_, _*_, _-_, _/_, _%_, _^_, _≤_, _<_, min}
 use native.Mathlib.Nat.{mul-le-mul-left, mul-le-mul-right, div-mul-le-self, mul-comm, mod-lt}
 use native.Mathlib.Omega.{arith}
-use native.Mathlib.Decide.{decLt}
 use lib.IntN.{ℤ}
 use lib.Dec.{ltb, leb, eqb}
 use lib.Pow.{pow-pos, pow-mono}
-use borrow.Author.Tests.{lt-ltb, le-ltb, le-leb, lt-leb, eq-eqb, ne-eqb}
+use borrow.Author.Tests.{lt-ltb, le-ltb, eq-eqb, ne-eqb}
 use Rattle.numbers.specs.Signal.{pick, spliced}
 use Rattle.ground_file.specs.Groups.{widthOf, codeOf}
 use Rattle.ground_loader.specs.declared.rows.Coming.{Coming}
@@ -18,7 +17,7 @@ use Rattle.ground_loader.specs.declared.rows.Took.{Took}
 use Rattle.ground_loader.specs.Numbers.{valueOf, numberAt, numbersIn, greatest}
 use Rattle.ground_loader.specs.Coming.{put, partSize, between, opened, second, secondPut, grouped, groupPut, groupRefused}
 use Rattle.ground_loader.specs.Coming.{seenBits, wholeOf, seenOf, partRefused, stayed, parted, endsFirst, partStored, partPut}
-use Rattle.ground_loader.specs.Coming.{refused, moved, putOn, tookOf, InPart, Standing}
+use Rattle.ground_loader.specs.Coming.{refused, moved, putOn, tookOf, InPart}
 use Rattle.ground_loader.proofs.SmallestLaws.{widest, some-width}
 
 -- ---- the second part

@@ -1,7 +1,6 @@
 -- Behind the loops over the numbers in some bits: the lowest bits, the largest number, the numbers stored (`Storing`). Assumes nothing.
 use mathlib.Core.Path.{_≡_, refl, sym, ap, _∙_, subst}
-use mathlib.Core.Bool.{Bool, true, false}
-use mathlib.Core.List.{List, [], _∷_}
+use mathlib.Core.List.{List, _∷_}
 use Prim.Native.Nat.{ℕ, zero, suc, _+_, _*_, _-_, _/_, _%_, _^_, _≤_, _<_}
 use native.Mathlib.Nat.{mul-suc, mul-zero, div-one, mod-lt, lt-of-lt-of-le}
 use native.Mathlib.Omega.{arith}
@@ -11,8 +10,8 @@ use lib.ListN.{length, set}
 use lib.Pow.{split, shr-shr, pow-pos, pow-mono}
 use borrow.Author.Tests.{lt-ltb, le-ltb, eq-eqb, ne-eqb}
 use mir.Syntax.{w32}
-use mir.Val.{SFits, toZ, ofZ}
-use mir.ValLaws.{toZ-ofZ, toZ-pos}
+use mir.Val.{SFits, toZ}
+use mir.ValLaws.{toZ-pos}
 use Rattle.numbers.proofs.Integers.{each, lin}
 use Rattle.numbers.specs.Signal.{at, pick, spliced}
 use Rattle.numbers.proofs.Sweep.{Swept, start, store, finish}

@@ -1,10 +1,9 @@
 -- A part as its bytes come in: what came of it (`Came`) with one byte more (`came-byte`); with its last byte it is the part of its numbers (`came-end`), and a
 -- part that has this byte there is not turned away (`came-told`). Assumes nothing.
 use mathlib.Core.Path.{_≡_, refl, sym, ap, ap₂, _∙_, subst}
-use mathlib.Core.Bool.{Bool, true, false}
-use mathlib.Core.List.{List, [], _∷_, _++_, append-assoc}
-use Prim.Native.Nat.{ℕ, zero, suc, _+_, _*_, _-_, _/_, _%_, _^_, _≤_, _<_, min}
-use native.Mathlib.Nat.{mul-add, mul-zero, mul-one, mul-suc, mul-comm, mul-assoc, mul-le-mul-left, div-one, mod-lt, zero-add, lt-of-lt-of-le}
+use mathlib.Core.List.{List, [], _∷_, _++_}
+use Prim.Native.Nat.{ℕ, zero, suc, _+_, _*_, _-_, _/_, _%_, _^_, _≤_, _<_}
+use native.Mathlib.Nat.{mul-add, mul-zero, mul-one, mul-suc, mul-comm, mul-assoc, mul-le-mul-left, div-one, mod-lt, lt-of-lt-of-le}
 use native.Mathlib.Omega.{arith}
 use native.Mathlib.Decide.{decLt}
 use lib.Dec.{ltb}
@@ -12,7 +11,7 @@ use lib.ListN.{length, length-append}
 use lib.Pow.{split, pow-pos, pow-add, pow-mono, shr-shr, shr-lt}
 use borrow.Author.Tests.{lt-ltb, le-ltb}
 use Rattle.numbers.specs.Signal.{pick}
-use Rattle.ground_file.specs.Groups.{widthOf, codeOf, digits, bytesOf, partOf}
+use Rattle.ground_file.specs.Groups.{codeOf, digits, bytesOf, partOf}
 use Rattle.ground_file.specs.Local.{largestOf}
 use Rattle.ground_file.proofs.Digits.{append-is, Below, none, more, digits-told, digits-below}
 use Rattle.ground_file.proofs.GroupLaws.{part-length}

@@ -4,15 +4,15 @@ use mathlib.Core.Path.{_≡_, refl, sym, ap, ap₂, _∙_, subst}
 use mathlib.Core.Bool.{Bool, true, false, not}
 use mathlib.Core.List.{List, [], _∷_, _++_, append-assoc}
 use Prim.Native.Nat.{ℕ, zero, suc, _+_, _*_, _-_, _/_, _%_, _^_, _≤_, _<_, min}
-use native.Mathlib.Nat.{mul-add, mul-zero, zero-mul, mul-one, mul-suc, mul-comm, mul-le-mul-left, div-one, div-add-mod, mod-lt, lt-of-lt-of-le}
+use native.Mathlib.Nat.{mul-add, mul-zero, zero-mul, mul-one, mul-suc, mul-le-mul-left, div-one, div-add-mod, mod-lt, lt-of-lt-of-le}
 use native.Mathlib.Omega.{arith}
 use native.Mathlib.Decide.{decLt}
 use lib.IntN.{ℤ, pos}
 use lib.Dec.{ltb, leb, eqb}
-use lib.ListN.{length, getD, take, drop, length-append, length-take, length-drop}
+use lib.ListN.{length, getD, take, drop, length-append, length-drop}
 use lib.Seq.{take-append-seam, drop-append-seam, take-all}
 use lib.Pow.{shr-shr, pow-pos, pow-mono}
-use borrow.Author.Tests.{lt-ltb, le-ltb, le-leb, lt-leb, eq-eqb, ne-eqb, eqb-true, leb-false, ltb-false}
+use borrow.Author.Tests.{le-ltb, eq-eqb, ne-eqb, eqb-true, leb-false, ltb-false}
 use Rattle.numbers.specs.Signal.{pick, spliced}
 use Rattle.numbers.proofs.Parts.{splice-below, splice-in}
 use Rattle.ground_file.specs.Groups.{widthOf, codeOf, digits, bytesOf, partOf, groupOf, groupsOf, rowBytes}
@@ -21,7 +21,7 @@ use Rattle.ground_loader.specs.declared.rows.Coming.{Coming}
 use Rattle.ground_loader.specs.declared.rows.Seen.{Seen}
 use Rattle.ground_loader.specs.Numbers.{valueOf, numberAt, numbersIn, greatest}
 use Rattle.ground_loader.specs.Coming.{put, partSize, between, opened, second, secondPut, grouped, groupPut, groupRefused}
-use Rattle.ground_loader.specs.Coming.{seenBits, wholeOf, seenOf, stayed, partRefused, parted, partStored, endsFirst, partPut}
+use Rattle.ground_loader.specs.Coming.{seenBits, wholeOf, seenOf, stayed, partRefused, parted, partStored, partPut}
 use Rattle.ground_loader.specs.Coming.{refused, moved, putOn, InPart}
 use Rattle.ground_loader.proofs.SmallestLaws.{widest, some-width, smallest-none}
 use Rattle.ground_loader.proofs.ByteLaws.{whole-used, greatest-below, second-open, second-kept, second-none, second-zeros}

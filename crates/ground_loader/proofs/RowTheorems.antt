@@ -3,27 +3,26 @@
 -- while bytes are wanted they are not all of a row's (`row-short`).
 -- Assumes nothing.
 use mathlib.Core.Path.{_≡_, refl, sym, ap, ap₂, _∙_, subst}
-use mathlib.Core.Bool.{Bool, true, false, not}
+use mathlib.Core.Bool.{false, not}
 use mathlib.Core.List.{List, [], _∷_, _++_, append-assoc}
-use Prim.Native.Nat.{ℕ, zero, suc, _+_, _*_, _-_, _/_, _%_, _^_, _≤_, _<_, min}
+use Prim.Native.Nat.{ℕ, suc, _+_, _*_, _-_, _/_, _%_, _^_, _≤_, _<_, min}
 use native.Mathlib.Nat.{mul-add, mul-one, mul-le-mul-left}
 use native.Mathlib.Omega.{arith}
 use native.Mathlib.Decide.{decLt}
-use lib.IntN.{ℤ, pos, negsuc}
-use lib.Dec.{ltb, leb, eqb}
+use lib.IntN.{ℤ}
+use lib.Dec.{leb, eqb}
 use lib.ListN.{length, getD, take, drop, length-append, length-take, length-drop, take-append-drop}
-use borrow.Author.Tests.{lt-ltb, le-ltb, le-leb, lt-leb, eq-eqb, ne-eqb, eqb-true, leb-true, ltb-false}
-use Rattle.numbers.specs.Signal.{pick}
+use borrow.Author.Tests.{lt-leb, eq-eqb, ne-eqb}
 use Rattle.ground_file.specs.Groups.{zigzag, widthOf, codeOf, partOf, groupOf, groupsOf, rowBytes}
 use Rattle.ground_file.specs.File.{listed}
 use Rattle.ground_file.proofs.Digits.{Below, none, more, head-is, tail-is}
 use Rattle.ground_file.proofs.GroupLaws.{code-small, code-holds, below-take, below-drop, part-length, part-told, row-told}
 use Rattle.ground_loader.specs.declared.rows.Coming.{Coming}
 use Rattle.ground_loader.specs.Numbers.{valueOf}
-use Rattle.ground_loader.specs.Coming.{partSize, groupRefused, seenBits, wholeOf, seenOf, partRefused, refused, Standing}
+use Rattle.ground_loader.specs.Coming.{partSize, groupRefused, wholeOf, seenOf, partRefused, refused, Standing}
 use Rattle.ground_loader.specs.Taken.{Wanting, Over, Taken, none, more}
 use Rattle.ground_loader.proofs.PartCame.{came-told}
-use Rattle.ground_loader.proofs.RowCame.{Values, Group, First, Second, Within, RowCame, in-group, in-first, in-second}
+use Rattle.ground_loader.proofs.RowCame.{Group, First, Second, Within, RowCame, in-group, in-first, in-second}
 use Rattle.ground_loader.proofs.RowCame.{in-part, last-came, last-long, row-byte}
 use Rattle.ground_loader.proofs.RowCame.{drop-past, none-code, nothing-more, groups-front}
 use Rattle.ground_loader.proofs.ByteLaws.{group-few, group-many, refused-more, refused-code}

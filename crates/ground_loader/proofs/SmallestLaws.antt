@@ -7,7 +7,7 @@ use native.Mathlib.Nat.{lt-of-lt-of-le}
 use native.Mathlib.Omega.{arith}
 use native.Mathlib.Decide.{decLt}
 use lib.Dec.{ltb, eqb}
-use lib.Pow.{pow-pos, pow-mono, shr-lt, shr-mono, shl-shr}
+use lib.Pow.{pow-mono, shr-lt, shr-mono, shl-shr}
 use borrow.Author.Tests.{lt-ltb, le-ltb, eq-eqb, ne-eqb}
 use Rattle.numbers.specs.Signal.{pick}
 use Rattle.ground_file.specs.Groups.{widthOf, holds, codeFrom, codeOf}

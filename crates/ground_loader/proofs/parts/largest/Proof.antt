@@ -1,6 +1,6 @@
 -- `parts::largest` meets its contract: what is still to be looked at gives, with the largest so far, the largest of all. Assumes nothing.
-use mathlib.Core.Path.{_≡_, refl, sym, ap, _∙_}
-use Prim.Native.Nat.{ℕ, _+_, _-_, _≤_, _<_}
+use mathlib.Core.Path.{_≡_, sym, _∙_}
+use Prim.Native.Nat.{_-_, _≤_}
 use native.Mathlib.Omega.{arith}
 use Rattle.ground_loader.specs.Numbers.{numbersIn, greatest}
 use Rattle.ground_loader.proofs.NumberLaws.{greatest-start, greatest-more, greatest-less, greatest-end}

@@ -1,5 +1,4 @@
 -- `parts::lowest` meets its contract: what stands above the lowest bits is taken off. Assumes nothing.
-use borrow.Author.Needs.{needs}
 use native.Mathlib.Omega.{arith}
 use Rattle.ground_loader.proofs.NumberLaws.{above-fits, lowest-is}
 use Rattle.ground_loader.proofs.parts.lowest.Statement.{statement}

@@ -1,11 +1,11 @@
 -- `parts::value_of` meets its contract: half of the number, below 0 where it is odd. Assumes nothing.
-use mathlib.Core.Path.{_≡_, sym, ap, _∙_}
-use Prim.Native.Nat.{ℕ, _/_, _%_}
+use mathlib.Core.Path.{_∙_}
+use Prim.Native.Nat.{_/_}
 use native.Mathlib.Omega.{arith}
 use lib.IntN.{ℤ, pos, negsuc, _-ℤ_}
 use borrow.Author.Needs.{needs}
 use mir.Syntax.{w32}
-use mir.Val.{SFits, toZ, ofZ}
+use mir.Val.{toZ, ofZ}
 use mir.ValLaws.{toZ-ofZ}
 use Rattle.ground_loader.proofs.NumberLaws.{half-read, below-fits, value-even, value-odd}
 use Rattle.ground_loader.proofs.parts.value_of.Statement.{statement}

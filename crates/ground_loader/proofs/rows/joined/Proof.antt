@@ -1,6 +1,5 @@
 -- `rows::joined` meets its contract: the sum has room. Assumes nothing.
 use native.Mathlib.Omega.{arith}
-use borrow.Author.Needs.{needs}
 use Rattle.ground_loader.proofs.ByteLaws.{joined-fits, joined-is}
 use Rattle.ground_loader.proofs.rows.joined.Statement.{statement}
 use Rattle.ground_loader.proofs.rows.joined.Tie as tie

@@ -1,5 +1,4 @@
 -- `rows::see` meets its contract: field by field. Assumes nothing.
-use mathlib.Core.Path.{_≡_, ap, _∙_}
 use native.Mathlib.Omega.{arith}
 use Rattle.ground_loader.proofs.ByteLaws.{few-bits, wide, seen-is}
 use Rattle.ground_loader.proofs.SmallestLaws.{widest}

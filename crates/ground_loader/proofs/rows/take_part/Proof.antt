@@ -1,5 +1,4 @@
 -- `rows::take_part` meets its contract: by the two cases of what is turned away. Assumes nothing.
-use native.Mathlib.Omega.{arith}
 use borrow.Author.Needs.{needs}
 use Rattle.ground_loader.proofs.ByteLaws.{part-away, part-on}
 use Rattle.ground_loader.proofs.rows.take_part.Statement.{statement}
