@@ -8,7 +8,7 @@
 #include <string.h>
 #include <time.h>
 
-/* crate `kernels`: the row calls and the in-place line calls of the line library */
+/* crate `test_exports`: the row calls and the in-place line calls of the line library */
 uint32_t kernel_predict_row(int32_t *area, size_t len, size_t stride, size_t width, size_t target, size_t left, size_t right);
 uint32_t kernel_update_row(int32_t *area, size_t len, size_t stride, size_t width, size_t target, size_t left, size_t right);
 uint32_t kernel_unupdate_row(int32_t *area, size_t len, size_t stride, size_t width, size_t target, size_t left, size_t right);

@@ -6,11 +6,11 @@ fn main() {
     let root = Path::new(env!("CARGO_MANIFEST_DIR")).parent().expect("tests/ stands in the repository");
     println!("cargo:rerun-if-env-changed=TERRAIN_LIB");
     let built = std::env::var_os("TERRAIN_LIB").map_or(root.join("target").join("staticlib"), PathBuf::from);
-    for name in ["terrain", "kernels"] {
+    for name in ["terrain", "test_exports"] {
         let archive = built.join(format!("lib{name}.a"));
         assert!(archive.is_file(), "{} is missing: run `rt staticlib {name}`", archive.display());
         println!("cargo:rerun-if-changed={}", archive.display());
     }
     println!("cargo:rustc-link-search=native={}", built.display());
-    println!("cargo:rustc-link-lib=static=kernels");
+    println!("cargo:rustc-link-lib=static=test_exports");
 }

@@ -1,4 +1,4 @@
-//! Crate `kernels`: a level of the integer 9/7 on the way back. Nothing checks a declaration here against the Rattle source, so each stands beside its
+//! Crate `test_exports`: a level of the integer 9/7 on the way back. Nothing checks a declaration here against the Rattle source, so each stands beside its
 //! wrapper and is driven by a test.
 extern "C" {
     fn ccsds_row_place(w: usize, r: usize) -> usize;

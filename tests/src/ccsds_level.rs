@@ -1,4 +1,4 @@
-//! One level of the integer 9/7 on the way forward, in a line store, as crate `kernels` exports it.
+//! One level of the integer 9/7 on the way forward, in a line store, as crate `test_exports` exports it.
 extern "C" {
     fn ccsds_level_slot(w: usize, q: usize) -> usize;
     fn ccsds_level_put(

@@ -6,7 +6,7 @@ pub mod ccsds_back;
 pub mod ccsds_level;
 pub mod filter;
 pub mod grid;
-pub mod kernels;
+pub mod test_exports;
 pub mod listing;
 pub mod maps;
 pub mod nine_seven;

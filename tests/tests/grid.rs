@@ -3,7 +3,7 @@
 use terrain::{ccsds_line_backward, ccsds_line_forward, line_backward, line_forward, Question};
 use terrain_tests::areas::{lengths, lines, unset, Guarded};
 use terrain_tests::filter::FILTERS;
-use terrain_tests::{grid, kernels};
+use terrain_tests::{grid, test_exports};
 
 type Call = fn(&[i32], usize, &mut [i32]) -> Result<(), Question>;
 
@@ -64,14 +64,14 @@ fn in_place_too_and_with_the_high_half_elsewhere() {
     each(|lent, start| {
         let (n, i0) = (lent.len(), parity(start));
         let mut area = Guarded::new(&grid::in_halves(lent, i0));
-        kernels::lift(area.lent(), start);
+        test_exports::lift(area.lent(), start);
         assert_eq!(area.content(), grid::in_halves(&grid::forward(lent, i0), i0), "{n} numbers from {start}");
 
         let low = grid::lows(n, i0);
         let row: Vec<i32> = (0..n).map(|i| if i < low { unset(i) } else { lent[i] }).collect();
         let (mut area, mut out) = (Guarded::new(lent), Guarded::unset(n + 2));
         out.lent()[..low].copy_from_slice(&lent[..low]);
-        let answers = (kernels::unlift(area.lent(), start), kernels::unlift_by(&row, start, out.lent()));
+        let answers = (test_exports::unlift(area.lent(), start), test_exports::unlift_by(&row, start, out.lent()));
         match grid::backward(&grid::interleaved(lent, i0), i0) {
             Some(line) => {
                 assert_eq!(answers, (0, 0));
@@ -94,14 +94,14 @@ fn there_and_back_is_the_line_and_back_and_there_the_values() {
         let n = lent.len();
         let (mut between, mut again) = (vec![0; n], vec![0; n]);
         let lone = n == 1 && start % 2 == 1;
-        assert_eq!(kernels::forward(lent, start, &mut between), 0);
-        assert_eq!(kernels::backward(&between, start, &mut again), 0);
+        assert_eq!(test_exports::forward(lent, start, &mut between), 0);
+        assert_eq!(test_exports::backward(&between, start, &mut again), 0);
         if !lone || lent[0].checked_mul(2).is_some() {
             assert_eq!(again, lent);
         }
         if !lone || lent[0] % 2 == 0 {
-            assert_eq!(kernels::backward(lent, start, &mut between), 0);
-            assert_eq!(kernels::forward(&between, start, &mut again), 0);
+            assert_eq!(test_exports::backward(lent, start, &mut between), 0);
+            assert_eq!(test_exports::forward(&between, start, &mut again), 0);
             assert_eq!(again, lent);
         }
     });
@@ -112,21 +112,21 @@ fn a_lone_sample_at_an_odd_coordinate() {
     for (sample, value) in [(0, 0), (7, 14), (-3, -6), (1 << 30, i32::MIN), (i32::MAX, -2), (i32::MIN, 0)] {
         for start in [1, 3, usize::MAX] {
             let mut out = [0];
-            assert_eq!((kernels::forward(&[sample], start, &mut out), out), (0, [value]));
+            assert_eq!((test_exports::forward(&[sample], start, &mut out), out), (0, [value]));
             let mut line = [sample];
-            kernels::lift(&mut line, start);
+            test_exports::lift(&mut line, start);
             assert_eq!(line, [value]);
         }
     }
     for odd in [1, -1, i32::MAX, i32::MIN + 1] {
         let mut area = [odd];
-        assert_eq!((kernels::unlift(&mut area, 1), area), (14, [odd]));
-        assert_eq!((kernels::unlift(&mut area, 2), area), (0, [odd]));
+        assert_eq!((test_exports::unlift(&mut area, 1), area), (14, [odd]));
+        assert_eq!((test_exports::unlift(&mut area, 2), area), (0, [odd]));
         let mut out = [5];
-        assert_eq!((kernels::backward(&[odd], 1, &mut out), out), (14, [5]));
-        assert_eq!((kernels::unlift_by(&[odd], 1, &mut out), out), (14, [5]));
-        assert_eq!(kernels::backward(&[odd], 1, &mut []), 5, "5 is asked first");
-        assert_eq!(kernels::unlift_by(&[odd], 1, &mut []), 5, "5 is asked first");
+        assert_eq!((test_exports::backward(&[odd], 1, &mut out), out), (14, [5]));
+        assert_eq!((test_exports::unlift_by(&[odd], 1, &mut out), out), (14, [5]));
+        assert_eq!(test_exports::backward(&[odd], 1, &mut []), 5, "5 is asked first");
+        assert_eq!(test_exports::unlift_by(&[odd], 1, &mut []), 5, "5 is asked first");
     }
 }
 
@@ -140,7 +140,7 @@ fn an_area_too_short_gives_5_and_stays() {
                     assert_eq!(call(&vec![i32::MAX; n], start, out.lent()).map_err(|question| question.number), Err(5));
                     assert!(out.is_unset_from(0));
                 }
-                for call in [kernels::forward, kernels::backward, kernels::unlift_by] {
+                for call in [test_exports::forward, test_exports::backward, test_exports::unlift_by] {
                     let mut out = Guarded::unset(short);
                     assert_eq!(call(&vec![i32::MAX; n], start, out.lent()), 5);
                     assert!(out.is_unset_from(0));

@@ -1,7 +1,7 @@
 //! The line calls against the reference: from one area to another, and in place in halves.
 use terrain::{Call::Line, Question};
 use terrain_tests::areas::{lengths, lines, unset, Guarded};
-use terrain_tests::{kernels, reference, refusal};
+use terrain_tests::{test_exports, reference, refusal};
 
 type Call = fn(&[i32], &mut [i32]) -> Result<(), Question>;
 
@@ -116,12 +116,12 @@ fn in_place_a_line_in_halves_gets_the_reference_s_values() {
     for n in lengths() {
         for lent in lines(n) {
             let mut area = Guarded::new(&reference::in_halves(&lent));
-            kernels::lift(area.lent(), 0);
+            test_exports::lift(area.lent(), 0);
             assert_eq!(area.content(), coefficients(&lent));
-            assert_eq!(kernels::unlift(area.lent(), 0), 0);
+            assert_eq!(test_exports::unlift(area.lent(), 0), 0);
             assert_eq!(area.content(), reference::in_halves(&lent));
             let mut area = Guarded::new(&lent);
-            assert_eq!(kernels::unlift(area.lent(), 0), 0);
+            assert_eq!(test_exports::unlift(area.lent(), 0), 0);
             assert_eq!(area.content(), reference::in_halves(&samples(&lent)));
         }
     }

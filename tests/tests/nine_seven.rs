@@ -2,8 +2,8 @@
 //! 02's formulas, and its row calls, number by number.
 use terrain::raw::{ccsds_line_backward as line_backward, ccsds_line_forward as line_forward};
 use terrain_tests::areas::{lengths, lines, Guarded};
-use terrain_tests::kernels::ccsds::Level;
-use terrain_tests::kernels::{ccsds, Rows};
+use terrain_tests::test_exports::ccsds::Level;
+use terrain_tests::test_exports::{ccsds, Rows};
 use terrain_tests::random::Random;
 use terrain_tests::{grid, nine_seven};
 

@@ -1,6 +1,6 @@
 //! The pair calls against the row calls one after the other, and their refusals.
 use terrain_tests::areas::Guarded;
-use terrain_tests::kernels::{lift_and_copy, lift_pair, predict_row, update_row, Pair, Rows};
+use terrain_tests::test_exports::{lift_and_copy, lift_pair, predict_row, update_row, Pair, Rows};
 use terrain_tests::random::Random;
 
 /// The four rows lie within the area, none is wider than the stride, and the two that are changed are two.

@@ -1,6 +1,6 @@
 //! The row calls against the formulas, number by number, and their refusals at every edge.
 use terrain_tests::areas::Guarded;
-use terrain_tests::kernels::{predict_row, unpredict_row, unupdate_row, update_row, Rows};
+use terrain_tests::test_exports::{predict_row, unpredict_row, unupdate_row, update_row, Rows};
 use terrain_tests::random::Random;
 
 type Call = fn(&mut [i32], Rows) -> u32;

@@ -12,7 +12,7 @@ use Rattle.numbers.specs.Signal.{pick}
 use Rattle.numbers.specs.Word.{wrap32}
 use Rattle.lifting.specs.Line as five
 use Rattle.lifting.specs.Line.{Half, lo, hi}
-use Rattle.lifting.specs.Grid.{Side, place, count, parted}
+use Rattle.lifting.specs.Grid.{Side, place, count, deinterleaved}
 use Rattle.lifting.proofs.GridLaws as five-laws
 use Rattle.lifting.proofs.Neighbours.{left, right, left-in, right-in}
 use Rattle.lifting.proofs.RowLaws.{row-order}
@@ -105,16 +105,17 @@ module _ (S : Side) (x : ℕ → ℤ) (n : ℕ) where
 -- ---- rows of the level, told by their columns
 module _ (W : Side) where
   by-columns : (f : ℤ → ℤ → ℤ → ℤ → ℤ → ℤ) (r₁ r₂ r₃ r₄ r₅ r₆ : ℕ → ℤ) → ((c : ℕ) → f (r₁ c) (r₂ c) (r₃ c) (r₄ c) (r₅ c) ≡ r₆ c) →
-      (h : Half) (i : ℕ) → f (parted W r₁ h i) (parted W r₂ h i) (parted W r₃ h i) (parted W r₄ h i) (parted W r₅ h i) ≡ parted W r₆ h i
-  unfolding parted
+      (h : Half) (i : ℕ) → f (deinterleaved W r₁ h i) (deinterleaved W r₂ h i) (deinterleaved W r₃ h i) (deinterleaved W r₄ h i)
+      (deinterleaved W r₅ h i) ≡ deinterleaved W r₆ h i
+  unfolding deinterleaved
   by-columns f r₁ r₂ r₃ r₄ r₅ r₆ e h i = e (place W h i)
 
   by-three : (f : ℤ → ℤ → ℤ → ℤ) (r₁ r₂ r₃ r₄ : ℕ → ℤ) → ((c : ℕ) → f (r₁ c) (r₂ c) (r₃ c) ≡ r₄ c) → (h : Half) (i : ℕ) →
-      f (parted W r₁ h i) (parted W r₂ h i) (parted W r₃ h i) ≡ parted W r₄ h i
+      f (deinterleaved W r₁ h i) (deinterleaved W r₂ h i) (deinterleaved W r₃ h i) ≡ deinterleaved W r₄ h i
   by-three f r₁ r₂ r₃ r₄ e = by-columns (λ u v w _ _. f u v w) r₁ r₂ r₃ r₁ r₁ r₄ e
 
-  moved : (m : ℕ) (x : Memory) (q t : ℕ) (v : ℕ → ℤ) → q ≡ t → RowStands m W x t (parted W v) → RowStands m W x q (parted W v)
-  moved m x q t v e s = subst (λ (j : ℕ). RowStands m W x j (parted W v)) (sym e) s
+  moved : (m : ℕ) (x : Memory) (q t : ℕ) (v : ℕ → ℤ) → q ≡ t → RowStands m W x t (deinterleaved W v) → RowStands m W x q (deinterleaved W v)
+  moved m x q t v e s = subst (λ (j : ℕ). RowStands m W x j (deinterleaved W v)) (sym e) s
 
 -- ---- the rows of a grid by their places in a column
 module _ (H : Side) where
@@ -135,10 +136,10 @@ module _ (H : Side) where
 
 -- ---- a high row, by the even rows of low numbers around it
 predicted-made : (f : ℕ) (W H : Side) (g : Grid) (n : ℕ) (x : Memory) → 1 < H .length → n < count hi H
-    → RowStands (filterOf f .rows) W x (2 * n + 1) (parted W (g (place H hi n)))
+    → RowStands (filterOf f .rows) W x (2 * n + 1) (deinterleaved W (g (place H hi n)))
     → ((q k : ℕ) → q ≡ 2 * (H .start % 2 + k) → k < count lo H → n < H .start % 2 + k + filterOf f .ahead
-    → RowStands (filterOf f .rows) W x q (parted W (g (place H lo k))))
-    → RowStands (filterOf f .rows) W (predictedOf f (W .length) H (2 * n + 1) x) (2 * n + 1) (parted W (columnsLifted (filterOf f) wrap32 H g hi n))
+    → RowStands (filterOf f .rows) W x q (deinterleaved W (g (place H lo k))))
+    → RowStands (filterOf f .rows) W (predictedOf f (W .length) H (2 * n + 1) x) (2 * n + 1) (deinterleaved W (columnsLifted (filterOf f) wrap32 H g hi n))
 unfolding filterOf predictedOf columnsLifted
 predicted-made zero W H g n x l b own even h i t =
     by-is {m = 4} (omega arith) (five.predicted wrap32) W (2 * n + 1) (rowBefore H 1 (2 * n + 1)) (rowAfter H 1 (2 * n + 1)) x _ _ _ own
@@ -165,17 +166,17 @@ unfolding highOf
 high-made f W H g n x b own evens = go (decLt 1 (H .length))
   where
     even-row : (q k : ℕ) → q ≡ 2 * (H .start % 2 + k) → k < count lo H → n < H .start % 2 + k + filterOf f .ahead
-        → RowStands (filterOf f .rows) W x q (parted W (g (place H lo k)))
+        → RowStands (filterOf f .rows) W x q (deinterleaved W (g (place H lo k)))
     even-row q k e c l =
         rw (even-place H k) (moved W (filterOf f .rows) x q (2 * (H .start % 2 + k)) _ e (evens (H .start % 2 + k) (omega arith) l (in-rows H k c)))
 
-    own-row : RowStands (filterOf f .rows) W x (2 * n + 1) (parted W (g (place H hi n)))
+    own-row : RowStands (filterOf f .rows) W x (2 * n + 1) (deinterleaved W (g (place H hi n)))
     own-row = rw (own-place H n) own
 
     go : Dec (1 < H .length) → RowStands (filterOf f .rows) W
         (pick (ltb 1 (H .length)) (predictedOf f (W .length) H (2 * n + 1) x)
         (rowBy (filterOf f .rows) doubled (W .length) (2 * n + 1) (2 * n + 1) (2 * n + 1) x))
-        (2 * n + 1) (parted W (columnsLifted (filterOf f) wrap32 H g hi n))
+        (2 * n + 1) (deinterleaved W (columnsLifted (filterOf f) wrap32 H g hi n))
     go (yes l) = rw (lt-ltb 1 (H .length) l) (predicted-made f W H g n x l b own-row even-row)
     go (no l) = rw (le-ltb 1 (H .length) (omega arith)) (λ h i t.
         by-is (rows-some f) doubled W (2 * n + 1) (2 * n + 1) (2 * n + 1) x _ _ _ own-row own-row own-row h i t
@@ -190,16 +191,16 @@ low-made : (f : ℕ) (W H : Side) (g : Grid) (n t : ℕ) (x : Memory) → H .sta
 unfolding lowOf
 low-made f W H g n t x s b own highs = go (decLt 1 (H .length))
   where
-    own-row : RowStands (filterOf f .rows) W x t (parted W (g (place H lo (n - H .start % 2))))
+    own-row : RowStands (filterOf f .rows) W x t (deinterleaved W (g (place H lo (n - H .start % 2))))
     own-row = rw (low-place H n s) own
 
     high-row : (q k : ℕ) → q ≡ 2 * k + 1 → k < count hi H → (n ≤ k + 1) × (k ≤ n)
-        → RowStands (filterOf f .rows) W x q (parted W (columnsLifted (filterOf f) wrap32 H g hi k))
+        → RowStands (filterOf f .rows) W x q (deinterleaved W (columnsLifted (filterOf f) wrap32 H g hi k))
     high-row q k e c l = moved W (filterOf f .rows) x q (2 * k + 1) _ e (highs k c (l .1) (l .0))
 
     go : Dec (1 < H .length) → RowStands (filterOf f .rows) W
         (pick (ltb 1 (H .length)) (rowBy (filterOf f .rows) (updatedOf f) (W .length) t (rowBefore H 1 (2 * n)) (rowAfter H 1 (2 * n)) x) x) t
-        (parted W (columnsLifted (filterOf f) wrap32 H g lo (n - H .start % 2)))
+        (deinterleaved W (columnsLifted (filterOf f) wrap32 H g lo (n - H .start % 2)))
     go (yes l) = rw (lt-ltb 1 (H .length) l) (λ h i q.
         by-is (rows-some f) (updatedOf f) W t (rowBefore H 1 (2 * n)) (rowAfter H 1 (2 * n)) x _ _ _ own-row
         (high-row _ (left hi H (n - H .start % 2)) (before-low H l n s b) (left-in hi H (n - H .start % 2) l b .0) (left-beside H l n s b))

@@ -11,8 +11,8 @@ use Rattle.numbers.specs.Word.{wrap32}
 use Rattle.numbers.proofs.Parts.{splice-in}
 use Rattle.numbers.proofs.Stores.{stored-off}
 use Rattle.lifting.specs.Line.{Half}
-use Rattle.lifting.specs.Grid.{Side, place, parted}
-use Rattle.lifting.specs.GridHalves.{partedInto}
+use Rattle.lifting.specs.Grid.{Side, place, deinterleaved}
+use Rattle.lifting.specs.GridHalves.{deinterleavedInto}
 use Rattle.lifting.specs.Pairs.{first}
 use Rattle.lifting.proofs.GridLaws.{place-in, in-place, by-place}
 use Rattle.lifting.proofs.RowLaws.{row-order}
@@ -69,12 +69,12 @@ module _ (C : Columns) (L : ColumnLaws C) where
     from = rowPlace (C .filter .rows) (W .length) q
 
     -- ---- a row by its columns
-    pub whole-row : (y : ℕ → ℤ) → ((i : ℕ) → i < W .length → x (from + spot W i) ≡ y i) → RowStands m W x q (parted W y)
-    unfolding parted
+    pub whole-row : (y : ℕ → ℤ) → ((i : ℕ) → i < W .length → x (from + spot W i) ≡ y i) → RowStands m W x q (deinterleaved W y)
+    unfolding deinterleaved
     whole-row y e h i b = ap (λ (k : ℕ). x (from + k)) (sym (spot-place h W i)) ∙ e (place W h i) (place-in W h i b)
 
-    pub row-cells : (y : ℕ → ℤ) → RowStands m W x q (parted W y) → (i : ℕ) → i < W .length → x (from + spot W i) ≡ y i
-    unfolding parted
+    pub row-cells : (y : ℕ → ℤ) → RowStands m W x q (deinterleaved W y) → (i : ℕ) → i < W .length → x (from + spot W i) ≡ y i
+    unfolding deinterleaved
     row-cells y s =
         by-place W (λ i. i < W .length → x (from + spot W i) ≡ y i)
         (λ h n b. ap (λ (k : ℕ). x (from + k)) (spot-place h W n) ∙ s h n (in-place W h n b))
@@ -98,13 +98,13 @@ module _ (C : Columns) (L : ColumnLaws C) where
     unfolding rowPut
     only-put row = only-splice some (W .length) q _ _ (omega arith) (omega arith) _ x
 
-    pub put-row : (row : ℕ → ℤ) → RowStands m W (rowPut C W q row x) q (parted W row)
-    unfolding rowPut partedInto
+    pub put-row : (row : ℕ → ℤ) → RowStands m W (rowPut C W q row x) q (deinterleaved W row)
+    unfolding rowPut deinterleavedInto
     put-row row h i b =
         let e : from + (halfPlace h W + i) - from ≡ halfPlace h W + i = omega arith in
         splice-in _ _ _ x _ (omega arith) (omega (arith, half-inside h W i b))
-        ∙ ap (partedInto W row x) e
-        ∙ in-halves W (parted W row) x h i b
+        ∙ ap (deinterleavedInto W row x) e
+        ∙ in-halves W (deinterleaved W row) x h i b
 
     -- ---- a row copied to the slot of row t
     pub only-copied : (w t : ℕ) → Only m w t x (rowCopied C w q t x)
@@ -119,7 +119,7 @@ module _ (C : Columns) (L : ColumnLaws C) where
     pub only-lifted : Only m (W .length) q x (rowLifted C W q x)
     only-lifted = only-unlifted some (alongBy (C .filter)) W q x
 
-    pub lifted-row : (y : ℕ → ℤ) → RowStands m W x q (parted W y) → RowStands m W (rowLifted C W q x) q (C .filter .forward wrap32 W y)
+    pub lifted-row : (y : ℕ → ℤ) → RowStands m W x q (deinterleaved W y) → RowStands m W (rowLifted C W q x) q (C .filter .forward wrap32 W y)
     unfolding alongBy
     lifted-row y s h i b =
         unlifted-by some (alongBy (C .filter)) W q x _ refl h i b

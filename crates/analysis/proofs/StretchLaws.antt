@@ -16,7 +16,7 @@ use Rattle.numbers.proofs.Parts.{length-mid, at-mid, at-put, window-in, splice-
 use Rattle.numbers.proofs.Stores.{stored-at, stored-off}
 use Rattle.lifting.specs.Line.{lo, hi}
 use Rattle.lifting.specs.Grid.{Side, side, count}
-use Rattle.lifting.specs.GridHalves.{partedInto}
+use Rattle.lifting.specs.GridHalves.{deinterleavedInto}
 use Rattle.filters.specs.Filters.{filterOf}
 use Rattle.wavelet.specs.Bands.{Band, LL, HL, LH, HH, across, down, code}
 use Rattle.wavelet.specs.Levels.{next}
@@ -27,7 +27,7 @@ use Rattle.level.specs.Cells.{spot}
 use Rattle.level.specs.Stretch.{rowPlace, halfPlace}
 use Rattle.level.specs.Heights as row
 use Rattle.level.proofs.RestLaws.{join-splice}
-use Rattle.level.proofs.PartedLaws.{parted-any}
+use Rattle.level.proofs.DeinterleavedLaws.{deinterleaved-any}
 use Rattle.level.proofs.Spots.{spot-in}
 use Rattle.level.proofs.FillLaws.{heights-in}
 use Rattle.analysis.specs.Columns.{columnsOf}
@@ -155,12 +155,12 @@ put-none f k W c n l i e = simp e
 -- ---- the LL row that goes to the next level, written straight into its place
 pub delivered-as : (f : ℕ) (W : Side) (n q a b start v : ℕ) (x y : Memory) → a ≡ rowPlace (filterOf f .rows) (W .length) (waitsAt (filterOf f .ahead) lo n)
     → v ≡ count lo W → b ≡ filterOf f .rows * W .length + rowPlace (filterOf f .rows) v q → start ≡ next W .start
-    → y ≡ spliced b v (partedInto (side start v) (λ i. x (a + i)) x) x → y ≡ delivered f W n q x
+    → y ≡ spliced b v (deinterleavedInto (side start v) (λ i. x (a + i)) x) x → y ≡ delivered f W n q x
 unfolding delivered rowPut bandPlace next halfPlace across down
 delivered-as f W n q a b start v x y ea ev eb es e =
     let z : rowPlace (filterOf f .rows) (W .length) (waitsAt (filterOf f .ahead) lo n) + 0 ≡ a = omega (arith, ea) in
     e
-    ∙ parted-any a b start v x x (rest (filterOf f .rows * W .length) x)
+    ∙ deinterleaved-any a b start v x x (rest (filterOf f .rows * W .length) x)
     ∙ rw (z, eb, es, ev) (sym (join-splice (filterOf f .rows * W .length) (rowPlace (filterOf f .rows) (count lo W) q) (count lo W) _ x))
 
 -- ---- where a band's row of set n waits, the band told by its code; s is its slot

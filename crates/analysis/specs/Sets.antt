@@ -15,7 +15,7 @@ use lib.IntN.{ℤ}
 use Rattle.numbers.specs.Signal.{pick, both, spliced}
 use Rattle.lifting.specs.Line.{Half, lo, hi}
 use Rattle.lifting.specs.Grid.{Side, side, count}
-use Rattle.lifting.specs.GridHalves.{partedInto}
+use Rattle.lifting.specs.GridHalves.{deinterleavedInto}
 use Rattle.lifting.specs.Pairs.{first}
 use Rattle.wavelet.specs.Bands.{Band, across, down}
 use Rattle.wavelet.specs.Order.{firstSet}
@@ -45,7 +45,7 @@ module _ (C : Columns) where
 
   -- a whole row put into the slot of row q
   unfoldable pub rowPut : Side → ℕ → (ℕ → ℤ) → Memory → Memory
-  rowPut W q row x = spliced (rowPlace kept (W .length) q) (W .length) (partedInto W row x) x
+  rowPut W q row x = spliced (rowPlace kept (W .length) q) (W .length) (deinterleavedInto W row x) x
 
   -- row a copied to the slot of row b
   unfoldable pub rowCopied : ℕ → ℕ → ℕ → Memory → Memory

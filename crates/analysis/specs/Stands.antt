@@ -4,7 +4,7 @@ use Prim.Native.Nat.{ℕ, suc, _+_, _-_, _*_, _%_, _≤_, _<_}
 use lib.IntN.{ℤ}
 use Rattle.numbers.specs.Word.{wrap32}
 use Rattle.lifting.specs.Line.{hi}
-use Rattle.lifting.specs.Grid.{Side, parted}
+use Rattle.lifting.specs.Grid.{Side, deinterleaved}
 use Rattle.wavelet.specs.Bands.{Grid, columnsLifted}
 use Rattle.level.specs.Level.{Memory}
 use Rattle.level.specs.Cells.{spot}
@@ -14,7 +14,7 @@ use Rattle.analysis.specs.Columns.{Columns}
 module _ (C : Columns) (W H : Side) (g : Grid) where
   -- in the slot of row q stands a row y
   abbrev pub Row : Memory → ℕ → (ℕ → ℤ) → Type 0
-  Row x q y = RowStands (C .filter .rows) W x q (parted W y)
+  Row x q y = RowStands (C .filter .rows) W x q (deinterleaved W y)
 
   -- the row at q of the grid, and high row n of its columns
   abbrev pub rowOf : ℕ → ℕ → ℤ

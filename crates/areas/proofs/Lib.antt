@@ -1,6 +1,6 @@
 pub mod AreaLaws
 pub mod PartLaws
-pub mod WeaveLaws
+pub mod InterleaveLaws
 pub mod HeightLaws
 pub mod Splices
 pub mod HalfLaws

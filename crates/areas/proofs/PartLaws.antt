@@ -9,8 +9,8 @@ use Rattle.numbers.specs.Signal.{spliced}
 use Rattle.numbers.proofs.Sweep.{Swept, store}
 use Rattle.numbers.proofs.Parts.{splice-below, splice-in, splice-past}
 use Rattle.lifting.specs.Line.{Half, lo, hi}
-use Rattle.lifting.specs.Grid.{Side, half, count, place, parted, joined}
-use Rattle.lifting.specs.GridHalves.{halvesOf, inHalves, partedInto}
+use Rattle.lifting.specs.Grid.{Side, half, count, place, deinterleaved, joined}
+use Rattle.lifting.specs.GridHalves.{halvesOf, inHalves, deinterleavedInto}
 use Rattle.lifting.proofs.GridLaws.{halves-are}
 use Rattle.areas.specs.Places.{begins}
 use Rattle.areas.proofs.HalfLaws.{evens, odds, by-parity, evens-fit, odds-fit, evens-last, odds-first}
@@ -78,46 +78,46 @@ module _ (S : Side) (x z : ℕ → ℤ) where
   abbrev bothLaid : Half → Half → ℕ → ℤ
   bothLaid e o = spliced (begins S o) (S .length / 2) (λ j. x (2 * j + 1)) (evensLaid e)
 
-  from-even : S .start % 2 ≡ 0 → inHalves S (parted S x) z ≡ bothLaid lo hi
-  unfolding parted place begins count
+  from-even : S .start % 2 ≡ 0 → inHalves S (deinterleaved S x) z ≡ bothLaid lo hi
+  unfolding deinterleaved place begins count
   from-even e =
       let N = S .length in
       let low = (N + 1 - S .start % 2) / 2 in
-      halves-are S (parted S x) z _
+      halves-are S (deinterleaved S x) z _
       (λ n h. ap x (omega arith)
       ∙ sym (splice-below low (N / 2) _ _ n (omega arith) ∙ splice-at 0 (N - N / 2) (λ j. x (2 * j)) z n n (omega arith) (omega arith)))
       (λ n h. ap x (omega arith) ∙ sym (splice-at low (N / 2) (λ j. x (2 * j + 1)) _ (low + n) n refl (omega arith)))
       (λ j h. sym (splice-past low (N / 2) _ _ j (omega arith) ∙ splice-past 0 (N - N / 2) _ z j (omega arith)))
 
-  from-odd : S .start % 2 ≡ 1 → inHalves S (parted S x) z ≡ bothLaid hi lo
-  unfolding parted place begins count
+  from-odd : S .start % 2 ≡ 1 → inHalves S (deinterleaved S x) z ≡ bothLaid hi lo
+  unfolding deinterleaved place begins count
   from-odd e =
       let N = S .length in
       let low = (N + 1 - S .start % 2) / 2 in
-      halves-are S (parted S x) z _
+      halves-are S (deinterleaved S x) z _
       (λ n h. ap x (omega arith) ∙ sym (splice-at 0 (N / 2) (λ j. x (2 * j + 1)) _ n n (omega arith) (omega arith)))
       (λ n h. ap x (omega arith)
       ∙ sym (splice-past 0 (N / 2) _ _ (low + n) (omega arith) ∙ splice-at low (N - N / 2) (λ j. x (2 * j)) z (low + n) n refl (omega arith)))
       (λ j h. sym (splice-past 0 (N / 2) _ _ j (omega arith) ∙ splice-past low (N - N / 2) _ z j (omega arith)))
 
-  pub parted-is : partedInto S x z ≡ bothLaid (evens S) (odds S)
-  unfolding partedInto
-  parted-is = by-parity S (λ e o. inHalves S (parted S x) z ≡ bothLaid e o) from-even from-odd
+  pub deinterleaved-is : deinterleavedInto S x z ≡ bothLaid (evens S) (odds S)
+  unfolding deinterleavedInto
+  deinterleaved-is = by-parity S (λ e o. inHalves S (deinterleaved S x) z ≡ bothLaid e o) from-even from-odd
 
   -- the two passes, in either order, with where the halves begin as the code has it
   module _ (a b : ℕ) (ea : a ≡ begins S (evens S)) (eb : b ≡ begins S (odds S)) (y w : ℕ → ℤ) where
-    laid : w ≡ spliced b (S .length / 2) (λ j. x (2 * j + 1)) (spliced a (S .length - S .length / 2) (λ j. x (2 * j)) z) → w ≡ partedInto S x z
+    laid : w ≡ spliced b (S .length / 2) (λ j. x (2 * j + 1)) (spliced a (S .length - S .length / 2) (λ j. x (2 * j)) z) → w ≡ deinterleavedInto S x z
     laid e =
         e ∙ ap (λ (i : ℕ). spliced b (S .length / 2) (λ j. x (2 * j + 1)) (spliced i (S .length - S .length / 2) (λ j. x (2 * j)) z)) ea
         ∙ ap (λ (i : ℕ). spliced i (S .length / 2) (λ j. x (2 * j + 1)) (evensLaid (evens S))) eb
-        ∙ sym parted-is
+        ∙ sym deinterleaved-is
 
     pub evens-then-odds : y ≡ spliced a (S .length - S .length / 2) (λ j. x (2 * j)) z → w ≡ spliced b (S .length / 2) (λ j. x (2 * j + 1)) y
-        → w ≡ partedInto S x z
+        → w ≡ deinterleavedInto S x z
     evens-then-odds h k = laid (k ∙ ap (spliced b (S .length / 2) (λ j. x (2 * j + 1))) h)
 
     pub odds-then-evens : S .start % 2 ≡ 1 → y ≡ spliced b (S .length / 2) (λ j. x (2 * j + 1)) z
-        → w ≡ spliced a (S .length - S .length / 2) (λ j. x (2 * j)) y → w ≡ partedInto S x z
+        → w ≡ spliced a (S .length - S .length / 2) (λ j. x (2 * j)) y → w ≡ deinterleavedInto S x z
     odds-then-evens o h k =
         let N = S .length in
         let ends : b + N / 2 ≤ a = omega (arith, odds-first S o, evens-last S o) in

@@ -9,7 +9,7 @@ ghost use lib.Dec.{leb};
 ghost use Rattle.numbers.specs.Signal.{at, pick, spliced};
 ghost use Rattle.lifting.specs.Grid.{side, joined};
 ghost use Rattle.lifting.specs.Halves.{fronted};
-ghost use Rattle.lifting.specs.GridHalves.{halvesOf, partedInto};
+ghost use Rattle.lifting.specs.GridHalves.{halvesOf, deinterleavedInto};
 ghost use Rattle.areas.specs.Areas.{heightsAt, height16};
 
 // ---- in
@@ -49,7 +49,7 @@ pub fn load_heights(heights: &[u16], start: usize, row: &mut [i32]) -> u8
     ensures answer { λ r. ⌜ r ≡ pick (leb (length (now (heights .entry))) (length (now (row .entry)))) 0 5 ⌝ }
     ensures area { λ _. ⌜ at (now (row .exit)) ≡
         pick (leb (length (now (heights .entry))) (length (now (row .entry))))
-        (partedInto (side start (length (now (heights .entry)))) (heightsAt (now (heights .entry))) (at (now (row .entry)))) (at (now (row .entry))) ⌝ }
+        (deinterleavedInto (side start (length (now (heights .entry)))) (heightsAt (now (heights .entry))) (at (now (row .entry)))) (at (now (row .entry))) ⌝ }
 {
     let n = heights.len();
     if row.len() < n {

@@ -1,4 +1,4 @@
-// Lines that start at any coordinate, laid in halves and woven into their own order. Of the start its parity counts.
+// Lines that start at any coordinate, laid in halves and interleaved into their own order. Of the start its parity counts.
 use crate::place;
 use crate::rows;
 ghost use mathlib.Core.Path.{_≡_};
@@ -8,7 +8,7 @@ ghost use lib.Dec.{leb};
 ghost use Rattle.numbers.specs.Signal.{at, pick, both, windowed, spliced};
 ghost use Rattle.lifting.specs.Grid.{side, joined};
 ghost use Rattle.lifting.specs.Halves.{fronted};
-ghost use Rattle.lifting.specs.GridHalves.{halvesOf, partedInto};
+ghost use Rattle.lifting.specs.GridHalves.{halvesOf, deinterleavedInto};
 ghost use Rattle.areas.specs.Areas.{alternated, inTurn};
 
 // ---- a line into halves
@@ -47,7 +47,7 @@ pub fn part_line(line: &[i32], start: usize, row: &mut [i32]) -> u8
     ensures answer { λ r. ⌜ r ≡ pick (leb (length (now (line .entry))) (length (now (row .entry)))) 0 5 ⌝ }
     ensures area { λ _. ⌜ at (now (row .exit)) ≡
         pick (leb (length (now (line .entry))) (length (now (row .entry))))
-        (partedInto (side start (length (now (line .entry)))) (at (now (line .entry))) (at (now (row .entry)))) (at (now (row .entry))) ⌝ }
+        (deinterleavedInto (side start (length (now (line .entry)))) (at (now (line .entry))) (at (now (row .entry)))) (at (now (row .entry))) ⌝ }
 {
     let n = line.len();
     if row.len() < n {
@@ -81,7 +81,7 @@ fn put_pairs(first: &[i32], second: &[i32], line: &mut [i32])
 }
 
 // A row in halves to the line itself, at the front of `line`.
-pub fn weave_line(row: &[i32], start: usize, line: &mut [i32]) -> u8
+pub fn interleave_line(row: &[i32], start: usize, line: &mut [i32]) -> u8
     ensures answer { λ r. ⌜ r ≡ pick (leb (length (now (row .entry))) (length (now (line .entry)))) 0 5 ⌝ }
     ensures area { λ _. ⌜ at (now (line .exit)) ≡
         pick (leb (length (now (row .entry))) (length (now (line .entry))))
@@ -103,7 +103,7 @@ pub fn weave_line(row: &[i32], start: usize, line: &mut [i32]) -> u8
 // ---- the same within one area
 
 // The numbers at place `even` and those at place `odd` in turn to place `to`, before both: n numbers, a pair a turn.
-fn weave_rest(area: &mut [i32], to: usize, even: usize, odd: usize, n: usize)
+fn interleave_rest(area: &mut [i32], to: usize, even: usize, odd: usize, n: usize)
     requires { ⌜ (to + n ≤ even) × (to + n ≤ odd) × (even + (n - n / 2) ≤ length (now area)) × (odd + n / 2 ≤ length (now area)) ⌝ }
     ensures { λ _. ⌜ at (now (area .exit)) ≡ spliced to n (inTurn even odd (at (now (area .entry)))) (at (now (area .entry))) ⌝ }
 {
@@ -122,7 +122,7 @@ fn weave_rest(area: &mut [i32], to: usize, even: usize, odd: usize, n: usize)
 }
 
 // The same, four pairs a turn. All eight are read before one is stored: so the compiler makes vectors of them, wherever they stand.
-fn weave_pairs(area: &mut [i32], to: usize, even: usize, odd: usize, n: usize)
+fn interleave_pairs(area: &mut [i32], to: usize, even: usize, odd: usize, n: usize)
     requires { ⌜ (to + n ≤ even) × (to + n ≤ odd) × (even + (n - n / 2) ≤ length (now area)) × (odd + n / 2 ≤ length (now area)) ⌝ }
     ensures { λ _. ⌜ at (now (area .exit)) ≡ spliced to n (inTurn even odd (at (now (area .entry)))) (at (now (area .entry))) ⌝ }
 {
@@ -133,11 +133,11 @@ fn weave_pairs(area: &mut [i32], to: usize, even: usize, odd: usize, n: usize)
         place::put_eight(area, to + 2 * j, v);
         j += 4;
     }
-    weave_rest(area, to + 2 * j, even + j, odd + j, n - 2 * j);
+    interleave_rest(area, to + 2 * j, even + j, odd + j, n - 2 * j);
 }
 
 // The n numbers in halves at place `from` to place `to`, before them, in their own order.
-pub fn weave_down(area: &mut [i32], start: usize, from: usize, to: usize, n: usize) -> u8
+pub fn interleave_down(area: &mut [i32], start: usize, from: usize, to: usize, n: usize) -> u8
     ensures answer { λ r. ⌜ r ≡ pick (both (leb (to + n) from) (leb (from + n) (length (now (area .entry))))) 0 5 ⌝ }
     ensures area { λ _. ⌜ at (now (area .exit)) ≡
         pick (both (leb (to + n) from) (leb (from + n) (length (now (area .entry)))))
@@ -149,6 +149,6 @@ pub fn weave_down(area: &mut [i32], start: usize, from: usize, to: usize, n: usi
     }
     let even = from + rows::evens(n, start);
     let odd = from + rows::odds(n, start);
-    weave_pairs(area, to, even, odd, n);
+    interleave_pairs(area, to, even, odd, n);
     0
 }

@@ -4,11 +4,11 @@ use reader::Fed;
 use reader::Reader;
 use reader::SetUp;
 use reader::Wanted;
-use second::area;
-use second::heights;
-use second::order;
-use second::t800;
-use second::tally::Tally;
+use reference::area;
+use reference::heights;
+use reference::order;
+use reference::t800;
+use reference::tally::Tally;
 use wavelet::shape::Shape;
 
 const TURNS: usize = 100000;

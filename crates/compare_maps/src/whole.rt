@@ -1,8 +1,8 @@
 // The whole map, forward and back, against the second arithmetic.
-use second::area;
-use second::heights;
-use second::t800;
-use second::tally::Tally;
+use reference::area;
+use reference::heights;
+use reference::t800;
+use reference::tally::Tally;
 use wavelet::shape::Shape;
 
 // Numbers that each area has more than it needs.

@@ -1,9 +1,9 @@
 // The writer, its input cut in several ways, against the second arithmetic and the order of document 01.
-use second::area;
-use second::heights;
-use second::order;
-use second::t800;
-use second::tally::Tally;
+use reference::area;
+use reference::heights;
+use reference::order;
+use reference::t800;
+use reference::tally::Tally;
 use wavelet::shape::Shape;
 use writer::BandRow;
 use writer::Drawn;

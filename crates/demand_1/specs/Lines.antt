@@ -32,7 +32,7 @@ pub record LineForward (made : Side → Memory → Memory → Memory) (s N m : �
   pub area : Kept (forwardNumber N m) z (forwardArea made (side s N) m y z)
   pub surplus : Surplus N z (forwardArea made (side s N) m y z)
 
--- 14, of a lone high value that is odd, changes nothing in a line call
+-- 14, of a single high value that is odd, changes nothing in a line call
 abbrev pub backwardNumber : Side → ℕ → Memory → ℕ
 backwardNumber S m y = pick (leb (S .length) m) (pick (hasLineIn S y) 0 14) 5
 

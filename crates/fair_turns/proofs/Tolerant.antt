@@ -230,7 +230,8 @@ module _ (W H L m : ℕ → ℕ) (x : ℕ → ℕ → ℤ) (n : ℕ) (ok : toler
         let mine = together.callsOf R n cs in
         let P = roundedPlane (L n) (W n) (H n) q y in
         let set-up = set-up-in (W n) (H n) (L n) (m n) ok in
-        let taken : gathered takesRun (events mine w₁) ≡ map disk (take (length (gathered takesRun (events mine w₁))) (bandRowsOf (stepsOf (W n) (H n) (L n)))) =
+        let taken : gathered takesRun (events mine w₁) ≡ map disk
+        (take (length (gathered takesRun (events mine w₁))) (bandRowsOf (stepsOf (W n) (H n) (L n)))) =
         subst (λ es. gathered takesRun es ≡ map disk (take (length (gathered takesRun es)) (bandRowsOf (stepsOf (W n) (H n) (L n))))) shows
         (tolerant-in-turn .fed) in
         let from = fed-from (W n) (H n) (L n) (m n) w₁ (tolerant-calls (W n) (H n) (L n) (m n) ok (x n)) (set-up .room) (set-up .some) disk P are mine taken in

@@ -42,7 +42,8 @@ use Rattle.ground_file.specs.declared.saver.Saved.{Saved}
 use Rattle.ground_file.specs.Groups.{zigzag, bytesOf, groupOf, groupsOf, rowBytes}
 use Rattle.ground_file.specs.File.{headerOf, stored, listed, numbersOf, rowsBytes, wanted, bodyOf, asNumber, prime, fileOf}
 use Rattle.ground_file.specs.Values.{kept}
-use Rattle.ground_file.specs.Saving.{saverAt, startOf, rowOf, stepOf, pieceOf, atRow, onward, partly, fromOf, restOf, moved, begins, rowFits, rowDivides, rowNumber}
+use Rattle.ground_file.specs.Saving.{saverAt, startOf, rowOf, stepOf, pieceOf, atRow, onward, partly, fromOf, restOf, moved, begins, rowFits, rowDivides}
+use Rattle.ground_file.specs.Saving.{rowNumber}
 use Rattle.ground_file.specs.Saving.{Went, here, on, stopOf, setUpNumber, saveNumber, fresh, Ran, Saves, Calls, none, call}
 use Rattle.ground_file.proofs.Digits.{bytes-length}
 use Rattle.ground_file.proofs.FileLaws.{listed-length, listed-same, times-first, wanted-kept}
@@ -166,7 +167,12 @@ module _ (sh : Shape) (q : ℕ) (ok : setUpNumber sh q ≡ 0) (p : List ℤ) (lo
 
   range-few : (k : ℕ) → k ≤ sh .levels → range (filterOf (sh .filter)) k < 2 ^ 27
   range-few k h =
-      omega (arith, range-is (sh .filter) k, range-small (sh .filter) k (filter-few (sh .filter) (pass .known)) (by-filter (sh .filter) k (omega (arith, pass .deep .1))))
+      omega (
+        arith,
+        range-is (sh .filter) k,
+        range-small (sh .filter) k (filter-few (sh .filter) (pass .known))
+            (by-filter (sh .filter) k (omega (arith, pass .deep .1))),
+      )
 
   -- ---- the row at a place: x is its name
   abbrev columnsOf : RowName → ℕ
@@ -443,7 +449,8 @@ module _ (sh : Shape) (q : ℕ) (ok : setUpNumber sh q ≡ 0) (p : List ℤ) (lo
       let s : Saver = saver nowhere 0 k 0 0 in
       stepped s (rowOf s p) header (rowsOf (wanted sh) ++ check 0 (header ++ rowsOf (wanted sh))) m (sym (piece-head s (rowOf s p) refl)) h n
       (λ z. head (k + m) z)
-      (subst (λ v. Held v (rowsOf (wanted sh) ++ check 0 (header ++ rowsOf (wanted sh)))) (at-row-is s (firstPlace sh) (asNumber 0 header % prime) ∙ on-head s (length (rowOf s p)) (asNumber 0 header % prime) refl)
+      (subst (λ v. Held v (rowsOf (wanted sh) ++ check 0 (header ++ rowsOf (wanted sh))))
+      (at-row-is s (firstPlace sh) (asNumber 0 header % prime) ∙ on-head s (length (rowOf s p)) (asNumber 0 header % prime) refl)
       (subst (Held _) (ap (λ u. rowsOf (wanted sh) ++ u) (sym (check-on 0 header (rowsOf (wanted sh)))))
       (at-rows (firstPlace sh) (wanted sh) (asNumber 0 header % prime) (o .first) (λ y z. z) (remains _))))
   held-on _ _ m (group pl x l g k c t left w cs in-row h asked e) ph free n =

@@ -289,7 +289,8 @@ module _ (s : Saver) (i : Inside s) where
 -- a row is no longer than the plane
 row-short : (s : Saver) (p : List ℤ) → length (rowOf s p) ≤ length p
 unfolding rowOf viewRow
-row-short s p = go (eqb (viewQuestion (length p) (columns (s .shape)) (rows (s .shape)) (s .shape .levels) (s .place .level) (s .place .band) (rowAt (s .shape) (s .place))) 0)
+row-short s p = go (eqb (viewQuestion (length p) (columns (s .shape)) (rows (s .shape)) (s .shape .levels) (s .place .level) (s .place .band)
+    (rowAt (s .shape) (s .place))) 0)
   where
     n : ℕ
     n = viewLength (columns (s .shape)) (s .place .level) (s .place .band)
@@ -311,7 +312,8 @@ pub record Running (p : List ℤ) (s₀ : Saver) (before : List ℕ) (room : ℕ
   pub went : Went p s₀ (take m after) s
   pub stops : stop ≡ stopOf s p m room
 
-pub running-start : (p : List ℤ) (s : Saver) (o : List ℕ) (room stop : ℕ) → Inside s → room ≡ length o → stop ≡ stopOf s p 0 room → Running p s o room s 0 stop o
+pub running-start : (p : List ℤ) (s : Saver) (o : List ℕ) (room stop : ℕ) → Inside s → room ≡ length o → stop ≡ stopOf s p 0 room
+    → Running p s o room s 0 stop o
 running-start p s o room stop i e f =
     record { inside = i; all = e; size = refl; within = omega arith; past = refl; went = subst (λ l. Went p s l s) (sym (front o)) here; stops = f }
   where
@@ -366,7 +368,8 @@ module _ (p : List ℤ) (s₀ : Saver) (o : List ℕ) (room : ℕ) (s : Saver) (
       }
 
   -- the same of a row that is the one at the saver's place
-  module _ (row : List ℤ) (er : row ≡ rowOf s p) (s′ : Saver) (small : length p < 2 ^ 61) (es : s′ ≡ moved s row (min (length (restOf s row)) (length a - m))) where
+  module _ (row : List ℤ) (er : row ≡ rowOf s p) (s′ : Saver) (small : length p < 2 ^ 61)
+      (es : s′ ≡ moved s row (min (length (restOf s row)) (length a - m))) where
     short : length (rowOf s p) < 2 ^ 61
     short = omega (arith, small, row-short s p)
 

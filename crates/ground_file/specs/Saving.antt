@@ -147,7 +147,8 @@ pub record Ran (s : Saver) (p : List ℤ) (before after : List ℕ) (r : Saved) 
   pub past : drop (r .written) after ≡ drop (r .written) before
   pub went : Went p s (take (r .written) after) (r .saver)
   pub stops : 0 < stopOf (r .saver) p (r .written) (length before)
-  pub answer : r .answer ≡ pick (both (eqb (r .written) 0) (ltb 1 (stopOf (r .saver) p (r .written) (length before)))) (stopOf (r .saver) p (r .written) (length before)) 0
+  pub answer : r .answer ≡ pick (both (eqb (r .written) 0) (ltb 1 (stopOf (r .saver) p (r .written) (length before))))
+      (stopOf (r .saver) p (r .written) (length before)) 0
 
 -- a call: 1 and 5, which change nothing; else what it writes
 pub record Saves (s : Saver) (p : List ℤ) (before after : List ℕ) (r : Saved) : Type 0 where

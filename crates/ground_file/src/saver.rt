@@ -16,11 +16,12 @@ ghost use Prim.Native.Nat.{_+_, _-_, _*_, _≤_, _<_, min};
 ghost use lib.ListN.{length};
 ghost use lib.Seq.{paste};
 ghost use Rattle.text.specs.Text.{Wrote};
-ghost use Rattle.ground_file.specs.Saving.{saverAt, rowOf, stepOf, pieceOf, atRow, onward, startOf, restOf, moved, begins, rowFits, rowDivides, rowNumber};
+ghost use Rattle.ground_file.specs.Saving.{saverAt, rowOf, stepOf, pieceOf, atRow, onward, startOf, restOf, moved, begins, rowFits, rowDivides};
+ghost use Rattle.ground_file.specs.Saving.{rowNumber};
 ghost use Rattle.ground_file.specs.Saving.{stopOf, Inside, Ran, plain, setUpNumber, fresh, saverFits, saveNumber, Saves};
 
-// A plane that is being saved. `phase` is the piece that is written: 0 the header, 1 group `group` of the row at `place`, 2 the checksum, 3 none; `part` bytes of
-// it are written, and `sum` is that of the pieces before it.
+// A plane that is being saved. `phase` is the piece that is written: 0 the header, 1 group `group` of the row at `place`, 2 the checksum, 3 none; `part` bytes
+// of it are written, and `sum` is that of the pieces before it.
 pub struct Saver {
     pub shape: Shape,
     pub step: usize,

@@ -16,7 +16,7 @@ use Rattle.ground_loader.specs.declared.rows.Seen.{Seen}
 use Rattle.ground_loader.specs.declared.rows.Took.{Took}
 use Rattle.ground_loader.specs.Numbers.{valueOf, numberAt, numbersIn, greatest}
 use Rattle.ground_loader.specs.Coming.{put, partSize, between, opened, second, secondPut, grouped, groupPut, groupRefused}
-use Rattle.ground_loader.specs.Coming.{seenBits, wholeOf, seenOf, partRefused, stayed, parted, endsFirst, partStored, partPut}
+use Rattle.ground_loader.specs.Coming.{seenBits, wholeOf, seenOf, partRefused, stayed, deinterleaved, endsFirst, partStored, partPut}
 use Rattle.ground_loader.specs.Coming.{refused, moved, putOn, tookOf, InPart}
 use Rattle.ground_loader.proofs.SmallestLaws.{widest, some-width}
 
@@ -143,17 +143,17 @@ module _ (c : Coming) (s : Seen) where
       rw (le-ltb (s .whole) (c .left) h, sym e, le-ltb 0 (s .bits / 2 ^ (w * s .whole)) g) (ap not f)
 
   module _ (n : ℕ) where
-    pub parted-stay : {r : Coming} → s .whole < c .left → r ≡ stayed c s → r ≡ parted n c s
-    unfolding parted
-    parted-stay h g = rw (lt-ltb (s .whole) (c .left) h) g
+    pub deinterleaved-stay : {r : Coming} → s .whole < c .left → r ≡ stayed c s → r ≡ deinterleaved n c s
+    unfolding deinterleaved
+    deinterleaved-stay h g = rw (lt-ltb (s .whole) (c .left) h) g
 
-    pub parted-second : {r : Coming} → c .left ≤ s .whole → c .phase ≡ 1 → r ≡ second n (c .done + s .whole) (c .next) → r ≡ parted n c s
-    unfolding parted
-    parted-second h e g = rw (le-ltb (s .whole) (c .left) h, eq-eqb (c .phase) 1 e) g
+    pub deinterleaved-second : {r : Coming} → c .left ≤ s .whole → c .phase ≡ 1 → r ≡ second n (c .done + s .whole) (c .next) → r ≡ deinterleaved n c s
+    unfolding deinterleaved
+    deinterleaved-second h e g = rw (le-ltb (s .whole) (c .left) h, eq-eqb (c .phase) 1 e) g
 
-    pub parted-over : {r : Coming} → c .left ≤ s .whole → (c .phase ≡ 1 → ⊥) → r ≡ between (c .done + s .whole) → r ≡ parted n c s
-    unfolding parted
-    parted-over h e g = rw (le-ltb (s .whole) (c .left) h, ne-eqb (c .phase) 1 e) g
+    pub deinterleaved-over : {r : Coming} → c .left ≤ s .whole → (c .phase ≡ 1 → ⊥) → r ≡ between (c .done + s .whole) → r ≡ deinterleaved n c s
+    unfolding deinterleaved
+    deinterleaved-over h e g = rw (le-ltb (s .whole) (c .left) h, ne-eqb (c .phase) 1 e) g
 
     pub put-second : {t : Bool} (x : ℕ → ℤ) {y z : ℕ → ℤ} → t ≡ endsFirst c s → t ≡ true → y ≡ partStored c s x
         → z ≡ secondPut n (c .done + s .whole) (c .next) y → z ≡ partPut n c s x
@@ -250,10 +250,10 @@ module _ (n : ℕ) (c : Coming) (b : ℕ) where
         → (away ≡ tookOf n c b) × (x ≡ pick (refused n c b) x (putOn n c b x))
     part-away e h = (took-no (at-part e) h, kept-no (at-part e) h)
 
-    pub part-on : {t : Bool} (x : ℕ → ℤ) {y : ℕ → ℤ} {r : Coming} → t ≡ partRefused c s → t ≡ false → r ≡ parted n c s → y ≡ partPut n c s x
+    pub part-on : {t : Bool} (x : ℕ → ℤ) {y : ℕ → ℤ} {r : Coming} → t ≡ partRefused c s → t ≡ false → r ≡ deinterleaved n c s → y ≡ partPut n c s x
         → (on r ≡ tookOf n c b) × (y ≡ pick (refused n c b) x (putOn n c b x))
     unfolding moved putOn
     part-on x e h f g = (
-      took-yes (at-part e) h (rw (ne-eqb (c .phase) 0 (λ v. omega arith)) (f ∙ ap (parted n c) is)),
+      took-yes (at-part e) h (rw (ne-eqb (c .phase) 0 (λ v. omega arith)) (f ∙ ap (deinterleaved n c) is)),
       kept-yes x (at-part e) h (rw (ne-eqb (c .phase) 0 (λ v. omega arith)) (g ∙ ap (λ v. partPut n c v x) is)),
     )

@@ -21,11 +21,12 @@ use Rattle.ground_loader.specs.declared.rows.Coming.{Coming}
 use Rattle.ground_loader.specs.declared.rows.Seen.{Seen}
 use Rattle.ground_loader.specs.Numbers.{valueOf, numberAt, numbersIn, greatest}
 use Rattle.ground_loader.specs.Coming.{put, partSize, between, opened, second, secondPut, grouped, groupPut, groupRefused}
-use Rattle.ground_loader.specs.Coming.{seenBits, wholeOf, seenOf, stayed, partRefused, parted, partStored, partPut}
+use Rattle.ground_loader.specs.Coming.{seenBits, wholeOf, seenOf, stayed, partRefused, deinterleaved, partStored, partPut}
 use Rattle.ground_loader.specs.Coming.{refused, moved, putOn, InPart}
 use Rattle.ground_loader.proofs.SmallestLaws.{widest, some-width, smallest-none}
 use Rattle.ground_loader.proofs.ByteLaws.{whole-used, greatest-below, second-open, second-kept, second-none, second-zeros}
-use Rattle.ground_loader.proofs.ByteLaws.{group-open, group-kept, group-none, group-zeros, group-many, parted-stay, parted-second, parted-over}
+use Rattle.ground_loader.proofs.ByteLaws.{group-open, group-kept, group-none, group-zeros, group-many, deinterleaved-stay, deinterleaved-second}
+use Rattle.ground_loader.proofs.ByteLaws.{deinterleaved-over}
 use Rattle.ground_loader.proofs.ByteLaws.{put-second, put-only, ends-more, ends-all}
 use Rattle.ground_loader.proofs.PartCame.{Came, came-start, came-byte, came-end, numbers-length, numbers-below, below-append, code-greatest}
 
@@ -490,15 +491,15 @@ module _ (n : ℕ) (b : ℕ) (byte : b < 2 ^ 8) where
   stored-values c x l e v = values-put x l (c .done) (widthOf (c .code)) (wholeOf c) (seenBits c b) e v
 
   first-byte : {bs : List ℕ} {c : Coming} {x : ℕ → ℤ} → First n bs c x → partRefused c (seenOf c b) ≡ false
-      → RowCame n (bs ++ (b ∷ [])) (parted n c (seenOf c b)) (partPut n c (seenOf c b) x)
+      → RowCame n (bs ++ (b ∷ [])) (deinterleaved n c (seenOf c b)) (partPut n c (seenOf c b) x)
   first-byte {bs} {c} {x} f goes =
       elim (decLt (wholeOf c) (c .left)) [
         | yes p ↦
-            subst (λ r. RowCame n (bs ++ (b ∷ [])) r (partPut n c s x)) (parted-stay c s n p refl)
+            subst (λ r. RowCame n (bs ++ (b ∷ [])) r (partPut n c s x)) (deinterleaved-stay c s n p refl)
             (subst (RowCame n (bs ++ (b ∷ [])) (stayed c s)) (put-only c s n x (ends-more c s p) refl refl) (in-first (stays p)))
         | no p ↦
             let all : c .left ≤ wholeOf c = omega arith in
-            subst (λ r. RowCame n (bs ++ (b ∷ [])) r (partPut n c s x)) (parted-second c s n all (f .phase) refl)
+            subst (λ r. RowCame n (bs ++ (b ∷ [])) r (partPut n c s x)) (deinterleaved-second c s n all (f .phase) refl)
             (subst (RowCame n (bs ++ (b ∷ [])) (second n (c .done + wholeOf c) (c .next)))
             (put-second c s n x (ends-all c s all) (eq-eqb (c .phase) 1 (f .phase)) refl refl) (ends all))
       ]
@@ -549,15 +550,15 @@ module _ (n : ℕ) (b : ℕ) (byte : b < 2 ^ 8) where
           values
 
   second-byte : {bs : List ℕ} {c : Coming} {x : ℕ → ℤ} → Second n bs c x → partRefused c (seenOf c b) ≡ false
-      → RowCame n (bs ++ (b ∷ [])) (parted n c (seenOf c b)) (partPut n c (seenOf c b) x)
+      → RowCame n (bs ++ (b ∷ [])) (deinterleaved n c (seenOf c b)) (partPut n c (seenOf c b) x)
   second-byte {bs} {c} {x} f goes =
       elim (decLt (wholeOf c) (c .left)) [
         | yes p ↦
-            subst (λ r. RowCame n (bs ++ (b ∷ [])) r (partPut n c s x)) (parted-stay c s n p refl)
+            subst (λ r. RowCame n (bs ++ (b ∷ [])) r (partPut n c s x)) (deinterleaved-stay c s n p refl)
             (subst (RowCame n (bs ++ (b ∷ [])) (stayed c s)) (put-only c s n x (ends-more c s p) refl refl) (in-second (stays p)))
         | no p ↦
             let all : c .left ≤ wholeOf c = omega arith in
-            subst (λ r. RowCame n (bs ++ (b ∷ [])) r (partPut n c s x)) (parted-over c s n all other refl)
+            subst (λ r. RowCame n (bs ++ (b ∷ [])) r (partPut n c s x)) (deinterleaved-over c s n all other refl)
             (subst (RowCame n (bs ++ (b ∷ [])) (between (c .done + wholeOf c)))
             (put-only c s n x (ends-all c s all) (ne-eqb (c .phase) 1 other) refl) (in-group (ends all)))
       ]

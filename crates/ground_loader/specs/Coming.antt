@@ -77,8 +77,8 @@ stayed c s = record {
   most = s .most;
 }
 
-unfoldable pub parted : ℕ → Coming → Seen → Coming
-parted n c s =
+unfoldable pub deinterleaved : ℕ → Coming → Seen → Coming
+deinterleaved n c s =
     pick (ltb (s .whole) (c .left)) (stayed c s)
     (pick (eqb (c .phase) 1) (second n (c .done + s .whole) (c .next)) (between (c .done + s .whole)))
 
@@ -97,7 +97,7 @@ unfoldable pub refused : ℕ → Coming → ℕ → Bool
 refused n c b = pick (eqb (c .phase) 0) (groupRefused n (c .done) b) (partRefused c (seenOf c b))
 
 unfoldable pub moved : ℕ → Coming → ℕ → Coming
-moved n c b = pick (eqb (c .phase) 0) (grouped n (c .done) b) (parted n c (seenOf c b))
+moved n c b = pick (eqb (c .phase) 0) (grouped n (c .done) b) (deinterleaved n c (seenOf c b))
 
 unfoldable pub putOn : ℕ → Coming → ℕ → (ℕ → ℤ) → ℕ → ℤ
 putOn n c b x = pick (eqb (c .phase) 0) (groupPut n (c .done) b x) (partPut n c (seenOf c b) x)

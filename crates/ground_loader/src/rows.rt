@@ -6,7 +6,7 @@ ghost use Prim.Native.Nat.{_+_, _*_, _/_, _^_, _≤_, _<_, min};
 ghost use lib.ListN.{length};
 ghost use Rattle.numbers.specs.Signal.{at, pick};
 ghost use Rattle.ground_loader.specs.Coming.{partSize, between, opened, second, secondPut, grouped, groupPut, groupRefused};
-ghost use Rattle.ground_loader.specs.Coming.{seenOf, partRefused, stayed, parted, endsFirst, partStored, partPut};
+ghost use Rattle.ground_loader.specs.Coming.{seenOf, partRefused, stayed, deinterleaved, endsFirst, partStored, partPut};
 ghost use Rattle.ground_loader.specs.Coming.{refused, tookOf, putOn, InPart, Standing};
 
 // What came of a row. `phase` is what the next byte belongs to: 0 a group's byte, 1 its first part, 2 its second. `done` numbers are stored. Of the part: its
@@ -198,7 +198,7 @@ fn stay(c: Coming, n: usize, byte: u8, s: Seen) -> Coming
 // What is next after a byte of a part.
 fn part_of(c: Coming, n: usize, byte: u8, s: Seen) -> Coming
     requires { ⌜ InPart n c × (s ≡ seenOf c byte) ⌝ }
-    ensures { λ r. ⌜ r ≡ parted n c s ⌝ }
+    ensures { λ r. ⌜ r ≡ deinterleaved n c s ⌝ }
 {
     if s.whole < c.left {
         return stay(c, n, byte, s);

@@ -9,7 +9,7 @@ use borrow.Author.Tests.{lt-ltb, le-leb, lt-leb}
 use Rattle.numbers.specs.Signal.{both}
 use Rattle.numbers.proofs.Sweep.{both as both-hold}
 use Rattle.lifting.specs.Line.{Half, lo, hi, Half-discrete}
-use Rattle.lifting.specs.Grid.{Side, count, parted, joined}
+use Rattle.lifting.specs.Grid.{Side, count, deinterleaved, joined}
 use Rattle.lifting.specs.GridHalves.{halvesOf}
 use Rattle.wavelet.specs.Bands.{Grid, Band, LL, HL, LH, HH, code, across, down, bandOf}
 use Rattle.wavelet.specs.Levels.{next}
@@ -123,7 +123,7 @@ module _ {m : ℕ} (some : 1 < m) where
           ≡ p LL (n - firstSet H lo) i) where
         low-halves : (a : Half) (i : ℕ) → i < count a (next W) →
             x (m * W .length + (rowPlace m (count lo W) (local (next H .start) (n - firstSet H lo)) + (halfPlace a (next W) + i))) ≡
-            parted (next W) (p LL (n - firstSet H lo)) a i
+            deinterleaved (next W) (p LL (n - firstSet H lo)) a i
         unfolding next
         low-halves a i b =
             half-reads few (next W) (λ j. x (m * W .length + j)) (local (next H .start) (n - firstSet H lo)) (p LL (n - firstSet H lo)) low a i b

@@ -8,8 +8,8 @@ use Rattle.numbers.specs.Tests.{every}
 use Rattle.numbers.proofs.Sweep.{both}
 use Rattle.numbers.proofs.TestLaws.{each-every, every-each}
 use Rattle.lifting.specs.Line.{Half, lo, hi}
-use Rattle.lifting.specs.Grid.{Side, count, loneHigh, hasLine}
-use Rattle.lifting.proofs.LoneLaws.{lone-high, has-other}
+use Rattle.lifting.specs.Grid.{Side, count, singleHigh, hasLine}
+use Rattle.lifting.proofs.SingleLaws.{single-high, has-other}
 use Rattle.lifting.specs.Filter.{Filter}
 use Rattle.wavelet.specs.Bands.{Grid, Band, bandOf, rowsUnlifted, rowsHave, columnsHave, levelHas}
 use Rattle.wavelet.specs.Order.{firstSet, lastSet}
@@ -28,7 +28,8 @@ high-set H r b = omega arith
 
 pub sets-have : (F : Filter) (a : ℕ) (W H : Side) (p : Band → Grid) → ((n : ℕ) → n ≤ lastSet H → SetHasBy F a W H p n) → levelHas F W H p ≡ true
 unfolding levelHas rowsHave columnsHave
-sets-have F a W H p s = rw (each-every (count lo H) _ low, each-every (count hi H) _ high, each-every (W .length) _ (λ c b. column c b (loneHigh H) refl)) refl
+sets-have F a W H p s = rw (each-every (count lo H) _ low, each-every (count hi H) _ high, each-every (W .length) _ (λ c b. column c b (singleHigh H) refl))
+    refl
   where
     low : (r : ℕ) → r < count lo H → hasLine W (λ h. p (bandOf h lo) r) ≡ true
     low r b =
@@ -38,8 +39,8 @@ sets-have F a W H p s = rw (each-every (count lo H) _ low, each-every (count hi 
     high : (r : ℕ) → r < count hi H → hasLine W (λ h. p (bandOf h hi) r) ≡ true
     high r b = s r (high-set H r b) .high b
 
-    column : (c : ℕ) → c < W .length → (t : Bool) → loneHigh H ≡ t → hasLine H (λ h i. rowsUnlifted F wrap32 W p h i c) ≡ true
-    column c b true e = let one = lone-high H e .0 in s (setOf a H 0) (set-there a H 0) .columns 0 (omega arith) refl c b
+    column : (c : ℕ) → c < W .length → (t : Bool) → singleHigh H ≡ t → hasLine H (λ h i. rowsUnlifted F wrap32 W p h i c) ≡ true
+    column c b true e = let one = single-high H e .0 in s (setOf a H 0) (set-there a H 0) .columns 0 (omega arith) refl c b
     column c b false e = has-other H _ e
 
 low-there : (H : Side) (n : ℕ) → 0 < H .length → n ≤ lastSet H → firstSet H lo ≤ n → n - firstSet H lo < count lo H

@@ -1,12 +1,12 @@
 -- What is asked of a level forward, and a store from a place on.
 pub mod LevelLaws
 pub mod RestLaws
--- Rows of a stretch: where they stand, filled, parted, doubled.
+-- Rows of a stretch: where they stand, filled, deinterleaved, doubled.
 pub mod Places
 pub mod Spots
 pub mod RowSteps
 pub mod PairLaws
-pub mod PartedLaws
+pub mod DeinterleavedLaws
 pub mod FillLaws
 -- The way back.
 pub mod OpenedSets

@@ -10,11 +10,11 @@ use lib.Signed.{shrZ}
 use Rattle.numbers.specs.Signal.{windowed, spliced}
 use Rattle.numbers.proofs.Parts.{window-in, splice-below, splice-in, splice-past}
 use Rattle.lifting.specs.Line.{Half, lo, hi}
-use Rattle.lifting.specs.Grid.{Side, place, count, parted, joined, hasLine}
+use Rattle.lifting.specs.Grid.{Side, place, count, deinterleaved, joined, hasLine}
 use Rattle.lifting.specs.GridHalves.{halvesOf, inHalves, hasLineIn}
 use Rattle.lifting.proofs.GridLaws as grid
-use Rattle.lifting.proofs.GridLaws.{counts, place-in, joined-place, joined-parted, halves-low, halves-high}
-use Rattle.lifting.proofs.LoneLaws.{has-reads}
+use Rattle.lifting.proofs.GridLaws.{counts, place-in, joined-place, joined-deinterleaved, halves-low, halves-high}
+use Rattle.lifting.proofs.SingleLaws.{has-reads}
 use Rattle.lifting.proofs.RowLaws.{row-order, row-at, row-past, row-other}
 use Rattle.wavelet.specs.Bands.{Band, across, down}
 use Rattle.wavelet.specs.Levels.{next}
@@ -72,9 +72,10 @@ halves-at W y lo i = let e : 0 + i ≡ i = omega arith in rw e refl
 halves-at W y hi i = refl
 
 -- a line by its halves
-pub joined-reads : (S : Side) (p : Half → ℕ → ℤ) (row : ℕ → ℤ) → ((h : Half) (i : ℕ) → i < count h S → p h i ≡ parted S row h i) → (i : ℕ) → i < S .length →
+pub joined-reads : (S : Side) (p : Half → ℕ → ℤ) (row : ℕ → ℤ) → ((h : Half) (i : ℕ) → i < count h S → p h i ≡ deinterleaved S row h i) → (i : ℕ)
+    → i < S .length →
     joined S p i ≡ row i
-joined-reads S p row e i b = grid.joined-reads S p (parted S row) e i b ∙ joined-parted S row i
+joined-reads S p row e i b = grid.joined-reads S p (deinterleaved S row) e i b ∙ joined-deinterleaved S row i
 
 -- y differs from x in the slot of row t alone, of the m
 pub record Only (m w t : ℕ) (x y : ℕ → ℤ) : Type 0 where
@@ -197,8 +198,8 @@ module _ {m : ℕ} (some : 0 < m) where
 
   -- ---- a line read out of its slot says what stands there by halves
   pub half-reads : (W : Side) (x : ℕ → ℤ) (q : ℕ) (row : ℕ → ℤ) → ((i : ℕ) → i < W .length → joined W (halvesOf W (rowIn m (W .length) q x)) i ≡ row i) →
-      (h : Half) (i : ℕ) → i < count h W → x (rowPlace m (W .length) q + (halfPlace h W + i)) ≡ parted W row h i
-  unfolding rowIn parted
+      (h : Half) (i : ℕ) → i < count h W → x (rowPlace m (W .length) q + (halfPlace h W + i)) ≡ deinterleaved W row h i
+  unfolding rowIn deinterleaved
   half-reads W x q row e h i b =
       sym (halves-at W _ h i ∙ window-in (rowPlace m (W .length) q) (W .length) x (halfPlace h W + i) (half-inside h W i b))
       ∙ sym (joined-place W (halvesOf W (windowed (rowPlace m (W .length) q) (W .length) x)) h i) ∙ e (place W h i) (place-in W h i b)
@@ -213,7 +214,7 @@ module _ {m : ℕ} (some : 0 < m) where
     from = rowPlace m (count lo W) (local (next H .start) (n - firstSet H lo))
 
     pub taken-is : (row : ℕ → ℤ) →
-        ((h : Half) (i : ℕ) → i < count h (next W) → x (m * W .length + (from + (halfPlace h (next W) + i))) ≡ parted (next W) row h i) →
+        ((h : Half) (i : ℕ) → i < count h (next W) → x (m * W .length + (from + (halfPlace h (next W) + i))) ≡ deinterleaved (next W) row h i) →
         (i : ℕ) → i < count lo W → lowRowTaken m W H n x (rowPlace m (W .length) (2 * n) + (halfPlace lo W + i)) ≡ row i
     unfolding lowRowTaken halfPlace next
     taken-is row e i b =
@@ -223,7 +224,7 @@ module _ {m : ℕ} (some : 0 < m) where
         ∙ joined-reads (next W) _ row read i b
       where
         read : (h : Half) (i : ℕ) → i < count h (next W) →
-            halvesOf (next W) (windowed (m * W .length + from) (count lo W) x) h i ≡ parted (next W) row h i
+            halvesOf (next W) (windowed (m * W .length + from) (count lo W) x) h i ≡ deinterleaved (next W) row h i
         read h i b =
             let g : m * W .length + from + (halfPlace h (next W) + i) ≡ m * W .length + (from + (halfPlace h (next W) + i)) = omega arith in
             halves-at (next W) _ h i ∙ window-in _ (count lo W) x (halfPlace h (next W) + i) (half-inside h (next W) i b) ∙ ap x g ∙ e h i b

@@ -7,7 +7,7 @@ use lib.Dec.{T}
 use Rattle.numbers.specs.Signal.{pick}
 use Rattle.numbers.proofs.TestLaws.{every-each, each-every}
 use Rattle.lifting.specs.Line.{Half}
-use Rattle.lifting.specs.Grid.{Side, place, count, parted}
+use Rattle.lifting.specs.Grid.{Side, place, count, deinterleaved}
 use Rattle.lifting.proofs.GridLaws.{place-in, in-place, by-place}
 use Rattle.level.specs.Tried.{Tried, failed, passed, bind}
 use Rattle.level.specs.Stretch.{rowPlace, halfPlace, rowFits, admitted, RowStands}
@@ -28,23 +28,23 @@ pub not-false : (t : Bool) → t ≡ true → t ≡ false → ⊥
 not-false t e f = subst T (sym e ∙ f) tt
 
 -- ---- a test of every number of a row, of those that stand there
-module _ (m : ℕ) (W : Side) (P : ℤ → Bool) (q : ℕ) (x row : ℕ → ℤ) (s : RowStands m W x q (parted W row)) where
-  fits-parted : ((a : Half) (i : ℕ) → i < count a W → P (parted W row a i) ≡ true) → (c : ℕ) → c < W .length → P (row c) ≡ true
-  unfolding parted
-  fits-parted f = by-place W (λ c. c < W .length → P (row c) ≡ true) (λ a i b. f a i (in-place W a i b))
+module _ (m : ℕ) (W : Side) (P : ℤ → Bool) (q : ℕ) (x row : ℕ → ℤ) (s : RowStands m W x q (deinterleaved W row)) where
+  fits-deinterleaved : ((a : Half) (i : ℕ) → i < count a W → P (deinterleaved W row a i) ≡ true) → (c : ℕ) → c < W .length → P (row c) ≡ true
+  unfolding deinterleaved
+  fits-deinterleaved f = by-place W (λ c. c < W .length → P (row c) ≡ true) (λ a i b. f a i (in-place W a i b))
 
   pub each-stands : ((i : ℕ) → i < W .length → P (x (rowPlace m (W .length) q + i)) ≡ true) → (c : ℕ) → c < W .length → P (row c) ≡ true
-  each-stands f = fits-parted (λ a i b. subst (λ v. P v ≡ true) (s a i b) (f (halfPlace a W + i) (half-inside a W i b)))
+  each-stands f = fits-deinterleaved (λ a i b. subst (λ v. P v ≡ true) (s a i b) (f (halfPlace a W + i) (half-inside a W i b)))
 
   pub stands-each : ((c : ℕ) → c < W .length → P (row c) ≡ true) → (i : ℕ) → i < W .length → P (x (rowPlace m (W .length) q + i)) ≡ true
-  unfolding parted
+  unfolding deinterleaved
   stands-each f =
       by-halves W (λ j. P (x (rowPlace m (W .length) q + j)) ≡ true)
       (λ a i b. subst (λ v. P v ≡ true) (sym (s a i b)) (f (place W a i) (place-in W a i b)))
 
 -- ---- the test of a row, by which nothing goes on if a value does not pass and N says that all do
 pub admit : (test : ℕ → ℤ → Bool) (m k : ℕ) (W : Side) (N : Type 0) (P : (ℕ → ℤ) → Type 0) (q : ℕ) (row x : ℕ → ℤ) →
-    (N → (c : ℕ) → c < W .length → test k (row c) ≡ true) → RowStands m W x q (parted W row) →
+    (N → (c : ℕ) → c < W .length → test k (row c) ≡ true) → RowStands m W x q (deinterleaved W row) →
     (((c : ℕ) → c < W .length → test k (row c) ≡ true) → P x) → Outcome N P (admitted m test k (W .length) q x)
 unfolding admitted rowFits
 admit test m k W N P q row x all s f = go (rowFits m test k (W .length) q x) refl

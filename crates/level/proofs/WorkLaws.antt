@@ -72,14 +72,14 @@ module _ (m : ℕ) (test : ℕ → ℤ → Bool) (k w q : ℕ) where
   told ok z y ez eo = ap (λ (b : Bool). outcome b z) eo ∙ ap (stretch.admitted m test k w q) ez
 
   module _ (x : ℕ → ℤ) where
-    pub lone-no : stretch.rowIsEven m w q x ≡ false → failed ≡ stretch.loneMade m (stretch.admitted m test) k w q x
-    unfolding stretch.loneMade
-    lone-no e = rw e refl
+    pub single-no : stretch.rowIsEven m w q x ≡ false → failed ≡ stretch.singleMade m (stretch.admitted m test) k w q x
+    unfolding stretch.singleMade
+    single-no e = rw e refl
 
-    pub lone-made : (ok : Bool) (z : ℕ → ℤ) → stretch.rowIsEven m w q x ≡ true → z ≡ stretch.rowHalved m w q x → ok ≡ stretch.rowFits m test k w q z →
-        outcome ok z ≡ stretch.loneMade m (stretch.admitted m test) k w q x
-    unfolding stretch.loneMade
-    lone-made ok z e ez eo = rw e (told ok z _ ez eo)
+    pub single-made : (ok : Bool) (z : ℕ → ℤ) → stretch.rowIsEven m w q x ≡ true → z ≡ stretch.rowHalved m w q x → ok ≡ stretch.rowFits m test k w q z →
+        outcome ok z ≡ stretch.singleMade m (stretch.admitted m test) k w q x
+    unfolding stretch.singleMade
+    single-made ok z e ez eo = rw e (told ok z _ ez eo)
 
 -- ---- which row of the next level a set's low-low row is
 pub low-row : (y n r : ℕ) → n < 2 ^ 62 → r ≡ pick (ltb n (2 ^ 62)) (local (next (side y 0) .start) (n - y % 2)) 0 → r ≡ (y + 1) / 2 % 2 + (n - y % 2)

@@ -65,9 +65,9 @@ module _ {m : ℕ} (some : 0 < m) (W H : Side) where
     unfolding stretch.setUnlifted
     rows-past n x = bound room x _ _ (low-past n x) (high-past n)
 
-  pub lone-past : (test : ℕ → ℤ → Bool) (k q : ℕ) (x : ℕ → ℤ) → Keeps room x (stretch.loneMade m (stretch.admitted m test) k (W .length) q x)
-  unfolding stretch.loneMade
-  lone-past test k q x =
+  pub single-past : (test : ℕ → ℤ → Bool) (k q : ℕ) (x : ℕ → ℤ) → Keeps room x (stretch.singleMade m (stretch.admitted m test) k (W .length) q x)
+  unfolding stretch.singleMade
+  single-past test k q x =
       either room x _ _ (admits room m test k (W .length) q x (stretch.rowHalved m (W .length) q x) (only-kept (only-halved some W q x))) stops
       (stretch.rowIsEven m (W .length) q x)
 

@@ -1,4 +1,4 @@
--- What is done to rows whatever filter the level has: an only row doubled, a row parted by pairs.
+-- What is done to rows whatever filter the level has: an only row doubled, a row deinterleaved by pairs.
 use Prim.Native.Nat.{ℕ, _+_, _*_}
 use lib.IntN.{ℤ, pos, _*ℤ_}
 use Rattle.numbers.specs.Signal.{spliced}

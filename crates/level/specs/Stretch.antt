@@ -88,8 +88,8 @@ module _ (m : ℕ) where
   lowTaken last W H n x = pick last x (pick (hasLow H n) (lowRowTaken W H n x) x)
 
   -- an only row made, at an odd coordinate: halved, if all of it is even, and admitted
-  unfoldable pub loneMade : Admission → ℕ → ℕ → ℕ → (ℕ → ℤ) → Tried
-  loneMade admit k w q x = pick (rowIsEven w q x) (admit k w q (rowHalved w q x)) failed
+  unfoldable pub singleMade : Admission → ℕ → ℕ → ℕ → (ℕ → ℤ) → Tried
+  singleMade admit k w q x = pick (rowIsEven w q x) (admit k w q (rowHalved w q x)) failed
 
   -- a test of each value of level k's low-low part, as 14 is: the row is left if all of it passes
   unfoldable pub rowFits : (ℕ → ℤ → Bool) → ℕ → ℕ → ℕ → (ℕ → ℤ) → Bool

@@ -6,7 +6,7 @@ ghost use lib.ListN.{length};
 ghost use lib.Dec.{eqb};
 ghost use Rattle.numbers.specs.Signal.{at, pick, spliced};
 ghost use Rattle.lifting.specs.Grid.{side, count};
-ghost use Rattle.lifting.specs.GridHalves.{partedInto};
+ghost use Rattle.lifting.specs.GridHalves.{deinterleavedInto};
 ghost use Rattle.lifting.specs.Rows.{rowChanged};
 ghost use Rattle.lifting.specs.Pairs.{first};
 ghost use Rattle.level.specs.Moves.{separated};
@@ -26,19 +26,19 @@ fn separate(store: &mut [i32], from: usize, firsts: usize, seconds: usize, count
     }
 }
 
-// Where the first number of a row goes that is parted into its halves, `low` of it low: a row that starts at an odd coordinate begins with a high one.
+// Where the first number of a row goes that is deinterleaved into its halves, `low` of it low: a row that starts at an odd coordinate begins with a high one.
 fn first_place(start: usize, low: usize) -> usize
     ensures { λ r. ⌜ r ≡ pick (eqb (start % 2) 0) 0 low ⌝ }
 {
     if start % 2 == 0 { 0 } else { low }
 }
 
-// The v numbers from `from` on, a row that starts at coordinate `start`, parted into its halves from place `to` on, past what is read: pairs, and the last
-// by itself where v is odd.
+// The v numbers from `from` on, a row that starts at coordinate `start`, deinterleaved into its halves from place `to` on, past what is read: pairs, and the
+// last by itself where v is odd.
 pub fn part_row(store: &mut [i32], from: usize, to: usize, start: usize, v: usize)
     requires { ⌜ (from + v ≤ to) × (to + v ≤ length (now store)) ⌝ }
     ensures { λ _. ⌜ at (now (store .exit)) ≡
-        spliced to v (partedInto (side start v) (λ i. at (now (store .entry)) (from + i)) (at (now (store .entry)))) (at (now (store .entry))) ⌝ }
+        spliced to v (deinterleavedInto (side start v) (λ i. at (now (store .entry)) (from + i)) (at (now (store .entry)))) (at (now (store .entry))) ⌝ }
 {
     let low = sizes::low_count(start, v);
     let o = first_place(start, low);

@@ -8,7 +8,7 @@ ghost use lib.ListN.{length};
 ghost use lib.Dec.{leb};
 ghost use Rattle.numbers.specs.Signal.{at, pick, both, spliced};
 ghost use Rattle.lifting.specs.Grid.{side};
-ghost use Rattle.lifting.specs.GridHalves.{partedInto};
+ghost use Rattle.lifting.specs.GridHalves.{deinterleavedInto};
 ghost use Rattle.lifting.specs.Rows.{rowsFit, rowsChanged};
 ghost use Rattle.lifting.specs.Pairs.{first};
 
@@ -34,11 +34,11 @@ fn part_fits(n: usize, from: usize, to: usize, v: usize) -> bool
     false
 }
 
-// The v numbers from place `from` on, a row that starts at coordinate `start`, parted into its halves from place `to` on, past what is read.
+// The v numbers from place `from` on, a row that starts at coordinate `start`, deinterleaved into its halves from place `to` on, past what is read.
 pub fn part_row(store: &mut [i32], from: usize, to: usize, start: usize, v: usize) -> u8
     ensures { λ r. ⌜ r ≡ pick (both (leb (from + v) to) (leb (to + v) (length (now (store .entry))))) 0 5 ⌝ }
     ensures { λ r. ⌜ at (now (store .exit)) ≡ pick (both (leb (from + v) to) (leb (to + v) (length (now (store .entry)))))
-        (spliced to v (partedInto (side start v) (λ i. at (now (store .entry)) (from + i)) (at (now (store .entry)))) (at (now (store .entry))))
+        (spliced to v (deinterleavedInto (side start v) (λ i. at (now (store .entry)) (from + i)) (at (now (store .entry)))) (at (now (store .entry))))
         (at (now (store .entry))) ⌝ }
 {
     if part_fits(store.len(), from, to, v) {

@@ -16,12 +16,12 @@ use Rattle.numbers.specs.Word.{wrap32}
 use Rattle.numbers.proofs.Sweep.{Swept, start, store, finish}
 use Rattle.numbers.proofs.Parts.{window-in, splice-in, splice-below, splice-past, length-mid, at-mid, at-put}
 use Rattle.lifting.specs.Line.{Half, lo, hi, unupdated, unpredicted}
-use Rattle.lifting.specs.Grid.{Side, side, place, count, parted, joined, lineForward, lineHalvesBack, lineBack}
+use Rattle.lifting.specs.Grid.{Side, side, place, count, deinterleaved, joined, lineForward, lineHalvesBack, lineBack}
 use Rattle.lifting.specs.GridHalves.{halvesOf, liftedInPlace, forwardInto, backwardInto}
 use Rattle.lifting.specs.Passes.{near, evensCopied, evenBack, restPut}
 use Rattle.lifting.proofs.GridLaws.{ahead, counts, some, beside-lows, every-second, low-place, high-place}
 use Rattle.lifting.proofs.GridLaws.{left-one, left-two, left-three, place-in, joined-place, joined-reads}
-use Rattle.lifting.proofs.GridLaws.{joined-parted, even-near, odd-near, halves-low, halves-high, halves-are, front-in, front-past}
+use Rattle.lifting.proofs.GridLaws.{joined-deinterleaved, even-near, odd-near, halves-low, halves-high, halves-are, front-in, front-past}
 use Rattle.lifting.proofs.GridReads.{forward-reads}
 
 -- ---- the even places of a line copied
@@ -402,8 +402,8 @@ module _ (S : Side) (x z : ℕ → ℤ) (g : 0 < S .length) where
   copied-half hi n b = let both = counts S in lent-in (low + n) (omega arith) ∙ copied-high n b
 
   copied-line : (i : ℕ) → i < N → x i ≡ joined S (halvesOf S lent) i
-  unfolding parted
-  copied-line i h = sym (joined-reads S (halvesOf S lent) (parted S x) copied-half i h ∙ joined-parted S x i)
+  unfolding deinterleaved
+  copied-line i h = sym (joined-reads S (halvesOf S lent) (deinterleaved S x) copied-half i h ∙ joined-deinterleaved S x i)
 
   back-in : (j : ℕ) → j < N → spliced 0 N (liftedInPlace S lent) twice j ≡ liftedInPlace S lent j
   back-in j h = let k : j - 0 ≡ j = omega arith in splice-in 0 N (liftedInPlace S lent) twice j (omega arith) (omega arith) ∙ ap (liftedInPlace S lent) k

@@ -10,7 +10,7 @@ use borrow.Author.Tests.{eq-eqb, ne-eqb, le-ltb}
 use Rattle.numbers.specs.Word.{wrap32}
 use Rattle.lifting.specs.Line.{Half, lo, hi, predicted, updated, unpredicted, unupdated}
 use Rattle.lifting.specs.Line as line
-use Rattle.lifting.specs.Grid.{side, place, count, joined, lineForward, lineHalvesBack, lineBack, hasLine, loneHigh}
+use Rattle.lifting.specs.Grid.{side, place, count, joined, lineForward, lineHalvesBack, lineBack, hasLine, singleHigh}
 use Rattle.lifting.specs.Halves as halves
 use Rattle.lifting.specs.GridHalves.{halvesOf, inHalves, liftedInPlace, unliftedInPlace, hasLineIn, forwardInto, backwardInto}
 use Rattle.lifting.proofs.LineNear as line-laws
@@ -173,13 +173,13 @@ backward-into-zero N y z =
 
 -- every line is lifted back: none ends in 14
 pub has-any : (N : ℕ) (c : Half → ℕ → ℤ) → hasLine (side 0 N) c ≡ true
-unfolding hasLine loneHigh
+unfolding hasLine singleHigh
 has-any N c = refl
 
-pub never-lone : (N : ℕ) → loneHigh (side 0 N) ≡ true → ⊥
-unfolding loneHigh
-never-lone N e = let z : _≡_ {A = ℕ} 0 1 = cc in absurd (omega arith)
+pub never-single : (N : ℕ) → singleHigh (side 0 N) ≡ true → ⊥
+unfolding singleHigh
+never-single N e = let z : _≡_ {A = ℕ} 0 1 = cc in absurd (omega arith)
 
 pub has-zero : (N : ℕ) (y : ℕ → ℤ) → hasLineIn (side 0 N) y ≡ true
-unfolding hasLineIn hasLine loneHigh
+unfolding hasLineIn hasLine singleHigh
 has-zero N y = refl

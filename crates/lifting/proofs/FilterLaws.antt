@@ -7,7 +7,7 @@ use native.Mathlib.Omega.{arith}
 use lib.IntN.{ℤ, pos, natAbs, _*ℤ_}
 use Rattle.numbers.specs.Word.{wrap32, whole}
 use Rattle.lifting.specs.Line.{Half, lo}
-use Rattle.lifting.specs.Grid.{Side, side, place, count, loneHigh, hasLine}
+use Rattle.lifting.specs.Grid.{Side, side, place, count, singleHigh, hasLine}
 use Rattle.lifting.specs.Filter.{Filter, lineBackBy}
 pub use Rattle.lifting.proofs.Keeping.{Keeping, words, wholes}
 
@@ -17,9 +17,9 @@ pub record FilterLaws (F : Filter) : Type 1 where
       → (h : Half) (n : ℕ) → n < count h S → K .Good (F .forward keep S x h n)
   pub back-good : {keep : ℤ → ℤ} (K : Keeping keep) (S : Side) (c : Half → ℕ → ℤ) → ((h : Half) (n : ℕ) → n < count h S → K .Good (c h n))
       → (i : ℕ) → i < S .length → K .Good (lineBackBy F keep S c i)
-  -- and the two ways are inverse. A lone sample at an odd coordinate comes back if its double is good,
+  -- and the two ways are inverse. A single sample at an odd coordinate comes back if its double is good,
   pub line-back-forward : {keep : ℤ → ℤ} (K : Keeping keep) (S : Side) (x : ℕ → ℤ) → ((i : ℕ) → i < S .length → K .Good (x i))
-      → (loneHigh S ≡ true → K .Good (pos 2 *ℤ x 0)) → (i : ℕ) → i < S .length → lineBackBy F keep S (F .forward keep S x) i ≡ x i
+      → (singleHigh S ≡ true → K .Good (pos 2 *ℤ x 0)) → (i : ℕ) → i < S .length → lineBackBy F keep S (F .forward keep S x) i ≡ x i
   -- and values go there again if they are a line's; those of a line are
   pub line-forward-back : {keep : ℤ → ℤ} (K : Keeping keep) (S : Side) (c : Half → ℕ → ℤ) → ((h : Half) (n : ℕ) → n < count h S → K .Good (c h n))
       → hasLine S c ≡ true → (h : Half) (n : ℕ) → n < count h S → F .forward keep S (lineBackBy F keep S c) h n ≡ c h n

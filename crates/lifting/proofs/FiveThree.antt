@@ -6,7 +6,7 @@ use mathlib.Core.Bool.{true}
 use lib.IntN.{ℤ, pos, _+ℤ_, _-ℤ_, _*ℤ_}
 use lib.Signed.{shrZ}
 use Rattle.lifting.specs.Line.{predicted, updated, unpredicted, unupdated, Half, lo, hi}
-use Rattle.lifting.specs.Grid.{Side, place, count, lineForward, lineHalvesBack, lineBack, loneHigh, hasLine}
+use Rattle.lifting.specs.Grid.{Side, place, count, lineForward, lineHalvesBack, lineBack, singleHigh, hasLine}
 use Rattle.lifting.proofs.GridLaws.{high-near, low-near, even-near, odd-near, low-one, high-one, even-one, odd-one}
 use Rattle.lifting.proofs.Neighbours.{left, right, by-two}
 use Rattle.lifting.proofs.TwoSteps.{Lifting}
@@ -68,8 +68,8 @@ module _ {keep : ℤ → ℤ} (K : Keeping keep) (S : Side) where
   unfolding lineBack
   back-good = two.back-good five-three K S
 
-  -- and the two ways are inverse. A lone sample at an odd coordinate comes back if its double is good,
-  pub line-back-forward : (x : ℕ → ℤ) → ((i : ℕ) → i < S .length → Good (x i)) → (loneHigh S ≡ true → Good (pos 2 *ℤ x 0)) → (i : ℕ) → i < S .length
+  -- and the two ways are inverse. A single sample at an odd coordinate comes back if its double is good,
+  pub line-back-forward : (x : ℕ → ℤ) → ((i : ℕ) → i < S .length → Good (x i)) → (singleHigh S ≡ true → Good (pos 2 *ℤ x 0)) → (i : ℕ) → i < S .length
       → lineBack keep S (lineForward keep S x) i ≡ x i
   unfolding lineBack
   line-back-forward = two.back-forward five-three K S

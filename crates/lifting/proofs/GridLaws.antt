@@ -10,7 +10,7 @@ use lib.Signed.{shrZ}
 use borrow.Author.Tests.{lt-ltb, le-ltb, eq-eqb, ne-eqb}
 use Rattle.numbers.proofs.Integers.{dif, dif-natAbs}
 use Rattle.lifting.specs.Line.{Half, lo, hi, mirror, predicted, updated, unpredicted, unupdated}
-use Rattle.lifting.specs.Grid.{Side, half, place, count, parted, joined, before, after, highAt, lowAt, evenAt, oddAt, lineForward, lineHalvesBack}
+use Rattle.lifting.specs.Grid.{Side, half, place, count, deinterleaved, joined, before, after, highAt, lowAt, evenAt, oddAt, lineForward, lineHalvesBack}
 use Rattle.lifting.specs.Halves.{fronted}
 use Rattle.lifting.specs.GridHalves.{inHalves}
 use Rattle.lifting.specs.Passes.{near}
@@ -117,9 +117,9 @@ module _ (S : Side) where
   unfolding joined
   joined-place p h n = ap₂ p (half-place h n) (number h n)
 
-  pub joined-parted : (x : ℕ → ℤ) (i : ℕ) → joined S (parted S x) i ≡ x i
-  unfolding parted
-  joined-parted x = by-place (λ i. joined S (parted S x) i ≡ x i) (joined-place (parted S x))
+  pub joined-deinterleaved : (x : ℕ → ℤ) (i : ℕ) → joined S (deinterleaved S x) i ≡ x i
+  unfolding deinterleaved
+  joined-deinterleaved x = by-place (λ i. joined S (deinterleaved S x) i ≡ x i) (joined-place (deinterleaved S x))
 
   -- a join reads the numbers that are there
   pub joined-reads : (p q : Half → ℕ → ℤ) → ((h : Half) (n : ℕ) → n < count h S → p h n ≡ q h n) → (i : ℕ) → i < S .length → joined S p i ≡ joined S q i

@@ -14,15 +14,15 @@ use Rattle.numbers.specs.Word.{wrap32, whole}
 use Rattle.numbers.proofs.Integers.{each, lin}
 use Rattle.numbers.proofs.Words.{abs-fits}
 use Rattle.lifting.specs.Line.{predicted, updated, Half, lo, hi}
-use Rattle.lifting.specs.Grid.{Side, side, place, count, lineForward, lineBack, loneHigh, hasLine}
+use Rattle.lifting.specs.Grid.{Side, side, place, count, lineForward, lineBack, singleHigh, hasLine}
 use Rattle.lifting.proofs.GridLaws.{counts, some, place-in, high-near, low-near, low-one, high-one}
 use Rattle.lifting.proofs.GridReads.{span-in}
 use Rattle.lifting.proofs.TwoSteps as two
 use Rattle.lifting.proofs.FiveThree.{five-three, words, wholes, line-back-forward, line-forward-back}
 
--- ---- the inverse, for every line of 32-bit numbers: there and back. A lone sample at an odd coordinate comes back if its double fits 32 bits
+-- ---- the inverse, for every line of 32-bit numbers: there and back. A single sample at an odd coordinate comes back if its double fits 32 bits
 module _ (S : Side) (x : ℕ → ℤ) (fits : (i : ℕ) → i < S .length → SFits w32 (x i)) where
-  pub back-forward : (loneHigh S ≡ true → SFits w32 (pos 2 *ℤ x 0)) → (i : ℕ) → i < S .length → lineBack wrap32 S (lineForward wrap32 S x) i ≡ x i
+  pub back-forward : (singleHigh S ≡ true → SFits w32 (pos 2 *ℤ x 0)) → (i : ℕ) → i < S .length → lineBack wrap32 S (lineForward wrap32 S x) i ≡ x i
   back-forward = line-back-forward words S x fits
 
 -- and back and there, for all values but those that give 14

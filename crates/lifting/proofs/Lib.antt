@@ -7,7 +7,7 @@ pub mod Keeping
 pub mod TwoSteps
 pub mod Neighbours
 pub mod TwoStepsInMemory
-pub mod LoneLaws
+pub mod SingleLaws
 pub mod FiveThree
 pub mod GridTheorems
 pub mod FilterLaws
@@ -26,5 +26,5 @@ pub mod PlaceLaws
 pub mod AreaLaws
 pub mod LiftLaws
 pub mod BackLaws
-pub mod LoneTests
+pub mod SingleTests
 pub mod EachLaws

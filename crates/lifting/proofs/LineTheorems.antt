@@ -19,7 +19,7 @@ use Rattle.lifting.proofs.FiveThree as fivethree
 use Rattle.lifting.proofs.GridReads as reads
 use Rattle.lifting.proofs.GridTheorems as theorems
 use Rattle.lifting.proofs.LineNear.{high-near, low-near, even-near, odd-near, joined-place}
-use Rattle.lifting.proofs.AtZero.{count-zero, forward-zero, back-zero, has-any, never-lone}
+use Rattle.lifting.proofs.AtZero.{count-zero, forward-zero, back-zero, has-any, never-single}
 
 -- ---- by the lines on the grid, at a start of 0 (AtZero)
 module _ (N : ℕ) where
@@ -38,7 +38,7 @@ module _ {keep : ℤ → ℤ} (K : Keeping keep) (N : ℕ) where
         sym (back-zero keep N (lineForward keep N x) i b)
         ∙ reads.back-reads keep (side 0 N) (lineForward keep N x) (grid.lineForward keep (side 0 N) x)
         (λ h n p. sym (forward-zero keep N x h n (counted N h n p))) i b
-        ∙ fivethree.line-back-forward K (side 0 N) x good (λ e. absurd (never-lone N e)) i b
+        ∙ fivethree.line-back-forward K (side 0 N) x good (λ e. absurd (never-single N e)) i b
 
   module _ (c : Half → ℕ → ℤ) (good : (h : Half) (n : ℕ) → n < count h N → Good (c h n)) where
     pub line-forward-back : (h : Half) (n : ℕ) → n < count h N → lineForward keep N (lineBack keep N c) h n ≡ c h n

@@ -9,14 +9,14 @@ use Rattle.lifting.specs.Grid.{side}
 use Rattle.lifting.specs.GridHalves as grid
 use Rattle.lifting.specs.Halves.{fronted, liftedInPlace, unliftedInPlace, forwardInto, backwardInto}
 use Rattle.lifting.proofs.GridThereAndBack as there
-use Rattle.lifting.proofs.AtZero.{lifted-zero, unlifted-zero, forward-into-zero, backward-into-zero, has-zero, never-lone}
+use Rattle.lifting.proofs.AtZero.{lifted-zero, unlifted-zero, forward-into-zero, backward-into-zero, has-zero, never-single}
 
 module _ (N : ℕ) (y : ℕ → ℤ) (fits : (i : ℕ) → i < N → SFits w32 (y i)) where
   -- in place
   pub unlift-lift : unliftedInPlace N (liftedInPlace N y) ≡ y
   unlift-lift =
       rw (← lifted-zero N y, ← unlifted-zero N (grid.liftedInPlace (side 0 N) y))
-      (there.unlift-lift (side 0 N) y fits (λ e. absurd (never-lone N e)))
+      (there.unlift-lift (side 0 N) y fits (λ e. absurd (never-single N e)))
 
   pub lift-unlift : liftedInPlace N (unliftedInPlace N y) ≡ y
   lift-unlift =
@@ -26,7 +26,7 @@ module _ (N : ℕ) (y : ℕ → ℤ) (fits : (i : ℕ) → i < N → SFits w32 (
   pub back-there : (z w : ℕ → ℤ) → backwardInto N (forwardInto N y z) w ≡ fronted N y w
   back-there z w =
       rw (← forward-into-zero N y z, ← backward-into-zero N (grid.forwardInto (side 0 N) y z) w)
-      (there.back-there (side 0 N) y fits (λ e. absurd (never-lone N e)) z w)
+      (there.back-there (side 0 N) y fits (λ e. absurd (never-single N e)) z w)
 
   pub there-back : (z w : ℕ → ℤ) → forwardInto N (backwardInto N y z) w ≡ fronted N y w
   there-back z w =

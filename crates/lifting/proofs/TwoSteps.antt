@@ -16,9 +16,9 @@ use Rattle.numbers.specs.Word.{wrap32, whole}
 use Rattle.numbers.proofs.Integers.{each, lin, dif-natAbs}
 use Rattle.numbers.proofs.Words.{wrap-kept}
 use Rattle.lifting.specs.Line.{Half, lo, hi}
-use Rattle.lifting.specs.Grid.{Side, side, place, count, joined, loneHigh, isEven, hasLine}
+use Rattle.lifting.specs.Grid.{Side, side, place, count, joined, singleHigh, isEven, hasLine}
 use Rattle.lifting.proofs.GridLaws.{other, place-in, in-place, by-place, joined-place, joined-reads}
-use Rattle.lifting.proofs.LoneLaws.{lone-odd, lone-high, has-lone, has-other}
+use Rattle.lifting.proofs.SingleLaws.{single-odd, single-high, has-single, has-other}
 use Rattle.lifting.proofs.Keeping.{Keeping}
 
 -- what half h of a line says of number n of the other half
@@ -53,12 +53,12 @@ pub record Lifting : Type 0 where
   pub odd-one : (keep : ℤ → ℤ) (S : Side) (c : Half → ℕ → ℤ) (n : ℕ) → S .length ≤ 1 → halves keep S c hi n ≡ shrZ (c hi n) 2
 
 -- an only number of the high half
-lone-is : (S : Side) (n : ℕ) → S .length ≤ 1 → n < count hi S → (loneHigh S ≡ true) × (place S hi n ≡ 0) × (n ≡ 0)
+single-is : (S : Side) (n : ℕ) → S .length ≤ 1 → n < count hi S → (singleHigh S ≡ true) × (place S hi n ≡ 0) × (n ≡ 0)
 unfolding place count
-lone-is S n g b =
+single-is S n g b =
     let e : S .start % 2 ≡ 1 = omega arith in
     let k : S .length ≡ 1 = omega arith in
-    (lone-odd S e ∙ eq-eqb (S .length) 1 k, omega arith, omega arith)
+    (single-odd S e ∙ eq-eqb (S .length) 1 k, omega arith, omega arith)
 
 half-double : (z : ℤ) → shrZ (pos 2 *ℤ z) 2 ≡ z
 half-double = each _ λ p q. simp lin (omega arith)
@@ -247,8 +247,8 @@ module _ (L : Lifting) where
         by-place S (λ i. i < S .length → Good (joined S (halves keep S c) i))
         (λ h n b. rw (joined-place S (halves keep S c) h n) (halves-good c good h n (in-place S h n b)))
 
-    -- there and back: a lone sample at an odd coordinate comes back if its double is good
-    module _ (x : ℕ → ℤ) (good : (i : ℕ) → i < S .length → Good (x i)) (double : loneHigh S ≡ true → Good (pos 2 *ℤ x 0)) where
+    -- there and back: a single sample at an odd coordinate comes back if its double is good
+    module _ (x : ℕ → ℤ) (good : (i : ℕ) → i < S .length → Good (x i)) (double : singleHigh S ≡ true → Good (pos 2 *ℤ x 0)) where
       abbrev values : Half → ℕ → ℤ
       values = forward keep S x
 
@@ -274,7 +274,7 @@ module _ (L : Lifting) where
                 ∙ ap (λ (v : ℤ). keep (v +ℤ u)) (high keep S x n g b)
                 ∙ put-back (x (place S hi n)) u (good (place S hi n) (place-in S hi n b))
             | no d ↦
-                let one = lone-is S n (omega arith) b in
+                let one = single-is S n (omega arith) b in
                 odd-one keep S values n (omega arith)
                 ∙ ap (λ (v : ℤ). shrZ v 2)
                 (high-one keep S x n (omega arith) ∙ same _ (rw (one .1) (double (one .0))))
@@ -317,8 +317,8 @@ module _ (L : Lifting) where
           elim (decLt 1 (S .length)) [
             | yes g ↦ high-forward g n b
             | no d ↦
-                let one = lone-is S n (omega arith) b in
-                let e : isEven (c hi n) ≡ true = ap (λ (m : ℕ). isEven (c hi m)) (one .2) ∙ sym (has-lone S c (one .0)) ∙ has in
+                let one = single-is S n (omega arith) b in
+                let e : isEven (c hi n) ≡ true = ap (λ (m : ℕ). isEven (c hi m)) (one .2) ∙ sym (has-single S c (one .0)) ∙ has in
                 high-one keep S line n (omega arith)
                 ∙ ap (λ (v : ℤ). keep (pos 2 *ℤ v)) (at-place hi n ∙ odd-one keep S c n (omega arith))
                 ∙ ap keep (double-half (c hi n) (eqb-true _ _ e))
@@ -359,9 +359,9 @@ even-kept = each _ λ p q. simp (lin, dif-natAbs) (omega arith)
 pub forward-has : (L : Lifting) (S : Side) (x : ℕ → ℤ) → hasLine S (L .forward wrap32 S x) ≡ true
 unfolding isEven
 forward-has L S x =
-    elim (loneHigh S) as (λ t. loneHigh S ≡ t → hasLine S (L .forward wrap32 S x) ≡ true) [
+    elim (singleHigh S) as (λ t. singleHigh S ≡ t → hasLine S (L .forward wrap32 S x) ≡ true) [
       | true ↦ λ e.
-          let one = lone-high S e in
-          has-lone S _ e ∙ ap isEven (L .high-one wrap32 S x 0 (omega arith)) ∙ eq-eqb _ 0 (even-kept (x (place S hi 0)))
+          let one = single-high S e in
+          has-single S _ e ∙ ap isEven (L .high-one wrap32 S x 0 (omega arith)) ∙ eq-eqb _ 0 (even-kept (x (place S hi 0)))
       | false ↦ λ e. has-other S _ e
     ] refl

@@ -1,5 +1,5 @@
 -- There and back in memory, for every lifting of two steps (TwoSteps): in place in halves, and from area to area, for every line of 32-bit numbers of any
--- length and start. A lone sample at an odd coordinate comes back if its double fits 32 bits; back and there, where the values are a line's. What lies past
+-- length and start. A single sample at an odd coordinate comes back if its double fits 32 bits; back and there, where the values are a line's. What lies past
 -- the line is as it was. Assumes nothing.
 use mathlib.Core.Path.{_≡_, refl, sym, ap, _∙_, fun-ext}
 use mathlib.Core.Bool.{true}
@@ -11,12 +11,12 @@ use mir.Syntax.{w32}
 use mir.Val.{SFits}
 use Rattle.numbers.specs.Word.{wrap32}
 use Rattle.lifting.specs.Line.{Half, lo, hi}
-use Rattle.lifting.specs.Grid.{Side, place, count, joined, loneHigh}
+use Rattle.lifting.specs.Grid.{Side, place, count, joined, singleHigh}
 use Rattle.lifting.specs.Halves.{fronted}
 use Rattle.lifting.specs.GridHalves.{halvesOf, inHalves, hasLineIn}
 use Rattle.lifting.proofs.GridLaws.{counts, place-in, in-place, by-place, joined-place, joined-reads, halves-low, halves-high, halves-past, halves-are}
 use Rattle.lifting.proofs.GridLaws.{front-in, front-past}
-use Rattle.lifting.proofs.LoneLaws.{lone-high, has-reads}
+use Rattle.lifting.proofs.SingleLaws.{single-high, has-reads}
 use Rattle.lifting.proofs.Keeping.{words}
 use Rattle.lifting.proofs.TwoSteps.{Lifting, forward-reads, halves-back-reads, back-reads, forward-has, back-forward, forward-back}
 
@@ -48,10 +48,10 @@ halves-all : (S : Side) (p : Half → ℕ → ℤ) (z y : ℕ → ℤ) → ((h :
     → ((j : ℕ) → S .length ≤ j → z j ≡ y j) → inHalves S p z ≡ y
 halves-all S p z y e r = halves-are S p z y (e lo) (e hi) r
 
--- the first of a lone high line
-first-joined : (S : Side) (y : ℕ → ℤ) → loneHigh S ≡ true → joined S (halvesOf S y) 0 ≡ y 0
+-- the first of a single high line
+first-joined : (S : Side) (y : ℕ → ℤ) → singleHigh S ≡ true → joined S (halvesOf S y) 0 ≡ y 0
 first-joined S y e =
-    let t = lone-high S e in
+    let t = single-high S e in
     let p = place-in S hi 0 (omega arith) in
     let k : 0 ≡ place S hi 0 = omega arith in
     let i : stand S hi 0 ≡ 0 = omega arith in
@@ -88,7 +88,7 @@ module _ (L : Lifting) where
         (λ h n b. rw (joined-place S (halvesOf S y) h n) (halves-fit h n (in-place S h n b)))
 
     -- in place
-    pub unlift-lift : (loneHigh S ≡ true → SFits w32 (pos 2 *ℤ y 0)) → unlifted S (lifted S y) ≡ y
+    pub unlift-lift : (singleHigh S ≡ true → SFits w32 (pos 2 *ℤ y 0)) → unlifted S (lifted S y) ≡ y
     unlift-lift double =
         let x = joined S (halvesOf S y) in
         let c = L .forward wrap32 S x in
@@ -115,7 +115,7 @@ module _ (L : Lifting) where
         (halves-past S p y)
 
     -- from area to area: z is where the first call wrote, w where the second did
-    pub back-there : (loneHigh S ≡ true → SFits w32 (pos 2 *ℤ y 0)) → (z w : ℕ → ℤ) → backed S (forwarded S y z) w ≡ fronted (S .length) y w
+    pub back-there : (singleHigh S ≡ true → SFits w32 (pos 2 *ℤ y 0)) → (z w : ℕ → ℤ) → backed S (forwarded S y z) w ≡ fronted (S .length) y w
     back-there double z w =
         let c = L .forward wrap32 S y in
         let x = joined S (L .halves wrap32 S (halvesOf S (inHalves S c z))) in

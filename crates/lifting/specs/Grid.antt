@@ -32,8 +32,8 @@ count lo S = (S .length + 1 - S .start % 2) / 2
 count hi S = (S .length + S .start % 2) / 2
 
 -- the places of each half of a line, and the line whose halves these are
-unfoldable pub parted : Side → (ℕ → ℤ) → Half → ℕ → ℤ
-parted S x h n = x (place S h n)
+unfoldable pub deinterleaved : Side → (ℕ → ℤ) → Half → ℕ → ℤ
+deinterleaved S x h n = x (place S h n)
 
 unfoldable pub joined : Side → (Half → ℕ → ℤ) → ℕ → ℤ
 joined S p i = p (half (S .start + i)) (i / 2)
@@ -74,11 +74,11 @@ unfoldable pub lineBack : (ℤ → ℤ) → Side → (Half → ℕ → ℤ) → 
 lineBack keep S c = joined S (lineHalvesBack keep S c)
 
 -- An odd value that would be halved is no line's (number 14).
-unfoldable pub loneHigh : Side → Bool
-loneHigh S = both (eqb (S .start % 2) 1) (eqb (S .length) 1)
+unfoldable pub singleHigh : Side → Bool
+singleHigh S = both (eqb (S .start % 2) 1) (eqb (S .length) 1)
 
 unfoldable pub isEven : ℤ → Bool
 isEven z = eqb (natAbs z % 2) 0
 
 unfoldable pub hasLine : Side → (Half → ℕ → ℤ) → Bool
-hasLine S c = pick (loneHigh S) (isEven (c hi 0)) true
+hasLine S c = pick (singleHigh S) (isEven (c hi 0)) true

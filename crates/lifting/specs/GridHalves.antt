@@ -6,7 +6,7 @@ use lib.Dec.{ltb}
 use Rattle.numbers.specs.Signal.{pick}
 use Rattle.numbers.specs.Word.{wrap32}
 use Rattle.lifting.specs.Line.{Half, lo, hi}
-use Rattle.lifting.specs.Grid.{Side, count, parted, joined, lineForward, lineHalvesBack, lineBack, hasLine}
+use Rattle.lifting.specs.Grid.{Side, count, deinterleaved, joined, lineForward, lineHalvesBack, lineBack, hasLine}
 use Rattle.lifting.specs.Halves.{fronted}
 
 -- what stands in memory y as the halves of a line
@@ -36,9 +36,9 @@ forwardInto S x z = inHalves S (lineForward wrap32 S x) z
 unfoldable pub backwardInto : Side → (ℕ → ℤ) → (ℕ → ℤ) → ℕ → ℤ
 backwardInto S y z = fronted (S .length) (lineBack wrap32 S (halvesOf S y)) z
 
--- A line x parted into its halves at the front of memory z:
-unfoldable pub partedInto : Side → (ℕ → ℤ) → (ℕ → ℤ) → ℕ → ℤ
-partedInto S x z = inHalves S (parted S x) z
+-- A line x deinterleaved into its halves at the front of memory z:
+unfoldable pub deinterleavedInto : Side → (ℕ → ℤ) → (ℕ → ℤ) → ℕ → ℤ
+deinterleavedInto S x z = inHalves S (deinterleaved S x) z
 
 -- the low half of z, and what y has past it
 unfoldable pub highsLaid : Side → (ℕ → ℤ) → (ℕ → ℤ) → ℕ → ℤ

@@ -84,7 +84,7 @@ fn unlift_row(row: &[i32], start: usize, out: &mut [i32])
 }
 
 // A row of one number or none: an only high value is halved on the way to `out`, and an odd one is 14.
-fn unlift_lone(row: &[i32], start: usize, out: &mut [i32]) -> u8
+fn unlift_single(row: &[i32], start: usize, out: &mut [i32]) -> u8
     requires { ⌜ (length (now row) < 2) × (length (now row) ≤ length (now out)) ⌝ }
     ensures { λ r. ⌜ r ≡ pick (hasLineIn (side start (length (now (row .entry))))
         (highsLaid (side start (length (now (row .entry)))) (at (now (row .entry))) (at (now (out .entry))))) 0 14 ⌝ }
@@ -94,7 +94,7 @@ fn unlift_lone(row: &[i32], start: usize, out: &mut [i32]) -> u8
         (highsLaid (side start (length (now (row .entry)))) (at (now (row .entry))) (at (now (out .entry))))) (at (now (out .entry)))) (at (now (out .entry)))
         ⌝ }
 {
-    if place::lone_high(row.len(), start) {
+    if place::single_high(row.len(), start) {
         if sample::is_even(row[0]) {
             out[0] = sample::halve(row[0]);
             return 0;
@@ -120,7 +120,7 @@ pub fn unlift_by(row: &[i32], start: usize, out: &mut [i32]) -> u8
         return 5;
     }
     if n < 2 {
-        return unlift_lone(row, start, out);
+        return unlift_single(row, start, out);
     }
     unlift_row(row, start, &mut out[0..n]);
     0

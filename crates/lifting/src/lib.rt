@@ -3,8 +3,8 @@
 // Every call is total: a sum is taken whole and stored modulo 2^32.
 pub mod halves;
 pub mod line;
-pub mod lone;
 pub mod pairs;
 mod place;
 pub mod rows;
 pub mod sample;
+pub mod single;

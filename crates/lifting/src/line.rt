@@ -86,23 +86,23 @@ fn unpredict_highs(line: &mut [i32], low: usize, o: usize)
 }
 
 // A line of one number or none: an only number at an odd coordinate is doubled.
-fn lift_lone(line: &mut [i32], start: usize)
+fn lift_single(line: &mut [i32], start: usize)
     requires { ⌜ length (now line) < 2 ⌝ }
     ensures { λ _. ⌜ at (now (line .exit)) ≡ liftedInPlace (side start (length (now (line .entry)))) (at (now (line .entry))) ⌝ }
 {
-    if place::lone_high(line.len(), start) {
+    if place::single_high(line.len(), start) {
         line[0] = sample::double(line[0]);
     }
 }
 
 // The way back: it is halved, and an odd one is 14.
-fn unlift_lone(line: &mut [i32], start: usize) -> u8
+fn unlift_single(line: &mut [i32], start: usize) -> u8
     requires { ⌜ length (now line) < 2 ⌝ }
     ensures { λ r. ⌜ r ≡ pick (hasLineIn (side start (length (now (line .entry)))) (at (now (line .entry)))) 0 14 ⌝ }
     ensures { λ _. ⌜ at (now (line .exit)) ≡ pick (hasLineIn (side start (length (now (line .entry)))) (at (now (line .entry))))
         (unliftedInPlace (side start (length (now (line .entry)))) (at (now (line .entry)))) (at (now (line .entry))) ⌝ }
 {
-    if place::lone_high(line.len(), start) {
+    if place::single_high(line.len(), start) {
         if sample::is_even(line[0]) {
             line[0] = sample::halve(line[0]);
             return 0;
@@ -118,7 +118,7 @@ pub fn lift(line: &mut [i32], start: usize)
 {
     let n = line.len();
     if n < 2 {
-        lift_lone(line, start);
+        lift_single(line, start);
         return;
     }
     let b = start % 2;
@@ -135,7 +135,7 @@ pub fn unlift(line: &mut [i32], start: usize) -> u8
 {
     let n = line.len();
     if n < 2 {
-        return unlift_lone(line, start);
+        return unlift_single(line, start);
     }
     let b = start % 2;
     let low = place::lows(n, start);
@@ -160,7 +160,7 @@ fn copy_evens(line: &[i32], out: &mut [i32])
     }
 }
 
-// A line's low values, then its high values, at the front of `out`: its places parted, and lifted there.
+// A line's low values, then its high values, at the front of `out`: its places deinterleaved, and lifted there.
 // 5, and nothing changed, where `out` is shorter than the line.
 pub fn forward(line: &[i32], start: usize, out: &mut [i32]) -> u8
     ensures { λ r. ⌜ r ≡ pick (leb (length (now (line .entry))) (length (now (out .entry)))) 0 5 ⌝ }
@@ -257,13 +257,13 @@ fn put_line(coefficients: &[i32], out: &mut [i32], low: usize, start: usize)
 }
 
 // A line of one number or none: an only high value is halved, and an odd one is 14.
-fn put_lone(coefficients: &[i32], start: usize, out: &mut [i32]) -> u8
+fn put_single(coefficients: &[i32], start: usize, out: &mut [i32]) -> u8
     requires { ⌜ (length (now coefficients) < 2) × (length (now coefficients) ≤ length (now out)) ⌝ }
     ensures { λ r. ⌜ r ≡ pick (hasLineIn (side start (length (now (coefficients .entry)))) (at (now (coefficients .entry)))) 0 14 ⌝ }
     ensures { λ _. ⌜ at (now (out .exit)) ≡ pick (hasLineIn (side start (length (now (coefficients .entry)))) (at (now (coefficients .entry))))
         (backwardInto (side start (length (now (coefficients .entry)))) (at (now (coefficients .entry))) (at (now (out .entry)))) (at (now (out .entry))) ⌝ }
 {
-    if place::lone_high(coefficients.len(), start) {
+    if place::single_high(coefficients.len(), start) {
         if sample::is_even(coefficients[0]) {
             out[0] = sample::halve(coefficients[0]);
             return 0;
@@ -288,7 +288,7 @@ pub fn backward(coefficients: &[i32], start: usize, out: &mut [i32]) -> u8
         return 5;
     }
     if n < 2 {
-        return put_lone(coefficients, start, out);
+        return put_single(coefficients, start, out);
     }
     put_line(coefficients, out, place::lows(n, start), start);
     0

@@ -9,7 +9,7 @@ ghost use Rattle.numbers.specs.Word.{wrap32};
 ghost use Rattle.lifting.specs.Line.{lo, predicted, unpredicted, updated, unupdated};
 ghost use Rattle.lifting.specs.Pairs.{first, changedAt, liftedAt, unliftedAt};
 ghost use Rattle.lifting.specs.Ranges.{within};
-ghost use Rattle.lifting.specs.Grid.{side, count, loneHigh};
+ghost use Rattle.lifting.specs.Grid.{side, count, singleHigh};
 ghost use Rattle.lifting.specs.Passes.{near};
 
 pub fn predict_at(area: &mut [i32], p: usize, a: usize, b: usize)
@@ -100,8 +100,8 @@ pub fn lows(n: usize, start: usize) -> usize
 }
 
 // Whether n samples are an only one, at an odd coordinate.
-pub fn lone_high(n: usize, start: usize) -> bool
-    ensures { λ r. ⌜ r ≡ loneHigh (side start n) ⌝ }
+pub fn single_high(n: usize, start: usize) -> bool
+    ensures { λ r. ⌜ r ≡ singleHigh (side start n) ⌝ }
 {
     if start % 2 == 1 {
         return n == 1;

@@ -20,7 +20,7 @@ use Rattle.pgm.specs.NextAnswer as next
 use Rattle.pgm.specs.Limits.{sizeFits}
 use Rattle.pgm.specs.Heights.{heightsTaken, tooLarge, refusalIn}
 use Rattle.pgm.proofs.HeaderReads.{reads}
-use Rattle.pgm.proofs.InputReads.{at, first-byte, Lasts, second-byte, lone-byte}
+use Rattle.pgm.proofs.InputReads.{at, first-byte, Lasts, second-byte, single-byte}
 use Rattle.pgm.proofs.HeightLaws.{Leads, leads-two, leads-one, more-lt, more-eq, no-sample, some-byte, bytes-none}
 use Rattle.listing.specs.Listing.{Head, headEnd, headOf}
 use Rattle.pgm.specs.InputSteps.{startAt, levelsRead, lineFeedRead, shapeRead, nextRead, headerRead, heightRead}
@@ -109,7 +109,7 @@ singles L h m w [] zero v = all-there m
 singles L h m w [] (suc n) v = too-few L h n m false v ∙ none-short m n
 singles L h m w (b ∷ r) zero v = refused 15 L h zero m false v r ∙ surplus m b r
 singles L h m w (b ∷ r) (suc n) v =
-    lasts L h n m false v b b (b ∷ r) r (leb b m) refl (lone-byte maxLevels L h n m false v b w) (leads-one m b r w) (singles L h m w r n 0)
+    lasts L h n m false v b b (b ∷ r) r (leb b m) refl (single-byte maxLevels L h n m false v b w) (leads-one m b r w) (singles L h m w r n 0)
 
 heights : (r : List ℕ) (L : ℕ) (h : Header) (n m v : ℕ) → sum (readAll (at 3 L h n m false v) r) ≡ heightsReading m n r
 heights r L h n m v = go (wide m) refl

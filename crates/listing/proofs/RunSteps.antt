@@ -16,7 +16,7 @@ use Rattle.listing.specs.Events.{height, Progress, andOn, stepThen, read
 use Rattle.pgm.specs.declared.input.Input.{Input}
 use Rattle.pgm.proofs.HeightLaws.{Leads, leads-two, leads-one, no-sample}
 use Rattle.listing.proofs.StepHow.{two-bytes, one-byte}
-use Rattle.pgm.proofs.InputReads.{at, first-byte, second-byte, lone-byte}
+use Rattle.pgm.proofs.InputReads.{at, first-byte, second-byte, single-byte}
 
 -- ---- bytes and heights
 small-pairs : (s : List ℕ) → All (λ b. b ≤ 255) s → All (λ h. h ≤ maxSample) (pairsOf s)
@@ -105,7 +105,7 @@ module _ (L : ℕ) (h : Header) (m : ℕ) where
       → readAll (at 3 L h (suc n) m false u) (take (sampleSize m * suc j) (b ∷ s)) ≡ andOn (height b)
       (readAll (at 3 L h n m false 0) (take (sampleSize m * j) s))
   unfolding readAll sampleSize
-  step-one n u j b s w e = rw (w, once j) (ap (stepThen (λ i. readAll i (take (1 * j) s))) (lone-byte maxLevels L h n m false u b w .0 e))
+  step-one n u j b s w e = rw (w, once j) (ap (stepThen (λ i. readAll i (take (1 * j) s))) (single-byte maxLevels L h n m false u b w .0 e))
 
   no-more : (n u : ℕ) (s : List ℕ) → u ≡ 0 → Runs 0 n u s
   unfolding readAll

@@ -13,11 +13,11 @@ use Rattle.numbers.specs.Signal.{at, pick, windowed, spliced}
 use Rattle.numbers.specs.Word.{wrap32}
 use Rattle.numbers.proofs.Parts.{window-in, window-past, splice-below, splice-in, splice-past}
 use Rattle.lifting.specs.Line.{lo, unupdated, unpredicted}
-use Rattle.lifting.specs.Grid.{Side, count, loneHigh, isEven}
+use Rattle.lifting.specs.Grid.{Side, count, singleHigh, isEven}
 use Rattle.lifting.specs.GridHalves.{unliftedInPlace, hasLineIn, highsLaid}
 use Rattle.lifting.specs.Rows.{rowChanged, rowsChanged, rowsFit}
 use Rattle.lifting.proofs.GridLaws.{counts, front-in, front-past}
-use Rattle.lifting.proofs.LoneLaws.{lone-more, lone-high, has-first, has-none}
+use Rattle.lifting.proofs.SingleLaws.{single-more, single-high, has-first, has-none}
 use Rattle.lifting.proofs.RowLaws.{rows-fit, changed, row-at, row-other, row-past, row-order}
 use Rattle.wavelet.specs.Bands.{Grid}
 use Rattle.wavelet.specs.Plane.{cells, flat}
@@ -115,9 +115,9 @@ row-fetched s A from W H r l made p x y z ws rh em few el ey ez =
 pub row-has : (A : ℕ) (W : Side) (h l : ℕ) (p : ℕ → ℤ) → l < h → rowsEven W h (cells A p) ≡ true → hasLineIn W (windowed (l * A) (W .length) p) ≡ true
 unfolding rowsEven cells
 row-has A W h l p b e =
-    elim (loneHigh W) as (λ t. loneHigh W ≡ t → hasLineIn W (windowed (l * A) (W .length) p) ≡ true) [
+    elim (singleHigh W) as (λ t. singleHigh W ≡ t → hasLineIn W (windowed (l * A) (W .length) p) ≡ true) [
       | true ↦ λ o.
-          let t = lone-high W o in
+          let t = single-high W o in
           let all : every h (λ r. isEven (p (r * A + 0))) ≡ true = simp o at e in
           has-first W _ o ∙ ap isEven (window-in (l * A) (W .length) p 0 (omega arith)) ∙ every-each h _ all l b
       | false ↦ λ o. has-none W _ o
@@ -369,12 +369,12 @@ module _ (s from : ℕ) (W H : Side) (Z : Grid) (x₀ : ℕ → ℤ) where
         let k : 0 * s + c ≡ c = omega arith in
         (rw k at (z .swept .done 0 c cs (omega arith))) ∙ zone-rest 0 0 c (omega arith)
 
-    back-stays : loneHigh H ≡ false → x₂ ≡ x₁ → x₂ ≡ flat s result
+    back-stays : singleHigh H ≡ false → x₂ ≡ x₁ → x₂ ≡ flat s result
     unfolding columnsUnliftedInPlace
     back-stays l e =
         e ∙ zoned-end 0 1 x₁ (R .apart) (R .wide) (omega arith) (λ r c b. simp (le-ltb 1 h (omega arith), l) (zone-rest 0 r c (omega arith))) z
 
-    back-halves : loneHigh H ≡ true → x₂ ≡ halvedInPlace w x₁ → x₂ ≡ flat s result
+    back-halves : singleHigh H ≡ true → x₂ ≡ halvedInPlace w x₁ → x₂ ≡ flat s result
     unfolding columnsUnliftedInPlace halvedInPlace
     back-halves l e =
         let ws = R .wide in
@@ -405,25 +405,25 @@ module _ (s from : ℕ) (W H : Side) (Z : Grid) (x₀ : ℕ → ℤ) where
         ∙ flat-same s Y result (R .apart)
         (λ r c cs.
         elim (decLt r h) [
-          | yes b ↦ sym (lone-result r c) ∙ result-is r c ws cs
+          | yes b ↦ sym (single-result r c) ∙ result-is r c ws cs
           | no b ↦ past r c (omega (arith, R .some)) ∙ sym (result-past r c cs (omega arith))
         ])
       where
-        lone-result : (r c : ℕ) → columnsUnliftedInPlace w H rowsDone r c ≡ rowsMapped (halvedInPlace w) w h rowsDone r c
-        lone-result r c = simp (le-ltb 1 h (omega arith), l)
+        single-result : (r c : ℕ) → columnsUnliftedInPlace w H rowsDone r c ≡ rowsMapped (halvedInPlace w) w h rowsDone r c
+        single-result r c = simp (le-ltb 1 h (omega arith), l)
 
-    pub back-one : x₂ ≡ pick (loneHigh H) (halvedInPlace w x₁) x₁ → x₂ ≡ flat s result
+    pub back-one : x₂ ≡ pick (singleHigh H) (halvedInPlace w x₁) x₁ → x₂ ≡ flat s result
     back-one e =
-        elim (loneHigh H) as (λ t. loneHigh H ≡ t → x₂ ≡ flat s result) [
+        elim (singleHigh H) as (λ t. singleHigh H ≡ t → x₂ ≡ flat s result) [
           | true ↦ λ l. back-halves l (rw l at e)
           | false ↦ λ l. back-stays l (rw l at e)
         ] refl
 
-    pub one-even : pick (loneHigh H) (every w (λ c. isEven (x₁ c))) true ≡ columnsEven w H rowsDone
+    pub one-even : pick (singleHigh H) (every w (λ c. isEven (x₁ c))) true ≡ columnsEven w H rowsDone
     unfolding columnsEven
     one-even =
         let ws = R .wide in
-        ap (λ (t : Bool). pick (loneHigh H) t true) (every-same w _ _ (λ c cw. ap isEven (row-is c (omega arith))))
+        ap (λ (t : Bool). pick (singleHigh H) t true) (every-same w _ _ (λ c cw. ap isEven (row-is c (omega arith))))
 
   -- ---- the calls of the loop, one after the other
   zoned-at : (i k k′ : ℕ) (x : ℕ → ℤ) → k ≡ k′ → Zoned i k x → Zoned i k′ x
@@ -488,8 +488,8 @@ module _ (s from : ℕ) (W H : Side) (Z : Grid) (x₀ : ℕ → ℤ) where
       rows-yes = sym e ∙ f
 
       -- one row
-      pub made-one : (d : Bool) (x₁ x₂ : ℕ → ℤ) → h < 2 → x₁ ≡ rowBack from W H s Z x₀ 0 → d ≡ pick (loneHigh H) (every w (λ c. isEven (x₁ c))) true →
-          x₂ ≡ pick (loneHigh H) (halvedInPlace w x₁) x₁ → LevelMade d from s W H Z x₀ x₂
+      pub made-one : (d : Bool) (x₁ x₂ : ℕ → ℤ) → h < 2 → x₁ ≡ rowBack from W H s Z x₀ 0 → d ≡ pick (singleHigh H) (every w (λ c. isEven (x₁ c))) true →
+          x₂ ≡ pick (singleHigh H) (halvedInPlace w x₁) x₁ → LevelMade d from s W H Z x₀ x₂
       made-one d x₁ x₂ one e₁ ed e₂ =
           let some = R .some in
           let z = zoned-at 0 (0 + 1) 1 x₁ (omega arith) (fetch-turn 0 0 x₀ x₁ (R .wide) (omega arith) (omega arith) e₁ zoned-start) in
@@ -502,5 +502,5 @@ module _ (s from : ℕ) (W H : Side) (Z : Grid) (x₀ : ℕ → ℤ) where
       unfolding columnsEven
       made-many x more all =
           let g = rows-yes in
-          let l = lone-more H more in
+          let l = single-more H more in
           record { answer = rw (g, l) refl; rows = λ _. all; kept = result-kept x all }

@@ -10,13 +10,13 @@ use borrow.Author.Tests.{lt-ltb, le-ltb, eq-eqb, ne-eqb}
 use Rattle.numbers.specs.Signal.{pick}
 use Rattle.numbers.specs.Word.{wrap32}
 use Rattle.lifting.specs.Line.{unupdated, unpredicted, Half, lo, hi}
-use Rattle.lifting.specs.Grid.{Side, half, place, count, parted, joined, loneHigh}
+use Rattle.lifting.specs.Grid.{Side, half, place, count, deinterleaved, joined, singleHigh}
 use Rattle.lifting.specs.GridHalves.{halvesOf, inHalves, unliftedInPlace}
-use Rattle.lifting.proofs.GridLaws.{counts, place-in, by-place, joined-place, joined-parted, halves-low, halves-high}
+use Rattle.lifting.proofs.GridLaws.{counts, place-in, by-place, joined-place, joined-deinterleaved, halves-low, halves-high}
 use Rattle.wavelet.specs.Bands.{Grid}
 use Rattle.wavelet.specs.Plane.{cells, flat, halfAt, placeIn}
 use Rattle.wavelet.proofs.GridLaws.{cells-flat}
-use Rattle.map_levels.specs.Rowwise.{cut, partedInPlace, halvedInPlace}
+use Rattle.map_levels.specs.Rowwise.{cut, deinterleavedInPlace, halvedInPlace}
 use Rattle.map_levels.specs.Passes.{Rows, KeptFrom, within, after, before, isLow, highRowsChanged, lowRowsChanged, rowsMapped, planeRow, levelRow}
 use Rattle.map_levels.specs.Passes.{rowsFetched, gridHalved, gridCopied, rowsReturned}
 use Rattle.map_levels.proofs.GridSweep.{row-room}
@@ -129,8 +129,8 @@ module _ (S : Side) (i : ℕ) where
       ]
 
   -- and what stands there
-  pub level-at : (y : ℕ → ℤ) → y (levelRow S i) ≡ parted S y (halfAt S i) (placeIn S i)
-  unfolding parted
+  pub level-at : (y : ℕ → ℤ) → y (levelRow S i) ≡ deinterleaved S y (halfAt S i) (placeIn S i)
+  unfolding deinterleaved
   level-at y = ap y level-is
 
   pub level-low : i < count lo S → levelRow S i ≡ place S lo i
@@ -232,7 +232,7 @@ module _ (w : ℕ) (H : Side) (X : Grid) (r c : ℕ) (e : within w (H .length) r
   fetched-out from z = simp e
 
 module _ (W H : Side) (G Z : Grid) (r c : ℕ) where
-  pub halved-in : r < H .length → c < W .length → gridHalved W H G Z r c ≡ partedInPlace W (G (levelRow H r)) c
+  pub halved-in : r < H .length → c < W .length → gridHalved W H G Z r c ≡ deinterleavedInPlace W (G (levelRow H r)) c
   unfolding gridHalved
   halved-in rh cw = simp (within-in (W .length) (H .length) r c rh cw)
 
@@ -255,7 +255,7 @@ corner-at W H X r c = joined-at H (λ i. levelGrid W X i c) r ∙ grid-at W X (p
 
 pub halved-grid : (A : ℕ) (W H : Side) (G Z : Grid) (z : ℕ → ℤ) → W .length ≤ A → z ≡ flat A (gridHalved W H G Z) → (r c : ℕ) → r < H .length → c < W .length →
     cornerGrid W H (cells A z) r c ≡ G r c
-unfolding partedInPlace
+unfolding deinterleavedInPlace
 halved-grid A W H G Z z wa e r c rh cw =
     let p = placed H r in
     let q = placed W c in
@@ -266,12 +266,12 @@ halved-grid A W H G Z z wa e r c rh cw =
     ∙ ap (λ (u : ℕ → ℤ). cells A u p q) e
     ∙ cells-flat A (gridHalved W H G Z) p q (omega arith)
     ∙ halved-in W H G Z p q pb qb
-    ∙ halves-at W (parted W (G (levelRow H p))) (G (levelRow H p)) c cw
-    ∙ joined-parted W (G (levelRow H p)) c
+    ∙ halves-at W (deinterleaved W (G (levelRow H p))) (G (levelRow H p)) c cw
+    ∙ joined-deinterleaved W (G (levelRow H p)) c
     ∙ level-at H p col
-    ∙ sym (halves-half H (parted H col) col p pb)
-    ∙ halves-at H (parted H col) col r rh
-    ∙ joined-parted H col r
+    ∙ sym (halves-half H (deinterleaved H col) col p pb)
+    ∙ halves-at H (deinterleaved H col) col r rh
+    ∙ joined-deinterleaved H col r
 
 module _ (W : Side) (h : ℕ) (X Z : Grid) (r c : ℕ) where
   pub returned-in : r < h → c < W .length → rowsReturned W h X Z r c ≡ levelGrid W X r c
@@ -294,7 +294,7 @@ columns-out w H X r c e =
           low-out w H X r c e (unupdated wrap32))
       | no g ↦
           simp (le-ltb 1 (H .length) (omega arith))
-          (elim (loneHigh H) as (λ t. pick t (rowsMapped (halvedInPlace w) w (H .length) X) X r c ≡ X r c) [
+          (elim (singleHigh H) as (λ t. pick t (rowsMapped (halvedInPlace w) w (H .length) X) X r c ≡ X r c) [
             | true ↦ mapped-out w (H .length) X r c e (halvedInPlace w)
             | false ↦ refl
           ])

@@ -14,19 +14,19 @@ use borrow.Author.Tests.{le-leb}
 use Rattle.numbers.specs.Signal.{at, pick, windowed, spliced}
 use Rattle.numbers.proofs.Parts.{window-in, splice-in, splice-past, length-mid}
 use Rattle.lifting.specs.Line.{Half, lo, hi}
-use Rattle.lifting.specs.Grid.{Side, side, count, place, parted}
+use Rattle.lifting.specs.Grid.{Side, side, count, place, deinterleaved}
 use Rattle.lifting.specs.Halves.{fronted}
-use Rattle.lifting.specs.GridHalves.{inHalves, partedInto}
+use Rattle.lifting.specs.GridHalves.{inHalves, deinterleavedInto}
 use Rattle.lifting.proofs.GridLaws.{counts, halves-low, halves-high}
 use Rattle.lifting.proofs.RowLaws.{row-order}
 use Rattle.areas.proofs.AreaLaws.{front-at, front-rest, did}
 use Rattle.areas.proofs.Splices.{splice-swap}
 use Rattle.wavelet.specs.Bands.{Grid}
 use Rattle.wavelet.specs.Plane.{cells, flat}
-use Rattle.map_levels.specs.Rowwise.{heightsAt, cut, partedInPlace}
+use Rattle.map_levels.specs.Rowwise.{heightsAt, cut, deinterleavedInPlace}
 use Rattle.map_levels.specs.Passes.{Rows, levelRow, gridHalved, gridCopied}
 use Rattle.map_levels.proofs.GridSweep.{RowSwept, Fronts, row-room, few as rows-few, fronts-turn, fronts-end, fronts-last, fronts-high}
-use Rattle.map_levels.proofs.RowwiseLaws.{cut-in, cut-parted}
+use Rattle.map_levels.proofs.RowwiseLaws.{cut-in, cut-deinterleaved}
 use Rattle.map_levels.proofs.HeightRows.{heights-length, heights-row}
 use Rattle.map_levels.proofs.CellLaws.{level-low, level-high, outside-rows, halved-in, halved-out, copied-in, copied-out, outside-columns}
 use Rattle.map_levels.proofs.LevelCalls.{moved-part, lent-part, mid-length, same-parts, row-lent, fill-turn}
@@ -42,15 +42,15 @@ halves-inside S p y z c h =
 -- ---- a part laid in halves in another, and a part changed in place, as a line is lifted; x is where they start on the grid
 pub halved-part : (x a b n k k′ : ℕ) (from to z : List ℤ) → k ≡ n → k′ ≡ n → a + n ≤ length from → b + n ≤ length to → length z ≡ length (midOf b k to) →
     at z ≡ pick (leb (length (midOf a k′ from)) (length (midOf b k to)))
-    (partedInto (side x (length (midOf a k′ from))) (at (midOf a k′ from)) (at (midOf b k to))) (at (midOf b k to)) →
-    at (putMid b k to z) ≡ spliced b n (partedInPlace (side x n) (windowed a n (at from))) (at to)
-unfolding partedInPlace partedInto
+    (deinterleavedInto (side x (length (midOf a k′ from))) (at (midOf a k′ from)) (at (midOf b k to))) (at (midOf b k to)) →
+    at (putMid b k to z) ≡ spliced b n (deinterleavedInPlace (side x n) (windowed a n (at from))) (at to)
+unfolding deinterleavedInPlace deinterleavedInto
 halved-part x a b n k k′ from to z e e′ fa fb size is =
     let y = windowed a n (at from) in
     let mid = mid-length a b n k k′ from to z e e′ fa fb size in
     let room = le-leb (length (midOf a k′ from)) (length (midOf b k to)) (omega (arith, same-parts a b n k k′ from to z e e′ fa fb size)) in
-    let is′ : at z ≡ inHalves (side x n) (parted (side x n) y) (at (midOf b k to)) = cc (did _ _ _ _ room is, mid, lent-part a n k′ from e′) in
-    moved-part b n k to z _ e fb size (λ i h. ap (λ (u : ℕ → ℤ). u i) is′ ∙ halves-inside (side x n) (parted (side x n) y) _ y i h)
+    let is′ : at z ≡ inHalves (side x n) (deinterleaved (side x n) y) (at (midOf b k to)) = cc (did _ _ _ _ room is, mid, lent-part a n k′ from e′) in
+    moved-part b n k to z _ e fb size (λ i h. ap (λ (u : ℕ → ℤ). u i) is′ ∙ halves-inside (side x n) (deinterleaved (side x n) y) _ y i h)
 
 pub changed-part : (F : Side → (ℕ → ℤ) → ℕ → ℤ) (x a n k : ℕ) (l z : List ℤ) → k ≡ n → a + n ≤ length l → length z ≡ length (midOf a k l) →
     at z ≡ F (side x (length (midOf a k l))) (at (midOf a k l)) → at (putMid a k l z) ≡ spliced a n (F (side x n) (windowed a n (at l))) (at l)
@@ -80,9 +80,9 @@ mapped-part f n k l z e room size is =
 pub height-part : (x w m i k k′ : ℕ) (g : List ℕ) (l z : List ℤ) → 0 < w → k ≡ w → k′ ≡ w → m * w + w ≤ length g → i * w + w ≤ length l →
     length z ≡ length (midOf (i * w) k l) →
     at z ≡ pick (leb (length (midOf (m * w) k′ g)) (length (midOf (i * w) k l)))
-    (partedInto (side x (length (midOf (m * w) k′ g))) (heightsAt (midOf (m * w) k′ g)) (at (midOf (i * w) k l))) (at (midOf (i * w) k l)) →
-    at (putMid (i * w) k l z) ≡ spliced (i * w) w (partedInPlace (side x w) (cells w (heightsAt g) m)) (at l)
-unfolding partedInPlace partedInto
+    (deinterleavedInto (side x (length (midOf (m * w) k′ g))) (heightsAt (midOf (m * w) k′ g)) (at (midOf (i * w) k l))) (at (midOf (i * w) k l)) →
+    at (putMid (i * w) k l z) ≡ spliced (i * w) w (deinterleavedInPlace (side x w) (cells w (heightsAt g) m)) (at l)
+unfolding deinterleavedInPlace deinterleavedInto
 height-part x w m i k k′ g l z some e e′ fg fl size is =
     let S = side x w in
     let G = cells w (heightsAt g) m in
@@ -91,9 +91,9 @@ height-part x w m i k k′ g l z some e e′ fg fl size is =
     let long = heights-length w w (m + 1) m k′ e′ (omega arith) g R in
     let mid = length-mid (i * w) k l (omega arith) in
     let room = le-leb (length (midOf (m * w) k′ g)) (length (midOf (i * w) k l)) (omega arith) in
-    let is′ : at z ≡ inHalves S (parted S G) (at (midOf (i * w) k l)) =
-    cc (did _ _ _ _ room is, long, heights-row w w (m + 1) m k′ e′ (omega arith) g, cut-parted S G (at (midOf (i * w) k l))) in
-    moved-part (i * w) w k l z _ e fl size (λ c h. ap (λ (u : ℕ → ℤ). u c) is′ ∙ halves-inside S (parted S G) _ G c h)
+    let is′ : at z ≡ inHalves S (deinterleaved S G) (at (midOf (i * w) k l)) =
+    cc (did _ _ _ _ room is, long, heights-row w w (m + 1) m k′ e′ (omega arith) g, cut-deinterleaved S G (at (midOf (i * w) k l))) in
+    moved-part (i * w) w k l z _ e fl size (λ c h. ap (λ (u : ℕ → ℤ). u c) is′ ∙ halves-inside S (deinterleaved S G) _ G c h)
 
 -- where the last row of an odd number goes: b is the parity of the first, `low` the number of low rows
 pub last-row : (H : Side) (low b : ℕ) → low ≡ count lo H → b ≡ H .start % 2 → b * low + H .length / 2 + H .length % 2 ≤ H .length
@@ -196,22 +196,22 @@ module _ (W H : Side) (G : Grid) (x₀ : ℕ → ℤ) where
   laid-wide : (r c : ℕ) → w ≤ c → laid r c ≡ cells w x₀ r c
   laid-wide r c b = halved-out W H G (cells w x₀) r c (outside-columns w (H .length) r c b)
 
-  low-laid : (k : ℕ) → k < count lo H → (c : ℕ) → c < w → partedInPlace W (G (place H lo k)) c ≡ laid k c
+  low-laid : (k : ℕ) → k < count lo H → (c : ℕ) → c < w → deinterleavedInPlace W (G (place H lo k)) c ≡ laid k c
   low-laid k kl c cw =
       let both = counts H in
-      sym (halved-in W H G (cells w x₀) k c (omega arith) cw ∙ ap (λ (r : ℕ). partedInPlace W (G r) c) (level-low H k kl))
+      sym (halved-in W H G (cells w x₀) k c (omega arith) cw ∙ ap (λ (r : ℕ). deinterleavedInPlace W (G r) c) (level-low H k kl))
 
-  high-laid : (k : ℕ) → k < count hi H → (c : ℕ) → c < w → partedInPlace W (G (place H hi k)) c ≡ laid (count lo H + k) c
+  high-laid : (k : ℕ) → k < count hi H → (c : ℕ) → c < w → deinterleavedInPlace W (G (place H hi k)) c ≡ laid (count lo H + k) c
   high-laid k kh c cw =
       let both = counts H in
       let t : count lo H + k - count lo H ≡ k = omega arith in
       sym (halved-in W H G (cells w x₀) (count lo H + k) c (omega arith) cw ∙
-      ap (λ (r : ℕ). partedInPlace W (G r) c) (level-high H (count lo H + k) (omega arith) ∙ ap (place H hi) t))
+      ap (λ (r : ℕ). deinterleavedInPlace W (G r) c) (level-high H (count lo H + k) (omega arith) ∙ ap (place H hi) t))
 
   -- what the loop reads of the rows: b is the parity of the first, `low` the number of low rows
   module _ (low b : ℕ) (el : low ≡ count lo H) (eb : b ≡ H .start % 2) where
-    laid-pair : (k : ℕ) (x x₁ x₂ : ℕ → ℤ) → k < H .length / 2 → x₁ ≡ spliced (k * w) w (partedInPlace W (G (2 * k + H .start % 2))) x →
-        x₂ ≡ spliced ((count lo H + k) * w) w (partedInPlace W (G (2 * k + (1 - H .start % 2)))) x₁ → Laid k x → Laid (k + 1) x₂
+    laid-pair : (k : ℕ) (x x₁ x₂ : ℕ → ℤ) → k < H .length / 2 → x₁ ≡ spliced (k * w) w (deinterleavedInPlace W (G (2 * k + H .start % 2))) x →
+        x₂ ≡ spliced ((count lo H + k) * w) w (deinterleavedInPlace W (G (2 * k + (1 - H .start % 2)))) x₁ → Laid k x → Laid (k + 1) x₂
     unfolding count place
     laid-pair k x x₁ x₂ kh f₁ f₂ sw =
         fronts-turn w (count lo H) _ _ w k (omega arith) (omega arith) _ x x₁ f₁ (low-laid k (omega arith)) (laid-wide k) sw _ x₂ f₂
@@ -222,8 +222,8 @@ module _ (W H : Side) (G : Grid) (x₀ : ℕ → ℤ) where
     low-some k h = omega arith
 
     -- the two rows are read one after the other, whichever of them is low
-    pub laid-turn : (k : ℕ) (x x₁ x₂ : ℕ → ℤ) → k < H .length / 2 → x₁ ≡ spliced ((b * low + k) * w) w (partedInPlace W (G (2 * k))) x →
-        x₂ ≡ spliced (((1 - b) * low + k) * w) w (partedInPlace W (G (2 * k + 1))) x₁ → Laid k x → Laid (k + 1) x₂
+    pub laid-turn : (k : ℕ) (x x₁ x₂ : ℕ → ℤ) → k < H .length / 2 → x₁ ≡ spliced ((b * low + k) * w) w (deinterleavedInPlace W (G (2 * k))) x →
+        x₂ ≡ spliced (((1 - b) * low + k) * w) w (deinterleavedInPlace W (G (2 * k + 1))) x₁ → Laid k x → Laid (k + 1) x₂
     laid-turn k x x₁ x₂ kh e₁ e₂ sw =
         elim (ℕ-discrete b 0) [
           | yes z ↦
@@ -238,8 +238,8 @@ module _ (W H : Side) (G : Grid) (x₀ : ℕ → ℤ) where
               let o : (1 - b) * low + k ≡ k = rw one (omega arith) in
               let p : 2 * k ≡ 2 * k + (1 - H .start % 2) = omega arith in
               let q : 2 * k + 1 ≡ 2 * k + H .start % 2 = omega arith in
-              let A = partedInPlace W (G (2 * k + H .start % 2)) in
-              let B = partedInPlace W (G (2 * k + (1 - H .start % 2))) in
+              let A = deinterleavedInPlace W (G (2 * k + H .start % 2)) in
+              let B = deinterleavedInPlace W (G (2 * k + (1 - H .start % 2))) in
               let f₁ : x₁ ≡ spliced ((count lo H + k) * w) w B x = rw (m, p) at e₁ in
               let f₂ : x₂ ≡ spliced (k * w) w A x₁ = rw (o, q) at e₂ in
               let some : 0 < count lo H = low-some k kh in
@@ -251,7 +251,8 @@ module _ (W H : Side) (G : Grid) (x₀ : ℕ → ℤ) where
     unfolding count
     laid-even k x some d sw = fronts-end w (count lo H) _ _ (H .length) k x some (omega arith) (omega arith) laid-past sw (omega arith)
 
-    pub laid-odd : (k : ℕ) (x x₁ : ℕ → ℤ) → 0 < w → 2 * k + 1 ≡ H .length → x₁ ≡ spliced ((b * low + k) * w) w (partedInPlace W (G (2 * k))) x → Laid k x →
+    pub laid-odd : (k : ℕ) (x x₁ : ℕ → ℤ) → 0 < w → 2 * k + 1 ≡ H .length → x₁ ≡ spliced ((b * low + k) * w) w (deinterleavedInPlace W (G (2 * k))) x
+        → Laid k x →
         x₁ ≡ flat w laid
     unfolding count place
     laid-odd k x x₁ some ek e₁ sw =
@@ -259,14 +260,14 @@ module _ (W H : Side) (G : Grid) (x₀ : ℕ → ℤ) where
           | yes z ↦
               let m : b * low + k ≡ k = rw z (omega arith) in
               let p : 2 * k ≡ 2 * k + H .start % 2 = omega arith in
-              let f₁ : x₁ ≡ spliced (k * w) w (partedInPlace W (G (2 * k + H .start % 2))) x = rw (m, p) at e₁ in
+              let f₁ : x₁ ≡ spliced (k * w) w (deinterleavedInPlace W (G (2 * k + H .start % 2))) x = rw (m, p) at e₁ in
               fronts-last w (count lo H) _ _ w k (omega arith) (omega arith) _ x x₁ f₁ (low-laid k (omega arith)) (laid-wide k) sw (H .length) some
               (omega arith) (omega arith) laid-past
           | no d ↦
               let one : b ≡ 1 = omega arith in
               let m : b * low + k ≡ count lo H + k = rw one (omega arith) in
               let p : 2 * k ≡ 2 * k + (1 - H .start % 2) = omega arith in
-              let f₁ : x₁ ≡ spliced ((count lo H + k) * w) w (partedInPlace W (G (2 * k + (1 - H .start % 2)))) x = rw (m, p) at e₁ in
+              let f₁ : x₁ ≡ spliced ((count lo H + k) * w) w (deinterleavedInPlace W (G (2 * k + (1 - H .start % 2)))) x = rw (m, p) at e₁ in
               fronts-high w (count lo H) _ _ w k (H .length) _ x x₁ some (omega arith) (omega arith) (omega arith) f₁ (high-laid k (omega arith))
               (laid-wide (count lo H + k)) laid-past sw
         ]
@@ -281,18 +282,18 @@ copied-turn A s w h i z x₀ x x′ ws ih is sw =
     sw
 
 pub halved-turn : (s A : ℕ) (W H : Side) (i l : ℕ) (x z₀ z z′ : ℕ → ℤ) → W .length ≤ A → i < H .length → l ≡ levelRow H i →
-    z′ ≡ spliced (i * A) (W .length) (partedInPlace W (windowed (l * s) (W .length) x)) z →
+    z′ ≡ spliced (i * A) (W .length) (deinterleavedInPlace W (windowed (l * s) (W .length) x)) z →
     RowSwept A (gridHalved W H (cells s x) (cells A z₀)) (cells A z₀) i z → RowSwept A (gridHalved W H (cells s x) (cells A z₀)) (cells A z₀) (i + 1) z′
-unfolding partedInPlace
+unfolding deinterleavedInPlace
 halved-turn s A W H i l x z₀ z z′ wa ih e is sw =
     let v = W .length in
     let y = windowed (l * s) v x in
     let g = cells s x (levelRow H i) in
-    fill-turn A v (H .length) i _ _ (inHalves W (parted W y) y) z z′ wa is
+    fill-turn A v (H .length) i _ _ (inHalves W (deinterleaved W y) y) z z′ wa is
     (λ c cw.
-    ap (λ (u : ℕ → ℤ). inHalves W (parted W u) y c) (row-lent s v l x ∙ ap (λ (m : ℕ). cut v (cells s x m)) e)
-    ∙ ap (λ (u : ℕ → ℤ). u c) (cut-parted W g y)
-    ∙ halves-inside W (parted W g) y g c cw
+    ap (λ (u : ℕ → ℤ). inHalves W (deinterleaved W u) y c) (row-lent s v l x ∙ ap (λ (m : ℕ). cut v (cells s x m)) e)
+    ∙ ap (λ (u : ℕ → ℤ). u c) (cut-deinterleaved W g y)
+    ∙ halves-inside W (deinterleaved W g) y g c cw
     ∙ sym (halved-in W H (cells s x) (cells A z₀) i c ih cw))
     (λ c b. halved-out W H (cells s x) (cells A z₀) i c (outside-columns v (H .length) i c b))
     sw

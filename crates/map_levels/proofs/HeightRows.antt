@@ -24,7 +24,7 @@ use Rattle.wavelet.specs.Maps.{every, everyCell, valueFits}
 use Rattle.map_levels.specs.Rowwise.{heightsAt, cut, between}
 use Rattle.map_levels.specs.Passes.{Rows, KeptFrom, rowsMapped, rowsReturned}
 use Rattle.map_levels.specs.LevelPasses.{Finished}
-use Rattle.map_levels.proofs.RowwiseLaws.{window-cut, cut-in, cut-woven}
+use Rattle.map_levels.proofs.RowwiseLaws.{window-cut, cut-in, cut-interleaved}
 use Rattle.wavelet.proofs.MapTheorems.{every-each, each-every, every-same}
 use Rattle.areas.specs.Areas.{wholes}
 use Rattle.areas.proofs.AreaLaws.{front-at}
@@ -96,7 +96,7 @@ unfolding rowsReturned
 store-turn W h X g₀ i k n y g z e lt en ey ez is p =
     let w = W .length in
     let u = heightsAt (midOf (i * w) k g) in
-    let is′ : at (wholes z) ≡ fronted w (joined W (halvesOf W (X i))) u = wholes-at z ∙ (rw (en, ey) at is) ∙ cut-woven W (X i) u in
+    let is′ : at (wholes z) ≡ fronted w (joined W (halvesOf W (X i))) u = wholes-at z ∙ (rw (en, ey) at is) ∙ cut-interleaved W (X i) u in
     let ez′ : length (wholes z) ≡ length (midOf (i * w) k (wholes g)) =
     length-map z pos ∙ ez ∙ sym (length-map (midOf (i * w) k g) pos) ∙ ap length (wholes-mid (i * w) k g) in
     rw (wholes-put (i * w) k g z)

@@ -15,9 +15,9 @@ use Rattle.numbers.specs.Word.{wrap32}
 use Rattle.numbers.proofs.Parts.{window-in, window-past, splice-below, splice-in, splice-past, length-mid, at-mid, at-put}
 use Rattle.lifting.specs.Line.{unupdated, unpredicted}
 use Rattle.lifting.specs.Halves.{fronted}
-use Rattle.lifting.specs.Grid.{Side, side, loneHigh}
+use Rattle.lifting.specs.Grid.{Side, side, singleHigh}
 use Rattle.lifting.specs.GridHalves.{unliftedInPlace, hasLineIn, highsLaid}
-use Rattle.lifting.proofs.LoneLaws.{laid-lone, has-none}
+use Rattle.lifting.proofs.SingleLaws.{laid-single, has-none}
 use Rattle.lifting.proofs.RowLaws.{row-order}
 use Rattle.wavelet.specs.Bands.{Grid}
 use Rattle.wavelet.specs.Plane.{cells}
@@ -65,7 +65,7 @@ unlifted-same w H X Y r c e =
       | no g ↦
           let halved : Grid → Grid = rowsMapped (halvedInPlace w) w (H .length) in
           simp (le-ltb 1 (H .length) (omega arith))
-          (elim (loneHigh H) as (λ t. pick t (halved X) X r c ≡ pick t (halved Y) Y r c) [
+          (elim (singleHigh H) as (λ t. pick t (halved X) X r c ≡ pick t (halved Y) Y r c) [
             | true ↦ halved-same w (H .length) X Y r c (e r)
             | false ↦ e r
           ])
@@ -74,8 +74,8 @@ unlifted-same w H X Y r c e =
 -- the row in halves is a line's where its high half is
 laid-has : (S : Side) (y z : ℕ → ℤ) → hasLineIn S y ≡ true → hasLineIn S (highsLaid S y z) ≡ true
 laid-has S y z has =
-    elim (loneHigh S) as (λ t. loneHigh S ≡ t → hasLineIn S (highsLaid S y z) ≡ true) [
-      | true ↦ λ l. ap (hasLineIn S) (laid-lone S l y z) ∙ has
+    elim (singleHigh S) as (λ t. singleHigh S ≡ t → hasLineIn S (highsLaid S y z) ≡ true) [
+      | true ↦ λ l. ap (hasLineIn S) (laid-single S l y z) ∙ has
       | false ↦ λ l. has-none S (highsLaid S y z) l
     ] refl
 

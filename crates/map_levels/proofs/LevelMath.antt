@@ -10,11 +10,11 @@ use borrow.Author.Tests.{lt-ltb, le-ltb}
 use Rattle.numbers.specs.Word.{wrap32}
 use Rattle.numbers.proofs.Integers.{dif, dif-natAbs}
 use Rattle.lifting.specs.Line.{Half, lo, hi, mirror, unupdated, unpredicted}
-use Rattle.lifting.specs.Grid.{Side, place, count, parted, joined, evenAt, oddAt, lineHalvesBack, lineBack, loneHigh}
+use Rattle.lifting.specs.Grid.{Side, place, count, deinterleaved, joined, evenAt, oddAt, lineHalvesBack, lineBack, singleHigh}
 use Rattle.lifting.specs.Grid.{before as placeBefore, after as placeAfter}
 use Rattle.lifting.specs.GridHalves.{halvesOf, unliftedInPlace}
-use Rattle.lifting.proofs.GridLaws.{place-in, in-place, by-place, joined-place, joined-parted, front-in}
-use Rattle.lifting.proofs.LoneLaws.{lone-high, lone-none}
+use Rattle.lifting.proofs.GridLaws.{place-in, in-place, by-place, joined-place, joined-deinterleaved, front-in}
+use Rattle.lifting.proofs.SingleLaws.{single-high, single-none}
 use Rattle.lifting.specs.Filter.{Filter, lineBackBy}
 use Rattle.lifting.specs.FiveThree.{fiveThreeFilter}
 use Rattle.lifting.proofs.FilterLaws.{FilterLaws}
@@ -49,15 +49,15 @@ module _ (h r : ℕ) (g : 1 < h) (rh : r < h) where
       elim (decLt (r + 1) h) [ yes b ↦ simp (lt-ltb (r + 1) h b) (omega arith) | no b ↦ simp (le-ltb (r + 1) h (omega arith)) (omega arith) ]
 
 -- an only row is high exactly where the level has a high row
-lone-is : (H : Side) → H .length ≤ 1 → 0 < count hi H → loneHigh H ≡ true
-lone-is H g b = elim (loneHigh H) as (λ t. loneHigh H ≡ t → loneHigh H ≡ true) [
+single-is : (H : Side) → H .length ≤ 1 → 0 < count hi H → singleHigh H ≡ true
+single-is H g b = elim (singleHigh H) as (λ t. singleHigh H ≡ t → singleHigh H ≡ true) [
   | true ↦ λ e. e
-  | false ↦ λ e. absurd (omega (arith, lone-none H (omega arith) e))
+  | false ↦ λ e. absurd (omega (arith, single-none H (omega arith) e))
 ] refl
 
-lone-not : (H : Side) → 0 < count lo H → loneHigh H ≡ false
-lone-not H b = elim (loneHigh H) as (λ t. loneHigh H ≡ t → loneHigh H ≡ false) [
-  | true ↦ λ e. let t = lone-high H e in absurd (omega arith)
+single-not : (H : Side) → 0 < count lo H → singleHigh H ≡ false
+single-not H b = elim (singleHigh H) as (λ t. singleHigh H ≡ t → singleHigh H ≡ false) [
+  | true ↦ λ e. let t = single-high H e in absurd (omega arith)
   | false ↦ λ e. e
 ] refl
 
@@ -97,8 +97,8 @@ module _ (w : ℕ) (H : Side) (X : Grid) (c : ℕ) (cw : c < w) where
       ∙ ap (λ (v : ℤ). shrZ v 2) (cut-in w (X q) c cw)
 
   columns-halves-back : (d : Half) (n : ℕ) → n < count d H →
-      columnsUnliftedInPlace w H X (place H d n) c ≡ lineHalvesBack wrap32 H (parted H (column X)) d n
-  unfolding columnsUnliftedInPlace lineHalvesBack parted
+      columnsUnliftedInPlace w H X (place H d n) c ≡ lineHalvesBack wrap32 H (deinterleaved H (column X)) d n
+  unfolding columnsUnliftedInPlace lineHalvesBack deinterleaved
   columns-halves-back lo n b =
       let q = place H lo n in
       let qb = place-in H lo n b in
@@ -107,8 +107,8 @@ module _ (w : ℕ) (H : Side) (X : Grid) (c : ℕ) (cw : c < w) where
             simp (lt-ltb 1 (H .length) g)
             (high-low (unpredicted wrap32) w H lows c cw q qb (low-coordinate H n)
             ∙ low-back g q qb (low-coordinate H n)
-            ∙ sym (ap (λ (y : ℕ → ℤ). evenAt wrap32 (H .length) y q) (fun-ext (joined-parted H (column X)))))
-        | no g ↦ simp (le-ltb 1 (H .length) (omega arith), lone-not H (omega arith))
+            ∙ sym (ap (λ (y : ℕ → ℤ). evenAt wrap32 (H .length) y q) (fun-ext (joined-deinterleaved H (column X)))))
+        | no g ↦ simp (le-ltb 1 (H .length) (omega arith), single-not H (omega arith))
       ]
   columns-halves-back hi n b =
       let q = place H hi n in
@@ -118,14 +118,14 @@ module _ (w : ℕ) (H : Side) (X : Grid) (c : ℕ) (cw : c < w) where
             simp (lt-ltb 1 (H .length) g)
             (high-in (unpredicted wrap32) w H lows c cw q qb (high-coordinate H n)
             ∙ high-back g q qb (high-coordinate H n)
-            ∙ sym (ap (λ (y : ℕ → ℤ). oddAt wrap32 (H .length) y q) (fun-ext (joined-parted H (column X)))))
-        | no g ↦ simp (le-ltb 1 (H .length) (omega arith), lone-is H (omega arith) (omega arith)) (halved q qb)
+            ∙ sym (ap (λ (y : ℕ → ℤ). oddAt wrap32 (H .length) y q) (fun-ext (joined-deinterleaved H (column X)))))
+        | no g ↦ simp (le-ltb 1 (H .length) (omega arith), single-is H (omega arith) (omega arith)) (halved q qb)
       ]
 
-  pub columns-back : (r : ℕ) → r < H .length → columnsUnliftedInPlace w H X r c ≡ lineBack wrap32 H (parted H (column X)) r
+  pub columns-back : (r : ℕ) → r < H .length → columnsUnliftedInPlace w H X r c ≡ lineBack wrap32 H (deinterleaved H (column X)) r
   unfolding lineBack
   columns-back =
-      let p = lineHalvesBack wrap32 H (parted H (column X)) in
+      let p = lineHalvesBack wrap32 H (deinterleaved H (column X)) in
       by-place H (λ r. r < H .length → columnsUnliftedInPlace w H X r c ≡ joined H p r)
       (λ d n b. columns-halves-back d n (in-place H d n b) ∙ sym (joined-place H p d n))
 
@@ -189,7 +189,7 @@ module _ (F : Filter) (laws : FilterLaws F) (W H : Side) (p : Band → Grid) (X 
       laws .back-reads wrap32 W _ _ (λ a n nb. halves-cut W (X r) a n nb ∙ b .bands d a i n ib nb) c cw
 
   pub level-back : (r c : ℕ) → r < H .length → c < W .length → levelGrid W (levelUnliftedBy F W H X) r c ≡ levelBack F wrap32 W H p r c
-  unfolding levelUnliftedBy columnsUnliftedBy levelBack parted
+  unfolding levelUnliftedBy columnsUnliftedBy levelBack deinterleaved
   level-back r c rh cw =
       let Z = rowsMapped (unliftedBy F W) (W .length) (H .length) X in
       grid-at W (columnsUnliftedBy F (W .length) H Z) r c

@@ -23,12 +23,12 @@ use Rattle.wavelet.specs.Plane.{cells, flat, planeBands, mapBack}
 use Rattle.wavelet.specs.Maps.{everyCell, valueFits, rebuiltFits}
 use Rattle.wavelet.proofs.GridLaws.{flat-at}
 use Rattle.wavelet.specs.Levels.{next}
-use Rattle.map_levels.specs.Rowwise.{wovenInPlace}
+use Rattle.map_levels.specs.Rowwise.{interleavedInPlace}
 use Rattle.map_levels.specs.Passes.{Rows, KeptFrom, rowsMapped}
 use Rattle.map_levels.specs.LevelPasses.{levelGrid, Rebuilt, goesOn, rowsBetween, regionInRange, Doubling, LevelMadeBy, LevelsBack}
 use Rattle.map_levels.proofs.CellLaws.{mapped-out, kept-flat, kept-then, next-end, next-rows, fewer-rows, fewer-columns}
 use Rattle.map_levels.proofs.GridSweep.{row-room}
-use Rattle.map_levels.proofs.LevelsMath.{bandsBack, bands-fetched, level-rebuilt, woven-in}
+use Rattle.map_levels.proofs.LevelsMath.{bandsBack, bands-fetched, level-rebuilt, interleaved-in}
 use Rattle.map_levels.proofs.TestLaws.{false-true, both-both, goes-no, rebuilt-test, fits-more, fits-none, rows-even, columns-even}
 use Rattle.map_levels.proofs.TestLaws.{region-more, region-last}
 
@@ -183,10 +183,10 @@ module _ (F : Filter) (laws : FilterLaws F) where
     -- its levels fit; q₁ is the part again, q₂ with its rows in their own order, `ok` the test of its own numbers on the way, y₂ the work area then
     module _ (it : done ≡ true) (ok : Bool) (q₁ q₂ y₂ : ℕ → ℤ) (eq : q₁ ≡ windowed a m y₁) (same : q₁ ≡ p₁)
         (t : ok ≡ rowsBetween 0 (H′ .length) 0 (W′ .length) (negℤ (pos (range F (k + 1)))) (pos (range F (k + 1))) (cells (2 * s) q₁))
-        (e₂ : q₂ ≡ flat (2 * s) (rowsMapped (wovenInPlace W′) (W′ .length) (H′ .length) (cells (2 * s) q₁)))
+        (e₂ : q₂ ≡ flat (2 * s) (rowsMapped (interleavedInPlace W′) (W′ .length) (H′ .length) (cells (2 * s) q₁)))
         (f₂ : y₂ ≡ spliced a m q₂ y₁) where
-      woven : q₂ ≡ flat (2 * s) (rowsMapped (wovenInPlace (next W)) (next W .length) (next H .length) (cells (2 * s) q₁))
-      woven = rw (ew, eh) at e₂
+      interleaved : q₂ ≡ flat (2 * s) (rowsMapped (interleavedInPlace (next W)) (next W .length) (next H .length) (cells (2 * s) q₁))
+      interleaved = rw (ew, eh) at e₂
 
       tested : ok ≡ lowFits
       tested =
@@ -202,19 +202,19 @@ module _ (F : Filter) (laws : FilterLaws F) where
       low-rows : Rows m (2 * s) (count lo W) (count lo H)
       low-rows = let e : m ≡ n - H .start % 2 * s = omega arith in rw e (next-rows s W H ch n R)
 
-      woven-kept : KeptFrom ((H .length - 1) * s + W .length) y₀ y₂
+      interleaved-kept : KeptFrom ((H .length - 1) * s + W .length) y₀ y₂
       unfolding next
-      woven-kept =
+      interleaved-kept =
           let end = next-end s W H ch in
           kept-then low-kept
           (part-kept a m ((count lo H - 1) * (2 * s) + count lo W) ((H .length - 1) * s + W .length) q₂ y₁ y₂ f₂
-          (rw (← eq) (kept-flat m (2 * s) (count lo W) (count lo H) q₁ q₂ _ low-rows woven
-          (λ r c o. mapped-out (count lo W) (count lo H) (cells (2 * s) q₁) r c o (wovenInPlace (next W)))))
+          (rw (← eq) (kept-flat m (2 * s) (count lo W) (count lo H) q₁ q₂ _ low-rows interleaved
+          (λ r c o. mapped-out (count lo W) (count lo H) (cells (2 * s) q₁) r c o (interleavedInPlace (next W)))))
           (omega arith))
           (omega arith)
 
       pub back-low : ok ≡ false → LevelsBack F false k L s A W H z y₀ y₂
-      back-low no′ = no-answer y₂ (sym tested ∙ no′) woven-kept
+      back-low no′ = no-answer y₂ (sym tested ∙ no′) interleaved-kept
 
       -- the low-low part, as it stands in the work area
       low-cell : (i c : ℕ) → i < count lo H → c < count lo W → cells s y₂ (place H lo i) c ≡ mapBack F wrap32 (L - 1) (next W) (next H) x i c
@@ -228,9 +228,9 @@ module _ (F : Filter) (laws : FilterLaws F) where
           ∙ ap (λ (u : ℕ → ℤ). u (a + (i * (2 * s) + c))) f₂
           ∙ splice-in a m q₂ y₁ (a + (i * (2 * s) + c)) (omega arith) (omega arith)
           ∙ ap q₂ d
-          ∙ ap (λ (u : ℕ → ℤ). u (i * (2 * s) + c)) woven
+          ∙ ap (λ (u : ℕ → ℤ). u (i * (2 * s) + c)) interleaved
           ∙ flat-at (2 * s) _ i c (omega arith)
-          ∙ woven-in (next W) (count lo H) (cells (2 * s) q₁) i c ib cb
+          ∙ interleaved-in (next W) (count lo H) (cells (2 * s) q₁) i c ib cb
           ∙ ap (λ (p : ℕ → ℤ). levelGrid (next W) (cells (2 * s) p) i c) same
           ∙ low-back .grid it .cell i c ib cb
 
@@ -247,7 +247,7 @@ module _ (F : Filter) (laws : FilterLaws F) where
           record {
             answer = rw fits (level-answer s A L (count lo W) W H d z y₂ y (R .wide) (omega arith) (omega arith) low-cell new c′);
             grid = level-grid s A L (count lo W) W H d z y₂ y (R .wide) (omega arith) (omega arith) low-cell new c′;
-            kept = kept-then woven-kept (c′ .kept) (omega arith);
+            kept = kept-then interleaved-kept (c′ .kept) (omega arith);
           }
 
 -- ---- ranges

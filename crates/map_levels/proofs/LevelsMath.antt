@@ -18,7 +18,7 @@ use Rattle.wavelet.specs.Plane.{cells, flat, halfAt, placeIn, inCorner, planeCe
 use Rattle.wavelet.proofs.GridLaws.{cells-flat}
 use Rattle.wavelet.specs.Levels.{next}
 use Rattle.wavelet.proofs.LevelTheory.{plane-reads}
-use Rattle.map_levels.specs.Rowwise.{cut, wovenInPlace}
+use Rattle.map_levels.specs.Rowwise.{cut, interleavedInPlace}
 use Rattle.map_levels.specs.Passes.{within, rowsMapped, rowsFetched, gridHalved, gridCopied}
 use Rattle.map_levels.specs.ByFilter.{liftedBy, columnsLiftedBy, levelLiftedBy, levelUnliftedBy}
 use Rattle.map_levels.specs.LevelPasses.{levelGrid, cornerGrid, planeWritten, goesOn, Rebuilt}
@@ -166,11 +166,11 @@ module _ (from w : ℕ) (H : Side) (z x : Grid) (c : ℕ) (cw : c < w) (i : ℕ)
   fetched-left b f = fetched-made from w H z x (place H lo i) c (place-in H lo i b) cw (rw (made-low H i from) f)
 
 -- rows in halves brought into their own order are the grid
-pub woven-in : (W : Side) (h : ℕ) (X : Grid) (r c : ℕ) → r < h → c < W .length → rowsMapped (wovenInPlace W) (W .length) h X r c ≡ levelGrid W X r c
-unfolding wovenInPlace
-woven-in W h X r c rh cw =
+pub interleaved-in : (W : Side) (h : ℕ) (X : Grid) (r c : ℕ) → r < h → c < W .length → rowsMapped (interleavedInPlace W) (W .length) h X r c ≡ levelGrid W X r c
+unfolding interleavedInPlace
+interleaved-in W h X r c rh cw =
     let row = cut (W .length) (X r) in
-    mapped-in (wovenInPlace W) (W .length) h X r c rh cw
+    mapped-in (interleavedInPlace W) (W .length) h X r c rh cw
     ∙ front-in (W .length) (joined W (halvesOf W row)) row c cw
     ∙ joined-at W row c
     ∙ cut-in (W .length) (X r) (placed W c) (placed-in W c cw)

@@ -15,10 +15,10 @@ use Rattle.numbers.proofs.Parts.{window-in}
 use Rattle.numbers.proofs.TestLaws.{every-same, every-each, each-every}
 use Rattle.numbers.specs.Word.{wrap32}
 use Rattle.lifting.specs.Line.{lo}
-use Rattle.lifting.specs.Grid.{Side, side, count, parted, loneHigh, isEven}
+use Rattle.lifting.specs.Grid.{Side, side, count, deinterleaved, singleHigh, isEven}
 use Rattle.lifting.specs.GridHalves.{hasLineIn}
 use Rattle.lifting.specs.Filter.{lineBackBy}
-use Rattle.lifting.proofs.LoneLaws.{lone-high}
+use Rattle.lifting.proofs.SingleLaws.{single-high}
 use Rattle.lifting.proofs.RowLaws.{row-fits}
 use Rattle.nine_seven.specs.NineSeven.{lineBack}
 use Rattle.nine_seven.specs.Memory.{unliftedInPlace}
@@ -100,10 +100,10 @@ module _ (n s A from : ℕ) (W H : Side) (z y₀ : ℕ → ℤ) (R : Rows n s (W
     pub fetched-even : rowsEven W h (cells s x₁) ≡ true
     unfolding rowsEven
     fetched-even =
-        elim (loneHigh W) as (λ t. loneHigh W ≡ t → pick (loneHigh W) (every h (λ r. isEven (cells s x₁ r 0))) true ≡ true) [
+        elim (singleHigh W) as (λ t. singleHigh W ≡ t → pick (singleHigh W) (every h (λ r. isEven (cells s x₁ r 0))) true ≡ true) [
           | false ↦ λ o. simp o
           | true ↦ λ o.
-              let t = lone-high W o in
+              let t = single-high W o in
               let all : every h (λ r. isEven (Z r 0)) ≡ true = simp o at even in
               let wide = R .wide in
               simp o
@@ -135,7 +135,7 @@ module _ (n s A from : ℕ) (W H : Side) (z y₀ : ℕ → ℤ) (R : Rows n s (W
       have : columnsHave w H x₂ ≡ columnsEven w H rowsDone
       unfolding columnsHave columnsEven cells
       have =
-          ap (λ (t : Bool). pick (loneHigh H) t true)
+          ap (λ (t : Bool). pick (singleHigh H) t true)
           (every-same w _ _ (λ c cw.
           let wide = R .wide in
           let k : c ≡ 0 * s + c = omega arith in
@@ -149,7 +149,7 @@ module _ (n s A from : ℕ) (W H : Side) (z y₀ : ℕ → ℤ) (R : Rows n s (W
           Y r c
       unfolding columnsUnliftedBy
       columns-same X Y r c e =
-          ap (λ (u : ℕ → ℤ). pick (within w h r c) (lineBackBy nineSevenFilter wrap32 H (parted H u) r) (u r)) (fun-ext e)
+          ap (λ (u : ℕ → ℤ). pick (within w h r c) (lineBackBy nineSevenFilter wrap32 H (deinterleaved H u) r) (u r)) (fun-ext e)
 
       columns-out : (X : Grid) (r c : ℕ) → within w h r c ≡ false → columnsUnliftedBy nineSevenFilter w H X r c ≡ X r c
       unfolding columnsUnliftedBy

@@ -9,10 +9,10 @@ use lib.IntN.{ℤ, pos, _*ℤ_}
 use Rattle.numbers.specs.Signal.{pick}
 use Rattle.numbers.specs.Word.{wrap32}
 use Rattle.lifting.specs.Line.{lo, hi}
-use Rattle.lifting.specs.Grid.{Side, side, count, joined, lineForward, loneHigh}
+use Rattle.lifting.specs.Grid.{Side, side, count, joined, lineForward, singleHigh}
 use Rattle.lifting.specs.GridHalves.{halvesOf, liftedInPlace}
 use Rattle.lifting.proofs.GridLaws.{joined-place, high-one, halves-high, front-in, front-past}
-use Rattle.lifting.proofs.LoneLaws.{lone-high, lifted-none}
+use Rattle.lifting.proofs.SingleLaws.{single-high, lifted-none}
 use Rattle.lifting.proofs.RowLaws.{row-order}
 use Rattle.wavelet.specs.Bands.{Grid}
 use Rattle.wavelet.specs.Plane.{cells, flat}
@@ -67,10 +67,10 @@ by-test true f g = f refl
 by-test false f g = g refl
 
 -- ---- a level of one row: at an odd coordinate its columns are doubled
-lone-column : (H : Side) (y : ℕ → ℤ) → loneHigh H ≡ true → liftedInPlace H y 0 ≡ wrap32 (pos 2 *ℤ y 0)
+single-column : (H : Side) (y : ℕ → ℤ) → singleHigh H ≡ true → liftedInPlace H y 0 ≡ wrap32 (pos 2 *ℤ y 0)
 unfolding liftedInPlace halvesOf
-lone-column H y e =
-    let t = lone-high H e in
+single-column H y e =
+    let t = single-high H e in
     let p = halvesOf H y in
     let k : count lo H + (0 - count lo H) ≡ 0 = omega arith in
     halves-high H (lineForward wrap32 H (joined H p)) y 0 (omega arith) (omega arith)
@@ -81,15 +81,15 @@ module _ (s w : ℕ) (H : Side) (x x₁ : ℕ → ℤ) (some : 0 < s) (ws : w �
   abbrev rows : Grid
   rows = cells s x
 
-  lone-doubled : loneHigh H ≡ true → x₁ ≡ doubledInPlace w x → (r c : ℕ) → c < s → x₁ (r * s + c) ≡ columnsLiftedInPlace w H rows r c
+  single-doubled : singleHigh H ≡ true → x₁ ≡ doubledInPlace w x → (r c : ℕ) → c < s → x₁ (r * s + c) ≡ columnsLiftedInPlace w H rows r c
   unfolding doubledInPlace cells
-  lone-doubled e is r c cs =
+  single-doubled e is r c cs =
       ap (λ (u : ℕ → ℤ). u (r * s + c)) is
       ∙ elim (ℕ-discrete r 0) [
         | yes z ↦
             rw z
             (elim (decLt c w) [
-              | yes cw ↦ front-in w _ x (0 * s + c) (omega arith) ∙ sym (column-in w H rows 0 c (omega arith) cw ∙ lone-column H (λ i. rows i c) e)
+              | yes cw ↦ front-in w _ x (0 * s + c) (omega arith) ∙ sym (column-in w H rows 0 c (omega arith) cw ∙ single-column H (λ i. rows i c) e)
               | no d ↦ front-past w _ x (0 * s + c) (omega arith) ∙ sym (column-out w H rows 0 c (within-wide w (H .length) 0 c (omega arith)))
             ])
         | no d ↦
@@ -97,16 +97,16 @@ module _ (s w : ℕ) (H : Side) (x x₁ : ℕ → ℤ) (some : 0 < s) (ws : w �
             front-past w _ x (r * s + c) (omega arith) ∙ sym (column-out w H rows r c (within-past w (H .length) r c (omega arith)))
       ]
 
-  lone-kept : loneHigh H ≡ false → x₁ ≡ x → (r c : ℕ) → c < s → x₁ (r * s + c) ≡ columnsLiftedInPlace w H rows r c
+  single-kept : singleHigh H ≡ false → x₁ ≡ x → (r c : ℕ) → c < s → x₁ (r * s + c) ≡ columnsLiftedInPlace w H rows r c
   unfolding cells
-  lone-kept e is r c cs =
+  single-kept e is r c cs =
       ap (λ (u : ℕ → ℤ). u (r * s + c)) is
       ∙ sym (by-within w (H .length) r c
       (λ rh cw. column-in w H rows r c rh cw ∙ ap (λ (u : ℕ → ℤ). u r) (lifted-none H (omega arith) e (λ i. rows i c)))
       (λ o. column-out w H rows r c o))
 
 pub raise-one : (n s : ℕ) (W H : Side) (x x₁ x′ : ℕ → ℤ) → Rows n s (W .length) (H .length) → H .length < 2 →
-    x₁ ≡ pick (loneHigh (side (H .start) 1)) (doubledInPlace (W .length) x) x → x′ ≡ rowLifted s W 0 x₁ → x′ ≡ flat s (levelLifted W H (cells s x))
+    x₁ ≡ pick (singleHigh (side (H .start) 1)) (doubledInPlace (W .length) x) x → x′ ≡ rowLifted s W 0 x₁ → x′ ≡ flat s (levelLifted W H (cells s x))
 raise-one n s W H x x₁ x′ R few e₁ is =
     let X = cells s x in
     let apart = R .apart in
@@ -115,9 +115,9 @@ raise-one n s W H x x₁ x′ R few e₁ is =
     let one : H .length ≡ 1 = omega arith in
     let is-side : side (H .start) 1 ≡ H = ap (side (H .start)) (sym one) in
     let same : (r c : ℕ) → c < s → x₁ (r * s + c) ≡ columnsLiftedInPlace (W .length) H X r c =
-    by-test (loneHigh H)
-    (λ e. lone-doubled s (W .length) H x x₁ apart wide one e (rw (is-side, e) at e₁))
-    (λ e. lone-kept s (W .length) H x x₁ apart wide one e (rw (is-side, e) at e₁)) in
+    by-test (singleHigh H)
+    (λ e. single-doubled s (W .length) H x x₁ apart wide one e (rw (is-side, e) at e₁))
+    (λ e. single-kept s (W .length) H x x₁ apart wide one e (rw (is-side, e) at e₁)) in
     finish apart
     (record {
       done = λ r c cs rh. let e : r ≡ 0 = omega arith in rw e (raised-row n s W H X R 0 x₁ x′ is some (same 0) c cs);

@@ -15,11 +15,11 @@ use borrow.Rule.Slice.PartMut.{midOf}
 use Rattle.numbers.proofs.Parts.{window-in, window-past, length-mid, at-mid}
 use Rattle.lifting.specs.Line.{Half, lo, hi}
 use Rattle.lifting.specs.Halves.{fronted}
-use Rattle.lifting.specs.Grid.{Side, side, place, count, parted, joined}
+use Rattle.lifting.specs.Grid.{Side, side, place, count, deinterleaved, joined}
 use Rattle.lifting.specs.GridHalves.{halvesOf, inHalves}
 use Rattle.lifting.proofs.GridLaws.{counts, place-in, joined-reads, halves-low, halves-high, halves-past, halves-are, front-in, front-past}
 use Rattle.wavelet.specs.Maps.{every}
-use Rattle.map_levels.specs.Rowwise.{cut, wovenInPlace, between}
+use Rattle.map_levels.specs.Rowwise.{cut, interleavedInPlace, between}
 
 -- ---- a part of n numbers as a signal
 pub cut-in : (n : ℕ) (x : ℕ → ℤ) (j : ℕ) → j < n → cut n x j ≡ x j
@@ -38,7 +38,7 @@ window-cut a n y x same =
       | no d ↦ window-past a n y j (omega arith) ∙ sym (cut-past n x j (omega arith))
     ]
 
--- ---- a row parted or woven through another area: its first n numbers x stand at the front of l, and the part of k = n of them is lent
+-- ---- a row deinterleaved or interleaved through another area: its first n numbers x stand at the front of l, and the part of k = n of them is lent
 pub lent-front : (n k : ℕ) (x z : ℕ → ℤ) (l : List ℤ) → k ≡ n → n ≤ length l → at l ≡ fronted n x z → at (midOf 0 k l) ≡ cut n x
 lent-front n k x z l e h is =
     at-mid 0 k l
@@ -51,20 +51,21 @@ unfolding halvesOf
 halves-cut S y lo n b = let both = counts S in cut-in (S .length) y n (omega arith)
 halves-cut S y hi n b = let both = counts S in cut-in (S .length) y (count lo S + n) (omega arith)
 
-pub cut-parted : (S : Side) (x z : ℕ → ℤ) → inHalves S (parted S (cut (S .length) x)) z ≡ inHalves S (parted S x) z
-unfolding parted
-cut-parted S x z =
+pub cut-deinterleaved : (S : Side) (x z : ℕ → ℤ) → inHalves S (deinterleaved S (cut (S .length) x)) z ≡ inHalves S (deinterleaved S x) z
+unfolding deinterleaved
+cut-deinterleaved S x z =
     let sum = counts S in
-    halves-are S (parted S (cut (S .length) x)) z _
-    (λ m h. cut-in (S .length) x (place S lo m) (place-in S lo m h) ∙ sym (halves-low S (parted S x) z m h))
+    halves-are S (deinterleaved S (cut (S .length) x)) z _
+    (λ m h. cut-in (S .length) x (place S lo m) (place-in S lo m h) ∙ sym (halves-low S (deinterleaved S x) z m h))
     (λ m h.
     let k : count lo S + m - count lo S ≡ m = omega arith in
-    cut-in (S .length) x (place S hi m) (place-in S hi m h) ∙ sym (halves-high S (parted S x) z (count lo S + m) (omega arith) (omega arith) ∙
-    ap (parted S x hi) k))
-    (λ j h. sym (halves-past S (parted S x) z j h))
+    cut-in (S .length) x (place S hi m) (place-in S hi m h) ∙ sym (halves-high S (deinterleaved S x) z (count lo S + m) (omega arith) (omega arith) ∙
+    ap (deinterleaved S x hi) k))
+    (λ j h. sym (halves-past S (deinterleaved S x) z j h))
 
-pub cut-woven : (S : Side) (x z : ℕ → ℤ) → fronted (S .length) (joined S (halvesOf S (cut (S .length) x))) z ≡ fronted (S .length) (joined S (halvesOf S x)) z
-cut-woven S x z =
+pub cut-interleaved : (S : Side) (x z : ℕ → ℤ)
+    → fronted (S .length) (joined S (halvesOf S (cut (S .length) x))) z ≡ fronted (S .length) (joined S (halvesOf S x)) z
+cut-interleaved S x z =
     fun-ext λ j.
     elim (decLt j (S .length)) [
       | yes b ↦ front-in (S .length) _ z j b ∙ joined-reads S _ _ (halves-cut S x) j b ∙ sym (front-in (S .length) _ z j b)
@@ -72,16 +73,16 @@ cut-woven S x z =
     ]
 
 module _ (S : Side) (k : ℕ) (y x z : ℕ → ℤ) (l : List ℤ) (e : k ≡ S .length) (h : S .length ≤ length l) (is : at l ≡ fronted (S .length) x z) where
-  pub weave-through : (m : ℕ) → m ≡ S .length → y ≡ pick (leb (length (midOf 0 k l)) m)
+  pub interleave-through : (m : ℕ) → m ≡ S .length → y ≡ pick (leb (length (midOf 0 k l)) m)
       (fronted (length (midOf 0 k l)) (joined (side (S .start) (length (midOf 0 k l))) (halvesOf (side (S .start) (length (midOf 0 k l))) (at (midOf 0 k l))))
-      x) x → y ≡ wovenInPlace S x
-  unfolding wovenInPlace
-  weave-through m em made =
+      x) x → y ≡ interleavedInPlace S x
+  unfolding interleavedInPlace
+  interleave-through m em made =
       let n = S .length in
       let mid = length-mid 0 k l (omega arith) in
       let is′ : y ≡ fronted n (joined S (halvesOf S (at (midOf 0 k l)))) x =
       rw (mid ∙ e) at (did _ _ _ _ (le-leb (length (midOf 0 k l)) m (omega arith)) made) in
-      is′ ∙ ap (λ (u : ℕ → ℤ). fronted n (joined S (halvesOf S u)) x) (lent-front n k x z l e h is) ∙ cut-woven S x x
+      is′ ∙ ap (λ (u : ℕ → ℤ). fronted n (joined S (halvesOf S u)) x) (lent-front n k x z l e h is) ∙ cut-interleaved S x x
 
 -- ---- a test of every number, gathered row by row: t is the test of row i
 and-both : (a b : Bool) → a && b ≡ both a b

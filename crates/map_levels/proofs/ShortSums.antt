@@ -41,9 +41,9 @@ quarter-fits = each _ λ p q. simp lin (omega arith)
 
 -- ---- a line lifted by them
 module _ (S : Side) (y y′ : ℕ → ℤ) where
-  pub lone-lifted : S .length < 2 → y′ ≡ liftedInPlace S y → y′ ≡ shortLifted S y
+  pub single-lifted : S .length < 2 → y′ ≡ liftedInPlace S y → y′ ≡ shortLifted S y
   unfolding shortLifted
-  lone-lifted b is = simp (le-ltb 1 (S .length) (omega arith)) is
+  single-lifted b is = simp (le-ltb 1 (S .length) (omega arith)) is
 
 pub short-lifted : (S : Side) (low m : ℕ) (y y₁ y₂ : ℕ → ℤ) → 1 < S .length → low ≡ count lo S → m ≡ S .length →
     y₁ ≡ highsChanged shortPredicted (1 - S .start % 2) low (S .length) y → y₂ ≡ lowsChanged shortUpdated (S .start % 2) low m y₁ → y₂ ≡ shortLifted S y

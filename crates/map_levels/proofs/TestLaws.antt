@@ -14,10 +14,10 @@ use Rattle.numbers.specs.Word.{wrap32}
 use Rattle.numbers.proofs.Integers.{each, lin}
 use Rattle.numbers.proofs.Sweep.{both}
 use Rattle.lifting.specs.Line.{lo, hi}
-use Rattle.lifting.specs.Grid.{Side, place, count, loneHigh, isEven, hasLine}
+use Rattle.lifting.specs.Grid.{Side, place, count, singleHigh, isEven, hasLine}
 use Rattle.map_levels.specs.ByFilter.{unliftedBy}
 use Rattle.lifting.proofs.GridLaws.{counts, place-in}
-use Rattle.lifting.proofs.LoneLaws.{lone-high, has-lone, has-other}
+use Rattle.lifting.proofs.SingleLaws.{single-high, has-single, has-other}
 use Rattle.lifting.specs.Filter.{Filter}
 use Rattle.lifting.proofs.FilterLaws.{FilterLaws}
 use Rattle.wavelet.specs.Limits.{maxSample, range}
@@ -168,29 +168,29 @@ module _ (F : Filter) (laws : FilterLaws F) where
   fits-more k zero W H x b = absurd (omega arith)
   fits-more k (suc L) W H x b = let a : suc L - 1 ≡ L = omega arith in let e : k + 1 ≡ suc k = omega arith in rw (a, e)
 
-  -- a lone high sample is alone
-  pub lone-wide : (S : Side) → (S .length ≡ 1 → ⊥) → loneHigh S ≡ false
-  lone-wide S n = elim (loneHigh S) as (λ t. loneHigh S ≡ t → loneHigh S ≡ false) [
-    | true ↦ λ e. let t = lone-high S e in absurd (n (t .0))
+  -- a single high sample is alone
+  pub single-wide : (S : Side) → (S .length ≡ 1 → ⊥) → singleHigh S ≡ false
+  single-wide S n = elim (singleHigh S) as (λ t. singleHigh S ≡ t → singleHigh S ≡ false) [
+    | true ↦ λ e. let t = single-high S e in absurd (n (t .0))
     | false ↦ λ e. e
   ] refl
 
-  none-lone : (S : Side) → S .length ≡ 0 → loneHigh S ≡ false
-  none-lone S z = lone-wide S (λ e. omega arith)
+  none-single : (S : Side) → S .length ≡ 0 → singleHigh S ≡ false
+  none-single S z = single-wide S (λ e. omega arith)
 
   -- an empty grid fits
   module _ (W H : Side) (p : Band → Grid) where
-    rows-hold-lone : loneHigh W ≡ false → rowsHave W H p ≡ true
+    rows-hold-single : singleHigh W ≡ false → rowsHave W H p ≡ true
     unfolding rowsHave
-    rows-hold-lone e = both-is _ _ (each-every (count lo H) _ (λ r b. has-other W _ e)) (each-every (count hi H) _ (λ r b. has-other W _ e))
+    rows-hold-single e = both-is _ _ (each-every (count lo H) _ (λ r b. has-other W _ e)) (each-every (count hi H) _ (λ r b. has-other W _ e))
 
-    columns-hold-lone : loneHigh H ≡ false → columnsHave F W H p ≡ true
+    columns-hold-single : singleHigh H ≡ false → columnsHave F W H p ≡ true
     unfolding columnsHave
-    columns-hold-lone e = each-every (W .length) _ (λ c b. has-other H _ e)
+    columns-hold-single e = each-every (W .length) _ (λ c b. has-other H _ e)
 
     no-columns-have : W .length ≡ 0 → levelHas F W H p ≡ true
     unfolding levelHas columnsHave
-    no-columns-have z = both-is _ _ (rows-hold-lone (none-lone W z)) (each-every (W .length) _ (λ c b. absurd (omega arith)))
+    no-columns-have z = both-is _ _ (rows-hold-single (none-single W z)) (each-every (W .length) _ (λ c b. absurd (omega arith)))
 
     no-rows-have : H .length ≡ 0 → levelHas F W H p ≡ true
     unfolding levelHas rowsHave
@@ -198,7 +198,7 @@ module _ (F : Filter) (laws : FilterLaws F) where
         let l = count-none H z lo in
         let m = count-none H z hi in
         both-is _ _ (both-is _ _ (each-every (count lo H) _ (λ r b. absurd (omega arith))) (each-every (count hi H) _ (λ r b. absurd (omega arith))))
-        (columns-hold-lone (none-lone H z))
+        (columns-hold-single (none-single H z))
 
   no-columns-fit : (k L : ℕ) (W H : Side) (x : Grid) → W .length ≡ 0 → rebuiltFits F k L W H x ≡ true
   unfolding rebuiltFits next
@@ -229,18 +229,18 @@ module _ (F : Filter) (laws : FilterLaws F) where
       ]
 
   -- ---- the values that are halved
-  -- the bands of a lone high column, as they stand in the plane
+  -- the bands of a single high column, as they stand in the plane
   pub rows-even : (W H : Side) (a x : Grid) → rowsHave W H (planeBands W H a x) ≡ rowsEven W (H .length) x
   unfolding rowsHave rowsEven planeBands bandOf
   rows-even W H a x =
-      elim (loneHigh W) as (λ t. loneHigh W ≡ t → rowsHave W H (planeBands W H a x) ≡ rowsEven W (H .length) x) [
-        | false ↦ λ l. rows-hold-lone W H (planeBands W H a x) l ∙ simp l
+      elim (singleHigh W) as (λ t. singleHigh W ≡ t → rowsHave W H (planeBands W H a x) ≡ rowsEven W (H .length) x) [
+        | false ↦ λ l. rows-hold-single W H (planeBands W H a x) l ∙ simp l
         | true ↦ λ l.
-            let t = lone-high W l in
+            let t = single-high W l in
             let s = counts H in
             let here : (r : ℕ) → x r (count lo W + 0) ≡ x r 0 = λ r. ap (x r) (omega arith) in
-            let low : (r : ℕ) → hasLine W (λ b. planeBands W H a x (bandOf b lo) r) ≡ isEven (x r 0) = λ r. has-lone W _ l ∙ ap isEven (here r) in
-            let high : (r : ℕ) → hasLine W (λ b. planeBands W H a x (bandOf b hi) r) ≡ isEven (x (count lo H + r) 0) = λ r. has-lone W _ l ∙
+            let low : (r : ℕ) → hasLine W (λ b. planeBands W H a x (bandOf b lo) r) ≡ isEven (x r 0) = λ r. has-single W _ l ∙ ap isEven (here r) in
+            let high : (r : ℕ) → hasLine W (λ b. planeBands W H a x (bandOf b hi) r) ≡ isEven (x (count lo H + r) 0) = λ r. has-single W _ l ∙
             ap isEven (here (count lo H + r)) in
             bool-same _ _
             (λ e.
@@ -260,28 +260,28 @@ module _ (F : Filter) (laws : FilterLaws F) where
             (each-every (count hi H) _ (λ r b. high r ∙ every-each (H .length) _ f (count lo H + r) (omega arith))))
       ] refl
 
-  -- a lone high row is the first
-  first-high : (H : Side) → loneHigh H ≡ true → place H hi 0 ≡ 0
+  -- a single high row is the first
+  first-high : (H : Side) → singleHigh H ≡ true → place H hi 0 ≡ 0
   unfolding place
   first-high H l =
-      let t = lone-high H l in
+      let t = single-high H l in
       let b = place-in H hi 0 (omega arith) in
       omega arith
 
-  -- a lone high row, lifted back, where the area has the bands p
+  -- a single high row, lifted back, where the area has the bands p
   pub columns-even : (W H : Side) (p : Band → Grid) (X : Grid) → BandsIn W H p X →
       columnsHave F W H p ≡ columnsEven (W .length) H (rowsMapped (unliftedBy F W) (W .length) (H .length) X)
   unfolding columnsHave columnsEven
   columns-even W H p X b =
       let Z = rowsMapped (unliftedBy F W) (W .length) (H .length) X in
-      elim (loneHigh H) as (λ t. loneHigh H ≡ t → columnsHave F W H p ≡ columnsEven (W .length) H Z) [
-        | false ↦ λ l. columns-hold-lone W H p l ∙ simp l
+      elim (singleHigh H) as (λ t. singleHigh H ≡ t → columnsHave F W H p ≡ columnsEven (W .length) H Z) [
+        | false ↦ λ l. columns-hold-single W H p l ∙ simp l
         | true ↦ λ l.
-            let t = lone-high H l in
+            let t = single-high H l in
             let k : place H hi 0 ≡ 0 = first-high H l in
             simp l
             (every-same (W .length) _ _ (λ c cw.
-            has-lone H _ l ∙ ap isEven (sym (row-back F laws W H p X b hi 0 c (omega arith) cw) ∙ ap (λ (r : ℕ). Z r (placed W c)) k))
+            has-single H _ l ∙ ap isEven (sym (row-back F laws W H p X b hi 0 c (omega arith) cw) ∙ ap (λ (r : ℕ). Z r (placed W c)) k))
             ∙ every-placed W (λ c. isEven (Z 0 c)))
       ] refl
 

@@ -3,7 +3,7 @@ use Prim.Native.Nat.{ℕ, _+_, _-_, _*_}
 use lib.IntN.{ℤ}
 use Rattle.numbers.specs.Signal.{pick, windowed, spliced}
 use Rattle.numbers.specs.Word.{wrap32}
-use Rattle.lifting.specs.Grid.{Side, parted, joined}
+use Rattle.lifting.specs.Grid.{Side, deinterleaved, joined}
 use Rattle.lifting.specs.GridHalves.{halvesOf, inHalves}
 use Rattle.lifting.specs.Filter.{Filter, lineBackBy}
 use Rattle.wavelet.specs.Bands.{Grid}
@@ -24,7 +24,7 @@ unfoldable pub unliftedBy : Filter → Side → (ℕ → ℤ) → ℕ → ℤ
 unliftedBy F S y = inHalves S (F .halvesBack wrap32 S (halvesOf S y)) y
 
 unfoldable pub columnsUnliftedBy : Filter → ℕ → Side → Grid → Grid
-columnsUnliftedBy F w H X r c = pick (within w (H .length) r c) (lineBackBy F wrap32 H (parted H (λ i. X i c)) r) (X r c)
+columnsUnliftedBy F w H X r c = pick (within w (H .length) r c) (lineBackBy F wrap32 H (deinterleaved H (λ i. X i c)) r) (X r c)
 
 unfoldable pub levelUnliftedBy : Filter → Side → Side → Grid → Grid
 levelUnliftedBy F W H X = columnsUnliftedBy F (W .length) H (rowsMapped (unliftedBy F W) (W .length) (H .length) X)

@@ -9,7 +9,7 @@ use Rattle.numbers.specs.Tests.{every}
 use Rattle.numbers.specs.Word.{wrap32}
 use Rattle.lifting.specs.Line.{lo, unupdated, unpredicted}
 use Rattle.lifting.specs.Halves.{fronted}
-use Rattle.lifting.specs.Grid.{Side, count, joined, loneHigh, isEven}
+use Rattle.lifting.specs.Grid.{Side, count, joined, singleHigh, isEven}
 use Rattle.lifting.specs.GridHalves.{halvesOf, liftedInPlace, unliftedInPlace}
 use Rattle.lifting.specs.Rows.{rowsChanged}
 use Rattle.lifting.specs.Filter.{Filter}
@@ -42,11 +42,11 @@ levelLifted W H X = rowsMapped (liftedInPlace W) (W .length) (H .length) (column
 abbrev pub rowLifted : ℕ → Side → ℕ → (ℕ → ℤ) → ℕ → ℤ
 rowLifted s W r x = spliced (r * s) (W .length) (liftedInPlace W (windowed (r * s) (W .length) x)) x
 
--- all columns back: the low rows first, then the high ones; a lone high row is halved
+-- all columns back: the low rows first, then the high ones; a single high row is halved
 unfoldable pub columnsUnliftedInPlace : ℕ → Side → Grid → Grid
 columnsUnliftedInPlace w H X =
     pick (ltb 1 (H .length)) (highRowsChanged (unpredicted wrap32) w H (lowRowsChanged (unupdated wrap32) w H X))
-    (pick (loneHigh H) (rowsMapped (halvedInPlace w) w (H .length) X) X)
+    (pick (singleHigh H) (rowsMapped (halvedInPlace w) w (H .length) X) X)
 
 -- all rows, then all columns
 unfoldable pub levelUnlifted : Side → Side → Grid → Grid
@@ -75,13 +75,13 @@ pub record Rebuilt (F : Filter) (L : ℕ) (W H : Side) (x X : Grid) : Type 0 whe
 unfoldable pub goesOn : ℕ → ℕ → ℕ → Bool
 goesOn L w h = both (ltb 1 L) (both (ltb 0 w) (ltb 0 h))
 
--- Q-3: "such a value that is odd when it is due to be halved belongs to no map": h rows of a lone high column, as they stand in the plane z; and a lone high
--- row X of w numbers, lifted back
+-- Q-3: "such a value that is odd when it is due to be halved belongs to no map": h rows of a single high column, as they stand in the plane z; and a single
+-- high row X of w numbers, lifted back
 unfoldable pub rowsEven : Side → ℕ → Grid → Bool
-rowsEven W h z = pick (loneHigh W) (every h (λ r. isEven (z r 0))) true
+rowsEven W h z = pick (singleHigh W) (every h (λ r. isEven (z r 0))) true
 
 unfoldable pub columnsEven : ℕ → Side → Grid → Bool
-columnsEven w H X = pick (loneHigh H) (every w (λ c. isEven (X 0 c))) true
+columnsEven w H X = pick (singleHigh H) (every w (λ c. isEven (X 0 c))) true
 
 -- every number from low to high: of rows first up to last, columns from up to to
 unfoldable pub rowsBetween : ℕ → ℕ → ℕ → ℕ → ℤ → ℤ → Grid → Bool

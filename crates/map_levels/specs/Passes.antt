@@ -11,7 +11,7 @@ use Rattle.lifting.specs.Grid.{Side, count, place, joined}
 use Rattle.lifting.specs.GridHalves.{halvesOf}
 use Rattle.lifting.specs.Rows.{rowsChanged}
 use Rattle.wavelet.specs.Bands.{Grid}
-use Rattle.map_levels.specs.Rowwise.{cut, partedInPlace}
+use Rattle.map_levels.specs.Rowwise.{cut, deinterleavedInPlace}
 
 -- h rows of w numbers, s apart, lie within n numbers
 pub record Rows (n s w h : ℕ) : Type 0 where
@@ -70,7 +70,7 @@ rowsFetched from w H z x r c =
 
 -- a grid g of the columns W and the rows H in the corner of the plane z, its rows in halves and each of them in halves; and as it is
 unfoldable pub gridHalved : Side → Side → Grid → Grid → Grid
-gridHalved W H g z r c = pick (within (W .length) (H .length) r c) (partedInPlace W (g (levelRow H r)) c) (z r c)
+gridHalved W H g z r c = pick (within (W .length) (H .length) r c) (deinterleavedInPlace W (g (levelRow H r)) c) (z r c)
 
 unfoldable pub gridCopied : ℕ → ℕ → Grid → Grid → Grid
 gridCopied w h g z r c = pick (within w h r c) (g r c) (z r c)

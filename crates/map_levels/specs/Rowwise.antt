@@ -6,7 +6,7 @@ use lib.Dec.{ltb}
 use Rattle.numbers.specs.Signal.{pick}
 use Rattle.numbers.specs.Word.{wrap32}
 use Rattle.lifting.specs.Halves.{fronted}
-use Rattle.lifting.specs.Grid.{Side, parted, joined}
+use Rattle.lifting.specs.Grid.{Side, deinterleaved, joined}
 use Rattle.lifting.specs.GridHalves.{halvesOf, inHalves}
 -- a slice of u16 heights as a signal of whole numbers, and a number from low to high
 pub use Rattle.areas.specs.Areas.{heightsAt}
@@ -17,11 +17,11 @@ unfoldable pub cut : ℕ → (ℕ → ℤ) → ℕ → ℤ
 cut n x j = pick (ltb j n) (x j) (pos 0)
 
 -- a line from its own order into halves, and from halves into its own order, in place
-unfoldable pub partedInPlace : Side → (ℕ → ℤ) → ℕ → ℤ
-partedInPlace S y = inHalves S (parted S y) y
+unfoldable pub deinterleavedInPlace : Side → (ℕ → ℤ) → ℕ → ℤ
+deinterleavedInPlace S y = inHalves S (deinterleaved S y) y
 
-unfoldable pub wovenInPlace : Side → (ℕ → ℤ) → ℕ → ℤ
-wovenInPlace S y = fronted (S .length) (joined S (halvesOf S y)) y
+unfoldable pub interleavedInPlace : Side → (ℕ → ℤ) → ℕ → ℤ
+interleavedInPlace S y = fronted (S .length) (joined S (halvesOf S y)) y
 
 -- the first n numbers doubled, as 32 bits keep them, and halved
 unfoldable pub doubledInPlace : ℕ → (ℕ → ℤ) → ℕ → ℤ

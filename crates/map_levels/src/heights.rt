@@ -11,7 +11,7 @@ ghost use Rattle.lifting.specs.GridHalves.{halvesOf};
 ghost use Rattle.lifting.specs.Halves.{fronted};
 ghost use Rattle.lifting.specs.FiveThree.{fiveThreeFilter};
 ghost use Rattle.wavelet.specs.Plane.{cells, flat};
-ghost use Rattle.map_levels.specs.Rowwise.{heightsAt, partedInPlace};
+ghost use Rattle.map_levels.specs.Rowwise.{heightsAt, deinterleavedInPlace};
 ghost use Rattle.map_levels.specs.Passes.{gridHalved, Rows};
 ghost use Rattle.map_levels.specs.LevelPasses.{Finished};
 ghost use mathlib.Core.Bool.{true};
@@ -21,7 +21,7 @@ ghost use Rattle.wavelet.specs.Maps.{every, valueFits};
 fn load_to(heights: &[u16], m: usize, plane: &mut [i32], r: usize, x: usize, width: usize)
     requires { ⌜ (0 < width) × (m * width + width ≤ length (now heights)) × (r * width + width ≤ length (now plane)) ⌝ }
     ensures { λ _. ⌜ at (now (plane .exit)) ≡
-        spliced (r * width) width (partedInPlace (side x width) (cells width (heightsAt (now (heights .entry))) m)) (at (now (plane .entry))) ⌝ }
+        spliced (r * width) width (deinterleavedInPlace (side x width) (cells width (heightsAt (now (heights .entry))) m)) (at (now (plane .entry))) ⌝ }
 {
     let a = m * width;
     let e = a + width;

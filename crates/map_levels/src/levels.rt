@@ -5,8 +5,8 @@
 use crate::passes;
 use crate::small;
 use lifting::halves;
-use lifting::lone;
 use lifting::rows;
+use lifting::single;
 use nine_seven_sweep::columns;
 use wavelet::sizes;
 ghost use mathlib.Core.Path.{_≡_};
@@ -17,14 +17,14 @@ ghost use lib.Dec.{ltb};
 ghost use lib.ListN.{length};
 ghost use Rattle.numbers.specs.Signal.{at, pick, windowed, spliced};
 ghost use Rattle.numbers.specs.Tests.{every};
-ghost use Rattle.lifting.specs.Grid.{side, loneHigh, isEven};
+ghost use Rattle.lifting.specs.Grid.{side, singleHigh, isEven};
 ghost use Rattle.lifting.specs.GridHalves.{unliftedInPlace, hasLineIn, highsLaid};
 ghost use Rattle.nine_seven.specs.Memory.{unliftedInPlace as nineSevenBack};
 ghost use Rattle.nine_seven.specs.NineSevenFilter.{nineSevenFilter};
 ghost use Rattle.wavelet.specs.Limits.{maxWidth, range};
 ghost use Rattle.wavelet.specs.Plane.{cells, flat};
 ghost use Rattle.wavelet.specs.Questions.{Sized};
-ghost use Rattle.map_levels.specs.Rowwise.{partedInPlace, wovenInPlace, halvedInPlace};
+ghost use Rattle.map_levels.specs.Rowwise.{deinterleavedInPlace, interleavedInPlace, halvedInPlace};
 ghost use Rattle.map_levels.specs.Passes.{Rows, KeptFrom, isLow, planeRow, levelRow, rowsMapped, rowsFetched, gridHalved, gridCopied};
 ghost use Rattle.filters.specs.Filters.{filterOf};
 ghost use Rattle.map_levels.specs.ByFilter.{rowCopied};
@@ -81,7 +81,7 @@ pub fn copy_part(from: &[i32], a: usize, to: &mut [i32], b: usize, n: usize)
 pub fn halve_part(from: &[i32], a: usize, to: &mut [i32], b: usize, x: usize, n: usize)
     requires { ⌜ (a + n ≤ length (now from)) × (b + n ≤ length (now to)) ⌝ }
     ensures { λ _. ⌜ at (now (to .exit)) ≡
-        spliced b n (partedInPlace (side x n) (windowed a n (at (now (from .entry))))) (at (now (to .entry))) ⌝ }
+        spliced b n (deinterleavedInPlace (side x n) (windowed a n (at (now (from .entry))))) (at (now (to .entry))) ⌝ }
 {
     let e = a + n;
     let f = b + n;
@@ -289,7 +289,7 @@ fn rows_in_range(
 }
 
 // The low-low part of a level, its rows `stride` apart, from halves into its own order; and whether its numbers lie in the range of `level`, its own.
-fn weave_low(
+fn interleave_low(
     work: &mut [i32],
     stride: usize,
     x: usize,
@@ -302,9 +302,9 @@ fn weave_low(
     ensures { λ r. ⌜ r ≡ rowsBetween 0 height 0 width (negℤ (pos (range (filterOf filter) level))) (pos (range (filterOf filter) level))
         (cells stride (at (now (work .entry)))) ⌝ }
     ensures { λ _. ⌜ at (now (work .exit)) ≡
-        flat stride (rowsMapped (wovenInPlace (side x width)) width height (cells stride (at (now (work .entry))))) ⌝ }
+        flat stride (rowsMapped (interleavedInPlace (side x width)) width height (cells stride (at (now (work .entry))))) ⌝ }
 {
-    passes::weave_rows(
+    passes::interleave_rows(
         work,
         stride,
         x,
@@ -315,27 +315,27 @@ fn weave_low(
     )
 }
 
-// Whether each row of a level is a line's: in a lone column at an odd coordinate each value is halved, so it has to be even. The low-low part is empty
+// Whether each row of a level is a line's: in a single column at an odd coordinate each value is halved, so it has to be even. The low-low part is empty
 // then, and all of them stand in the plane.
 fn rows_even(plane: &[i32], across: usize, x: usize, width: usize, height: usize) -> bool
     ensures { λ r. ⌜ r ≡ rowsEven (side x width) height (cells across (at (now (plane .entry)))) ⌝ }
 {
-    if !lone::is_lone(width, x) {
+    if !single::is_single(width, x) {
         return true;
     }
-    lone::column_even(plane, across, height)
+    single::column_even(plane, across, height)
 }
 
 // The columns of a level of one row lifted back: at an odd coordinate they are halved, and the answer is whether each was even.
-fn unlift_lone(work: &mut [i32], width: usize, y: usize) -> bool
+fn unlift_single(work: &mut [i32], width: usize, y: usize) -> bool
     requires { ⌜ width ≤ length (now work) ⌝ }
-    ensures { λ r. ⌜ r ≡ pick (loneHigh (side y 1)) (every width (λ c. isEven (at (now (work .entry)) c))) true ⌝ }
-    ensures { λ _. ⌜ at (now (work .exit)) ≡ pick (loneHigh (side y 1)) (halvedInPlace width (at (now (work .entry)))) (at (now (work .entry))) ⌝ }
+    ensures { λ r. ⌜ r ≡ pick (singleHigh (side y 1)) (every width (λ c. isEven (at (now (work .entry)) c))) true ⌝ }
+    ensures { λ _. ⌜ at (now (work .exit)) ≡ pick (singleHigh (side y 1)) (halvedInPlace width (at (now (work .entry)))) (at (now (work .entry))) ⌝ }
 {
     if y % 2 == 0 {
         return true;
     }
-    lone::halve_all(&mut work[0..width])
+    single::halve_all(&mut work[0..width])
 }
 
 // The first rows of a level of more than one: a low one is lifted back along the columns by the high one after it.
@@ -448,7 +448,7 @@ fn level_back(
     }
     if height < 2 {
         fetch_row(plane, work, across, stride, from, x, width, y, height, 0);
-        return unlift_lone(work, width, y);
+        return unlift_single(work, width, y);
     }
     rows_back(plane, work, across, stride, from, x, width, y, height);
     true
@@ -602,7 +602,7 @@ pub fn back_levels(
     ) {
         return false;
     }
-    if !weave_low(&mut work[a..n], 2 * stride, u, w, h, level + 1, filter) {
+    if !interleave_low(&mut work[a..n], 2 * stride, u, w, h, level + 1, filter) {
         return false;
     }
     back_by(plane, work, across, stride, w, x, width, y, height, filter)

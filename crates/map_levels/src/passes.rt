@@ -3,8 +3,8 @@
 use crate::pairs;
 use crate::rowwise;
 use lifting::line;
-use lifting::lone;
 use lifting::rows;
+use lifting::single;
 use nine_seven_sweep::columns;
 ghost use mathlib.Core.Path.{_≡_};
 ghost use Prim.Native.Nat.{_+_, _-_, _*_, _<_, _≤_};
@@ -12,12 +12,12 @@ ghost use lib.ListN.{length};
 ghost use Rattle.numbers.specs.Signal.{at, pick};
 ghost use Rattle.numbers.specs.Word.{wrap32};
 ghost use Rattle.lifting.specs.Line.{unupdated, unpredicted};
-ghost use Rattle.lifting.specs.Grid.{side, loneHigh};
+ghost use Rattle.lifting.specs.Grid.{side, singleHigh};
 ghost use Rattle.nine_seven.specs.Memory.{liftedInPlace as nineSevenInPlace};
 ghost use Rattle.nine_seven.specs.NineSevenFilter.{nineSevenFilter};
 ghost use Rattle.wavelet.specs.Limits.{maxWidth};
 ghost use Rattle.wavelet.specs.Plane.{cells, flat};
-ghost use Rattle.map_levels.specs.Rowwise.{wovenInPlace, doubledInPlace};
+ghost use Rattle.map_levels.specs.Rowwise.{interleavedInPlace, doubledInPlace};
 ghost use Rattle.map_levels.specs.Passes.{after, before, pairChanged, rowsMapped, Rows};
 ghost use Rattle.map_levels.specs.ByFilter.{levelLiftedBy};
 ghost use Rattle.map_levels.specs.LevelPasses.{rowLifted, levelLifted, rowsBetween};
@@ -47,12 +47,12 @@ pub fn lift_row(area: &mut [i32], stride: usize, x: usize, width: usize, r: usiz
 }
 
 // The columns of a level of one row: they are doubled at an odd coordinate, and stay at an even one.
-fn lift_lone(area: &mut [i32], width: usize, y: usize)
+fn lift_single(area: &mut [i32], width: usize, y: usize)
     requires { ⌜ width ≤ length (now area) ⌝ }
-    ensures { λ _. ⌜ at (now (area .exit)) ≡ pick (loneHigh (side y 1)) (doubledInPlace width (at (now (area .entry)))) (at (now (area .entry))) ⌝ }
+    ensures { λ _. ⌜ at (now (area .exit)) ≡ pick (singleHigh (side y 1)) (doubledInPlace width (at (now (area .entry)))) (at (now (area .entry))) ⌝ }
 {
     if y % 2 == 1 {
-        lone::double_all(&mut area[0..width]);
+        single::double_all(&mut area[0..width]);
     }
 }
 
@@ -61,7 +61,7 @@ pub fn lift_one(area: &mut [i32], stride: usize, x: usize, width: usize, y: usiz
     requires { ⌜ Rows (length (now area)) stride width height × (height < 2) ⌝ }
     ensures { λ _. ⌜ at (now (area .exit)) ≡ flat stride (levelLifted (side x width) (side y height) (cells stride (at (now (area .entry))))) ⌝ }
 {
-    lift_lone(area, width, y);
+    lift_single(area, width, y);
     lift_row(area, stride, x, width, 0);
 }
 
@@ -123,7 +123,7 @@ pub fn unlift_pair(area: &mut [i32], stride: usize, width: usize, height: usize,
 }
 
 // Each row from halves into its own order, through one line for all of them; and whether each number of them lies from `low` to `high`.
-pub fn weave_rows(
+pub fn interleave_rows(
     area: &mut [i32],
     stride: usize,
     x: usize,
@@ -135,7 +135,7 @@ pub fn weave_rows(
     requires { ⌜ Rows (length (now area)) stride width height × (width + width ≤ maxWidth + 1) ⌝ }
     ensures { λ r. ⌜ r ≡ rowsBetween 0 height 0 width low high (cells stride (at (now (area .entry)))) ⌝ }
     ensures { λ _. ⌜ at (now (area .exit)) ≡
-        flat stride (rowsMapped (wovenInPlace (side x width)) width height (cells stride (at (now (area .entry))))) ⌝ }
+        flat stride (rowsMapped (interleavedInPlace (side x width)) width height (cells stride (at (now (area .entry))))) ⌝ }
 {
     let mut line = [0; rowwise::LONGEST];
     let mut ok = true;
@@ -143,7 +143,7 @@ pub fn weave_rows(
     while r < height {
         let a = r * stride;
         let e = a + width;
-        ok = ok & rowwise::weave(&mut area[a..e], x, &mut line, low, high);
+        ok = ok & rowwise::interleave(&mut area[a..e], x, &mut line, low, high);
         r += 1;
     }
     ok

@@ -7,9 +7,9 @@ ghost use Rattle.numbers.specs.Signal.{at};
 ghost use Rattle.lifting.specs.Halves.{fronted};
 ghost use Rattle.lifting.specs.Grid.{side};
 ghost use Rattle.wavelet.specs.Maps.{every};
-ghost use Rattle.map_levels.specs.Rowwise.{wovenInPlace, between};
+ghost use Rattle.map_levels.specs.Rowwise.{interleavedInPlace, between};
 
-// The longest row that is woven in place: half the largest width, rounded up.
+// The longest row that is interleaved in place: half the largest width, rounded up.
 pub const LONGEST: usize = limits::MAX_WIDTH - limits::MAX_WIDTH / 2;
 
 // Numbers copied to the front of `to`, and whether each lies from `low` to `high`: the test of a row that is copied anyway.
@@ -30,13 +30,13 @@ fn copy_tested(from: &[i32], to: &mut [i32], low: i32, high: i32) -> bool
 }
 
 // A row from halves into its own order, in place, through a line that is lent; and whether each of its numbers lies from `low` to `high`.
-pub fn weave(row: &mut [i32], x: usize, line: &mut [i32], low: i32, high: i32) -> bool
+pub fn interleave(row: &mut [i32], x: usize, line: &mut [i32], low: i32, high: i32) -> bool
     requires { ⌜ length (now row) ≤ length (now line) ⌝ }
     ensures { λ r. ⌜ r ≡ every (length (now (row .entry))) (λ i. between low high (at (now (row .entry)) i)) ⌝ }
-    ensures { λ _. ⌜ at (now (row .exit)) ≡ wovenInPlace (side x (length (now (row .entry)))) (at (now (row .entry))) ⌝ }
+    ensures { λ _. ⌜ at (now (row .exit)) ≡ interleavedInPlace (side x (length (now (row .entry)))) (at (now (row .entry))) ⌝ }
 {
     let n = row.len();
     let ok = copy_tested(row, line, low, high);
-    areas::lines::weave_line(&line[0..n], x, row);
+    areas::lines::interleave_line(&line[0..n], x, row);
     ok
 }

@@ -159,15 +159,15 @@ module _ (N : ℕ) (x : ℕ → ℤ) (g : 1 < N) where
       low-near S g whole x n b
       ∙ by-three (updated whole) (ap x (omega (arith, mirror-in N (2 * n + 2) (omega arith) (omega arith)))) (high-left n b) (high-right n b)
 
-lone : (q : ℕ) → mirrored 1 q ≡ 0
+single : (q : ℕ) → mirrored 1 q ≡ 0
 unfolding mirrored
-lone q = omega arith
+single q = omega arith
 
 one-only : (x : ℕ → ℤ) → x 0 ≡ lowFive (x (mirrored 1 0)) (x (mirrored 1 1)) (x (mirrored 1 2)) (x (mirrored 1 3)) (x (mirrored 1 4))
 one-only x = sym (level (x 0)) ∙ five-same (by 0) (by 1) (by 2) (by 3) (by 4)
   where
     by : (q : ℕ) → x 0 ≡ x (mirrored 1 q)
-    by q = ap x (sym (lone q))
+    by q = ap x (sym (single q))
 
 -- low value n of a line at a start of 0 is that of its five mirrored samples
 pub line-low : (N : ℕ) (x : ℕ → ℤ) (n : ℕ) → n < count lo (side 0 N)

@@ -10,13 +10,13 @@ use Rattle.numbers.specs.Signal.{at, windowed, spliced}
 use Rattle.numbers.specs.Word.{wrap32}
 use Rattle.numbers.proofs.Parts.{window-in, splice-in, splice-past, length-mid, at-mid, at-put}
 use Rattle.lifting.specs.Line.{Half, lo, hi}
-use Rattle.lifting.specs.Grid.{Side, side, count, parted, joined}
+use Rattle.lifting.specs.Grid.{Side, side, count, deinterleaved, joined}
 use Rattle.lifting.specs.Grid as five
-use Rattle.lifting.specs.GridHalves.{halvesOf, inHalves, partedInto}
+use Rattle.lifting.specs.GridHalves.{halvesOf, inHalves, deinterleavedInto}
 use Rattle.lifting.specs.GridHalves as five-halves
 use Rattle.lifting.specs.Halves.{fronted}
 use Rattle.lifting.specs.Passes.{lowsChanged}
-use Rattle.lifting.proofs.GridLaws.{ahead, counts, joined-place, joined-reads, joined-parted, halves-low, halves-high, halves-past, halves-are}
+use Rattle.lifting.proofs.GridLaws.{ahead, counts, joined-place, joined-reads, joined-deinterleaved, halves-low, halves-high, halves-past, halves-are}
 use Rattle.lifting.proofs.GridLaws as five-laws
 use Rattle.lifting.proofs.Neighbours.{left, right, left-in, right-in}
 use Rattle.lifting.proofs.PassLaws.{lows-low, lows-past}
@@ -146,44 +146,44 @@ module _ (S : Side) (y : ℕ → ℤ) (g : 1 < S .length) where
       let both = counts S in
       sym (highs-past (unpredicted wrap32) z j h ∙ lows-past (unupdated wrap32) (ahead S hi) low N y j (omega arith)))
 
--- ---- a line parted into halves at the front of memory, and lifted there
+-- ---- a line deinterleaved into halves at the front of memory, and lifted there
 module _ (S : Side) (x z : ℕ → ℤ) where
   abbrev there : ℕ → ℤ
-  there = windowed 0 (S .length) (partedInto S x z)
+  there = windowed 0 (S .length) (deinterleavedInto S x z)
 
-  there-at : (j : ℕ) → j < S .length → there j ≡ partedInto S x z j
-  there-at j b = let k : 0 + j ≡ j = omega arith in window-in 0 (S .length) (partedInto S x z) j b ∙ ap (partedInto S x z) k
+  there-at : (j : ℕ) → j < S .length → there j ≡ deinterleavedInto S x z j
+  there-at j b = let k : 0 + j ≡ j = omega arith in window-in 0 (S .length) (deinterleavedInto S x z) j b ∙ ap (deinterleavedInto S x z) k
 
-  parted-low : (n : ℕ) → n < count lo S → there n ≡ parted S x lo n
-  unfolding partedInto
-  parted-low n b = let both = counts S in there-at n (omega arith) ∙ halves-low S (parted S x) z n b
+  deinterleaved-low : (n : ℕ) → n < count lo S → there n ≡ deinterleaved S x lo n
+  unfolding deinterleavedInto
+  deinterleaved-low n b = let both = counts S in there-at n (omega arith) ∙ halves-low S (deinterleaved S x) z n b
 
-  parted-high : (n : ℕ) → n < count hi S → there (count lo S + n) ≡ parted S x hi n
-  unfolding partedInto
-  parted-high n b =
+  deinterleaved-high : (n : ℕ) → n < count hi S → there (count lo S + n) ≡ deinterleaved S x hi n
+  unfolding deinterleavedInto
+  deinterleaved-high n b =
       let both = counts S in
       let k : count lo S + n - count lo S ≡ n = omega arith in
-      there-at (count lo S + n) (omega arith) ∙ halves-high S (parted S x) z (count lo S + n) (omega arith) (omega arith) ∙ ap (parted S x hi) k
+      there-at (count lo S + n) (omega arith) ∙ halves-high S (deinterleaved S x) z (count lo S + n) (omega arith) (omega arith) ∙ ap (deinterleaved S x hi) k
 
   -- the halves there are those of the line
   line-there : (i : ℕ) → i < S .length → joined S (halvesOf S there) i ≡ x i
   unfolding halvesOf
-  line-there i b = joined-reads S (halvesOf S there) (parted S x) each i b ∙ joined-parted S x i
+  line-there i b = joined-reads S (halvesOf S there) (deinterleaved S x) each i b ∙ joined-deinterleaved S x i
     where
-      each : (h : Half) (n : ℕ) → n < count h S → halvesOf S there h n ≡ parted S x h n
-      each lo n c = parted-low n c
-      each hi n c = parted-high n c
+      each : (h : Half) (n : ℕ) → n < count h S → halvesOf S there h n ≡ deinterleaved S x h n
+      each lo n c = deinterleaved-low n c
+      each hi n c = deinterleaved-high n c
 
   same : (h : Half) (n : ℕ) → n < count h S → lineForward wrap32 S (joined S (halvesOf S there)) h n ≡ lineForward wrap32 S x h n
   same h n b = forward-reads wrap32 S (joined S (halvesOf S there)) x h n b (λ i l _. line-there i l)
 
-  forward-lifted : spliced 0 (S .length) (liftedInPlace S there) (partedInto S x z) ≡ forwardInto S x z
-  unfolding liftedInPlace forwardInto partedInto
+  forward-lifted : spliced 0 (S .length) (liftedInPlace S there) (deinterleavedInto S x z) ≡ forwardInto S x z
+  unfolding liftedInPlace forwardInto deinterleavedInto
   forward-lifted =
       let both = counts S in
       let c = lineForward wrap32 S (joined S (halvesOf S there)) in
       let u = inHalves S c there in
-      let v = partedInto S x z in
+      let v = deinterleavedInto S x z in
       sym
       (halves-are S (lineForward wrap32 S x) z (spliced 0 (S .length) u v)
       (λ n b.
@@ -198,10 +198,10 @@ module _ (S : Side) (x z : ℕ → ℤ) where
       ∙ halves-high S c there (count lo S + n) (omega arith) (omega arith)
       ∙ ap (c hi) m
       ∙ same hi n b))
-      (λ j b. sym (splice-past 0 (S .length) u v j (omega arith) ∙ halves-past S (parted S x) z j b)))
+      (λ j b. sym (splice-past 0 (S .length) u v j (omega arith) ∙ halves-past S (deinterleaved S x) z j b)))
 
 pub forward-front : (S : Side) (k : ℕ) (x z : ℕ → ℤ) (to o : List ℤ) → k ≡ S .length → S .length ≤ length to → length o ≡ length (midOf 0 k to)
-    → at o ≡ liftedInPlace (side (S .start) (length (midOf 0 k to))) (at (midOf 0 k to)) → at to ≡ partedInto S x z
+    → at o ≡ liftedInPlace (side (S .start) (length (midOf 0 k to))) (at (midOf 0 k to)) → at to ≡ deinterleavedInto S x z
     → at (putMid 0 k to o) ≡ forwardInto S x z
 forward-front S k x z to o e room size is from =
     let mid = length-mid 0 k to (omega arith) in

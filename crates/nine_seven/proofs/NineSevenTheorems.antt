@@ -14,7 +14,7 @@ use Rattle.numbers.specs.Word.{wrap32, whole}
 use Rattle.numbers.proofs.Integers.{each, lin}
 use Rattle.numbers.proofs.Words.{abs-fits}
 use Rattle.lifting.specs.Line.{Half, lo, hi}
-use Rattle.lifting.specs.Grid.{Side, side, place, count, loneHigh, hasLine}
+use Rattle.lifting.specs.Grid.{Side, side, place, count, singleHigh, hasLine}
 use Rattle.lifting.proofs.GridLaws.{place-in}
 use Rattle.lifting.proofs.Keeping.{Keeping, words, wholes}
 use Rattle.lifting.proofs.Neighbours.{left, right, left-in, right-in}
@@ -36,7 +36,7 @@ module _ {keep : ℤ → ℤ} (K : Keeping keep) (S : Side) where
   unfolding lineBack
   back-good = two.back-good nine-seven K S
 
-  pub line-back-forward : (x : ℕ → ℤ) → ((i : ℕ) → i < S .length → Good (x i)) → (loneHigh S ≡ true → Good (pos 2 *ℤ x 0)) → (i : ℕ) → i < S .length
+  pub line-back-forward : (x : ℕ → ℤ) → ((i : ℕ) → i < S .length → Good (x i)) → (singleHigh S ≡ true → Good (pos 2 *ℤ x 0)) → (i : ℕ) → i < S .length
       → lineBack keep S (lineForward keep S x) i ≡ x i
   unfolding lineBack
   line-back-forward = two.back-forward nine-seven K S
@@ -46,9 +46,9 @@ module _ {keep : ℤ → ℤ} (K : Keeping keep) (S : Side) where
   unfolding lineBack
   line-forward-back = two.forward-back nine-seven K S
 
--- ---- for every line of 32-bit numbers: there and back. A lone sample at an odd coordinate comes back if its double fits 32 bits
+-- ---- for every line of 32-bit numbers: there and back. A single sample at an odd coordinate comes back if its double fits 32 bits
 module _ (S : Side) (x : ℕ → ℤ) (fits : (i : ℕ) → i < S .length → SFits w32 (x i)) where
-  pub back-forward : (loneHigh S ≡ true → SFits w32 (pos 2 *ℤ x 0)) → (i : ℕ) → i < S .length → lineBack wrap32 S (lineForward wrap32 S x) i ≡ x i
+  pub back-forward : (singleHigh S ≡ true → SFits w32 (pos 2 *ℤ x 0)) → (i : ℕ) → i < S .length → lineBack wrap32 S (lineForward wrap32 S x) i ≡ x i
   back-forward = line-back-forward words S x fits
 
 -- and back and there, for all values but those that give 14

@@ -1,5 +1,5 @@
 -- There and back over the very definitions that the line calls cite: in place, and from area to area, for every line of 32-bit numbers of any length and start.
--- A lone sample at an odd coordinate comes back if its double fits 32 bits; back and there, where the call back answers 0. What lies past the line is as it
+-- A single sample at an odd coordinate comes back if its double fits 32 bits; back and there, where the call back answers 0. What lies past the line is as it
 -- was. By the general lifting. Assumes nothing.
 use mathlib.Core.Path.{_≡_}
 use mathlib.Core.Bool.{true}
@@ -7,7 +7,7 @@ use Prim.Native.Nat.{ℕ, _<_}
 use lib.IntN.{ℤ, pos, _*ℤ_}
 use mir.Syntax.{w32}
 use mir.Val.{SFits}
-use Rattle.lifting.specs.Grid.{Side, loneHigh}
+use Rattle.lifting.specs.Grid.{Side, singleHigh}
 use Rattle.lifting.specs.Halves.{fronted}
 use Rattle.lifting.specs.GridHalves.{hasLineIn}
 use Rattle.nine_seven.specs.NineSeven.{lineBack}
@@ -26,7 +26,7 @@ forward-into-has = memory.forwarded-has nine-seven
 
 module _ (S : Side) (y : ℕ → ℤ) (fits : (i : ℕ) → i < S .length → SFits w32 (y i)) where
   -- in place
-  pub unlift-lift : (loneHigh S ≡ true → SFits w32 (pos 2 *ℤ y 0)) → unliftedInPlace S (liftedInPlace S y) ≡ y
+  pub unlift-lift : (singleHigh S ≡ true → SFits w32 (pos 2 *ℤ y 0)) → unliftedInPlace S (liftedInPlace S y) ≡ y
   unfolding unliftedInPlace liftedInPlace
   unlift-lift = memory.unlift-lift nine-seven S y fits
 
@@ -35,7 +35,7 @@ module _ (S : Side) (y : ℕ → ℤ) (fits : (i : ℕ) → i < S .length → SF
   lift-unlift = memory.lift-unlift nine-seven S y fits
 
   -- from area to area: z is where the first call wrote, w where the second did
-  pub back-there : (loneHigh S ≡ true → SFits w32 (pos 2 *ℤ y 0)) → (z w : ℕ → ℤ) → backwardInto S (forwardInto S y z) w ≡ fronted (S .length) y w
+  pub back-there : (singleHigh S ≡ true → SFits w32 (pos 2 *ℤ y 0)) → (z w : ℕ → ℤ) → backwardInto S (forwardInto S y z) w ≡ fronted (S .length) y w
   unfolding backwardInto forwardInto lineBack
   back-there = memory.back-there nine-seven S y fits
 

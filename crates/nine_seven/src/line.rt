@@ -4,7 +4,7 @@ use crate::near;
 use crate::place;
 use crate::put;
 use areas::lines;
-use lifting::line as short;
+use lifting::line as five_three;
 ghost use mathlib.Core.Path.{_≡_};
 ghost use Prim.Native.Nat.{_+_, _-_, _<_, _≤_};
 ghost use lib.ListN.{length, set};
@@ -162,7 +162,7 @@ pub fn lift(line: &mut [i32], start: usize)
 {
     let n = line.len();
     if n < 2 {
-        short::lift(line, start);
+        five_three::lift(line, start);
         return;
     }
     let b = start % 2;
@@ -179,7 +179,7 @@ pub fn unlift(line: &mut [i32], start: usize) -> u8
 {
     let n = line.len();
     if n < 2 {
-        return short::unlift(line, start);
+        return five_three::unlift(line, start);
     }
     let b = start % 2;
     let low = near::lows(n, start);
@@ -190,7 +190,7 @@ pub fn unlift(line: &mut [i32], start: usize) -> u8
 
 // ---- from one area to another
 
-// A line's low values, then its high values, at the front of `out`: its places parted, and lifted there.
+// A line's low values, then its high values, at the front of `out`: its places deinterleaved, and lifted there.
 // 5, and nothing changed, where `out` is shorter than the line.
 pub fn forward(line: &[i32], start: usize, out: &mut [i32]) -> u8
     ensures { λ r. ⌜ r ≡ pick (leb (length (now (line .entry))) (length (now (out .entry)))) 0 5 ⌝ }
@@ -217,7 +217,7 @@ pub fn backward(coefficients: &[i32], start: usize, out: &mut [i32]) -> u8
 {
     let n = coefficients.len();
     if n < 2 {
-        return short::backward(coefficients, start, out);
+        return five_three::backward(coefficients, start, out);
     }
     if out.len() < n {
         return 5;

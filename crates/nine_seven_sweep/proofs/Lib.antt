@@ -3,5 +3,5 @@ pub mod RaiseLaws
 pub mod LowerLaws
 pub mod CallLaws
 pub mod ShortColumns
-pub mod LoneLaws
+pub mod SingleLaws
 pub mod LoopLaws

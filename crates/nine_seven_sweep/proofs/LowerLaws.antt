@@ -8,7 +8,7 @@ use lib.IntN.{ℤ}
 use borrow.Author.Tests.{lt-ltb, le-ltb, le-leb, lt-leb}
 use Rattle.numbers.specs.Word.{wrap32}
 use Rattle.lifting.specs.Line.{Half, lo, hi}
-use Rattle.lifting.specs.Grid.{Side, count, place, parted, joined}
+use Rattle.lifting.specs.Grid.{Side, count, place, deinterleaved, joined}
 use Rattle.lifting.proofs.GridLaws.{ahead, joined-place, place-in, in-place, by-place}
 use Rattle.lifting.proofs.Neighbours.{left, right, left-in, right-in}
 use Rattle.nine_seven.specs.NineSeven.{unpredicted, unupdated, lineHalvesBack, lineBack}
@@ -69,7 +69,7 @@ up-to n d k h g = omega arith
 
 -- before turn n
 abbrev backward : ℕ → Side → (ℕ → ℤ) → Half → ℕ → ℕ → ℤ
-backward s H x₀ k n c = lineHalvesBack wrap32 H (parted H (column s x₀ c)) k n
+backward s H x₀ k n c = lineHalvesBack wrap32 H (deinterleaved H (column s x₀ c)) k n
 
 abbrev pub Lowered : ℕ → ℕ → Side → (ℕ → ℤ) → ℕ → (ℕ → ℤ) → Type 0
 Lowered s w H x₀ n x = Fronts s w H (place H) (backward s H x₀) x₀ n (n - (2 - H .start % 2)) x
@@ -79,7 +79,7 @@ lower-start s w H x₀ = let z : 0 - (2 - H .start % 2) ≡ 0 = omega arith in r
 
 module _ (N s w : ℕ) (H : Side) (x₀ : ℕ → ℤ) (R : Rows N s w (H .length)) (more : 1 < H .length) where
   abbrev halves : ℕ → Half → ℕ → ℤ
-  halves c = parted H (column s x₀ c)
+  halves c = deinterleaved H (column s x₀ c)
 
   abbrev made : Half → ℕ → ℕ → ℤ
   made = backward s H x₀
@@ -88,7 +88,7 @@ module _ (N s w : ℕ) (H : Side) (x₀ : ℕ → ℤ) (R : Rows N s w (H .lengt
   P = place H
 
   stands : (k : Half) (n c : ℕ) → x₀ (place H k n * s + c) ≡ halves c k n
-  unfolding parted column
+  unfolding deinterleaved column
   stands k n c = refl
 
   even-is : (n c : ℕ) → n < count lo H → made lo n c ≡
@@ -171,7 +171,7 @@ module _ (N s w : ℕ) (H : Side) (x₀ : ℕ → ℤ) (R : Rows N s w (H .lengt
   pub lower-end : (n : ℕ) (x : ℕ → ℤ) → count hi H + 2 - H .start % 2 ≤ n → Lowered s w H x₀ n x → x ≡ columnsBack s w H x₀
   unfolding columnsBack lineBack count
   lower-end n x b F =
-      end s w H (place H) made x₀ n (n - (2 - H .start % 2)) x (λ y. lineBack wrap32 H (parted H y)) (omega (arith, R .some, R .wide)) (omega arith)
+      end s w H (place H) made x₀ n (n - (2 - H .start % 2)) x (λ y. lineBack wrap32 H (deinterleaved H y)) (omega (arith, R .some, R .wide)) (omega arith)
       (omega arith) F
       (λ q c qh cw lows highs.
       by-place H (λ i. i < H .length → x (i * s + c) ≡ joined H (lineHalvesBack wrap32 H (halves c)) i)

@@ -12,11 +12,11 @@ use Rattle.numbers.specs.Signal.{pick, both}
 use Rattle.numbers.specs.Tests.{every}
 use Rattle.numbers.specs.Word.{wrap32}
 use Rattle.lifting.specs.Line.{Half, lo, hi}
-use Rattle.lifting.specs.Grid.{Side, count, place, parted, joined, loneHigh, isEven}
+use Rattle.lifting.specs.Grid.{Side, count, place, deinterleaved, joined, singleHigh, isEven}
 use Rattle.lifting.specs.GridHalves.{halvesOf}
 use Rattle.lifting.specs.Halves.{fronted}
 use Rattle.lifting.proofs.GridLaws.{joined-place, halves-high, front-in, front-past}
-use Rattle.lifting.proofs.LoneLaws.{lone-high, lone-none, lifted-none}
+use Rattle.lifting.proofs.SingleLaws.{single-high, single-none, lifted-none}
 use Rattle.lifting.proofs.RowLaws.{row-order, row-in}
 use Rattle.nine_seven.specs.NineSeven.{lineForward, lineHalvesBack, lineBack}
 use Rattle.nine_seven.specs.Memory.{liftedInPlace}
@@ -70,23 +70,23 @@ pub fronted-same : (w : ℕ) (x : ℕ → ℤ) → fronted w (λ i. x i) x ≡ x
 fronted-same w x = fun-ext λ j. elim (decLt j w) [ yes a ↦ front-in w (λ i. x i) x j a | no a ↦ front-past w (λ i. x i) x j (omega arith) ]
 
 module _ (s w : ℕ) (H : Side) (x : ℕ → ℤ) (some : 0 < w) (ws : w ≤ s) where
-  lone-column : (y : ℕ → ℤ) → loneHigh H ≡ true → liftedInPlace H y 0 ≡ wrap32 (pos 2 *ℤ y 0)
+  single-column : (y : ℕ → ℤ) → singleHigh H ≡ true → liftedInPlace H y 0 ≡ wrap32 (pos 2 *ℤ y 0)
   unfolding liftedInPlace halvesOf
-  lone-column y e =
-      let t = lone-high H e in
+  single-column y e =
+      let t = single-high H e in
       let p = halvesOf H y in
       let k : count lo H + (0 - count lo H) ≡ 0 = omega arith in
       halves-high H (lineForward wrap32 H (joined H p)) y 0 (omega arith) (omega arith)
       ∙ high-one H (omega arith) wrap32 (joined H p) (0 - count lo H)
       ∙ ap (λ (v : ℤ). wrap32 (pos 2 *ℤ v)) (joined-place H p hi (0 - count lo H) ∙ ap y k)
 
-  pub lone-lifted : loneHigh H ≡ true → fronted w (λ i. wrap32 (pos 2 *ℤ x i)) x ≡ columnsLifted s w H x
+  pub single-lifted : singleHigh H ≡ true → fronted w (λ i. wrap32 (pos 2 *ℤ x i)) x ≡ columnsLifted s w H x
   unfolding columnsLifted
-  lone-lifted e =
-      let t = lone-high H e in
-      sym (by-one (liftedInPlace H) s w x (H .length) (λ v. wrap32 (pos 2 *ℤ v)) (t .0) some ws (λ y. lone-column y e))
+  single-lifted e =
+      let t = single-high H e in
+      sym (by-one (liftedInPlace H) s w x (H .length) (λ v. wrap32 (pos 2 *ℤ v)) (t .0) some ws (λ y. single-column y e))
 
-  pub short-lifted : loneHigh H ≡ false → H .length < 2 → x ≡ columnsLifted s w H x
+  pub short-lifted : singleHigh H ≡ false → H .length < 2 → x ≡ columnsLifted s w H x
   unfolding columnsLifted
   short-lifted e few =
       sym
@@ -99,34 +99,34 @@ module _ (s w : ℕ) (H : Side) (x : ℕ → ℤ) (some : 0 < w) (ws : w ≤ s) 
       ])
 
   abbrev line : (ℕ → ℤ) → ℕ → ℤ
-  line y = lineBack wrap32 H (parted H y)
+  line y = lineBack wrap32 H (deinterleaved H y)
 
   -- the only place of a column
-  first : (y : ℕ → ℤ) (k : Half) → H .length ≡ 1 → place H k 0 ≡ 0 → line y 0 ≡ lineHalvesBack wrap32 H (parted H y) k 0
+  first : (y : ℕ → ℤ) (k : Half) → H .length ≡ 1 → place H k 0 ≡ 0 → line y 0 ≡ lineHalvesBack wrap32 H (deinterleaved H y) k 0
   unfolding lineBack
   first y k one e =
-      ap (joined H (lineHalvesBack wrap32 H (parted H y))) (sym e) ∙ joined-place H (lineHalvesBack wrap32 H (parted H y)) k 0
+      ap (joined H (lineHalvesBack wrap32 H (deinterleaved H y))) (sym e) ∙ joined-place H (lineHalvesBack wrap32 H (deinterleaved H y)) k 0
 
-  pub lone-back : loneHigh H ≡ true → fronted w (λ i. shrZ (x i) 2) x ≡ columnsBack s w H x
-  unfolding columnsBack place count parted
-  lone-back e =
-      let t = lone-high H e in
+  pub single-back : singleHigh H ≡ true → fronted w (λ i. shrZ (x i) 2) x ≡ columnsBack s w H x
+  unfolding columnsBack place count deinterleaved
+  single-back e =
+      let t = single-high H e in
       let z : place H hi 0 ≡ 0 = omega arith in
       sym
       (by-one line s w x (H .length) (λ v. shrZ v 2) (t .0) some ws
-      (λ y. first y hi (t .0) z ∙ odd-one H (omega arith) wrap32 (parted H y) 0 ∙ ap (λ (i : ℕ). shrZ (y i) 2) z))
+      (λ y. first y hi (t .0) z ∙ odd-one H (omega arith) wrap32 (deinterleaved H y) 0 ∙ ap (λ (i : ℕ). shrZ (y i) 2) z))
 
-  pub short-back : loneHigh H ≡ false → H .length < 2 → x ≡ columnsBack s w H x
-  unfolding columnsBack place count parted
+  pub short-back : singleHigh H ≡ false → H .length < 2 → x ≡ columnsBack s w H x
+  unfolding columnsBack place count deinterleaved
   short-back e few =
-      let none = lone-none H few e in
+      let none = single-none H few e in
       sym
       (elim (ℕ-discrete (H .length) 0) [
         | yes z ↦ by-none line s w x (H .length) z
         | no d ↦
             let z : place H lo 0 ≡ 0 = omega arith in
             by-one line s w x (H .length) (λ v. v) (omega arith) some ws
-            (λ y. first y lo (omega arith) z ∙ even-one H (omega arith) wrap32 (parted H y) 0 ∙ ap y z)
+            (λ y. first y lo (omega arith) z ∙ even-one H (omega arith) wrap32 (deinterleaved H y) 0 ∙ ap y z)
             ∙ fronted-same w x
       ])
 
@@ -136,7 +136,7 @@ narrow-lifted s w H x e = sym (by-narrow (liftedInPlace H) s w x (H .length) e)
 
 pub narrow-back : (s w : ℕ) (H : Side) (x : ℕ → ℤ) → w ≡ 0 → x ≡ columnsBack s w H x
 unfolding columnsBack
-narrow-back s w H x e = sym (by-narrow (λ y. lineBack wrap32 H (parted H y)) s w x (H .length) e)
+narrow-back s w H x e = sym (by-narrow (λ y. lineBack wrap32 H (deinterleaved H y)) s w x (H .length) e)
 
 -- ---- the public calls
 pub fit-rows : (n s w h : ℕ) → columnsFit n s w h ≡ true → 0 < w → Rows n s w h
@@ -145,15 +145,15 @@ fit-rows n s w h e some = let r = row-in n s w (h - 1) e in record { some = some
 
 pub have-none : (w : ℕ) (H : Side) (x : ℕ → ℤ) → w ≡ 0 → columnsHave w H x ≡ true
 unfolding columnsHave every
-have-none w H x e = rw e (elim (loneHigh H) as (λ t. pick t true true ≡ true) [ true ↦ refl | false ↦ refl ])
+have-none w H x e = rw e (elim (singleHigh H) as (λ t. pick t true true ≡ true) [ true ↦ refl | false ↦ refl ])
 
-pub have-other : (w : ℕ) (H : Side) (x : ℕ → ℤ) → loneHigh H ≡ false → columnsHave w H x ≡ true
+pub have-other : (w : ℕ) (H : Side) (x : ℕ → ℤ) → singleHigh H ≡ false → columnsHave w H x ≡ true
 unfolding columnsHave
 have-other w H x e = simp e
 
-pub have-lone : (w : ℕ) (H : Side) (x : ℕ → ℤ) → loneHigh H ≡ true → columnsHave w H x ≡ every w (λ c. isEven (x c))
+pub have-single : (w : ℕ) (H : Side) (x : ℕ → ℤ) → singleHigh H ≡ true → columnsHave w H x ≡ every w (λ c. isEven (x c))
 unfolding columnsHave
-have-lone w H x e = simp e
+have-single w H x e = simp e
 
 -- the answer and the area, by the two tests
 module _ {A : Type 0} (t u : Bool) (a b : A) where

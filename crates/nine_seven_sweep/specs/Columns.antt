@@ -6,7 +6,7 @@ use lib.Dec.{ltb}
 use Rattle.numbers.specs.Signal.{pick, both}
 use Rattle.numbers.specs.Tests.{every}
 use Rattle.numbers.specs.Word.{wrap32}
-use Rattle.lifting.specs.Grid.{Side, parted, loneHigh, isEven}
+use Rattle.lifting.specs.Grid.{Side, deinterleaved, singleHigh, isEven}
 use Rattle.lifting.specs.Rows.{rowFits}
 use Rattle.nine_seven.specs.NineSeven.{lineBack}
 use Rattle.nine_seven.specs.Memory.{liftedInPlace}
@@ -29,7 +29,7 @@ columnsLifted s w H = columnsBy (liftedInPlace H) s w (H .length)
 
 -- and back, the rows being in their own order. An odd number of an only high row is no column's (number 14).
 unfoldable pub columnsBack : ℕ → ℕ → Side → (ℕ → ℤ) → ℕ → ℤ
-columnsBack s w H = columnsBy (λ y. lineBack wrap32 H (parted H y)) s w (H .length)
+columnsBack s w H = columnsBy (λ y. lineBack wrap32 H (deinterleaved H y)) s w (H .length)
 
 unfoldable pub columnsHave : ℕ → Side → (ℕ → ℤ) → Bool
-columnsHave w H x = pick (loneHigh H) (every w (λ c. isEven (x c))) true
+columnsHave w H x = pick (singleHigh H) (every w (λ c. isEven (x c))) true

@@ -2,8 +2,8 @@
 // number: only whether it is odd counts. Both calls answer 5, with nothing changed, where a row does not lie in the area or is wider than the stride.
 use crate::back;
 use crate::forth;
-use lifting::lone;
 use lifting::rows;
+use lifting::single;
 ghost use mathlib.Core.Path.{_≡_};
 ghost use mathlib.Core.Bool.{true};
 ghost use Prim.Native.Nat.{_-_, _≤_};
@@ -31,10 +31,10 @@ fn lift_all(area: &mut [i32], stride: usize, width: usize, y: usize, height: usi
         forth::lift_rows(area, stride, width, y, height);
         return;
     }
-    if !lone::is_lone(height, y) {
+    if !single::is_single(height, y) {
         return;
     }
-    lone::double_all(&mut area[0..width]);
+    single::double_all(&mut area[0..width]);
 }
 
 // All columns, the rows being in halves, the low ones first.
@@ -59,10 +59,10 @@ fn columns_have(area: &[i32], width: usize, y: usize, height: usize) -> bool
     requires { ⌜ width ≤ length (now area) ⌝ }
     ensures { λ r. ⌜ r ≡ columnsHave width (side y height) (at (now (area .entry))) ⌝ }
 {
-    if !lone::is_lone(height, y) {
+    if !single::is_single(height, y) {
         return true;
     }
-    lone::all_even(&area[0..width])
+    single::all_even(&area[0..width])
 }
 
 fn unlift_all(area: &mut [i32], stride: usize, width: usize, y: usize, height: usize)
@@ -73,10 +73,10 @@ fn unlift_all(area: &mut [i32], stride: usize, width: usize, y: usize, height: u
         back::unlift_rows(area, stride, width, y, height);
         return;
     }
-    if !lone::is_lone(height, y) {
+    if !single::is_single(height, y) {
         return;
     }
-    lone::halve_all(&mut area[0..width]);
+    single::halve_all(&mut area[0..width]);
 }
 
 // All columns back, the rows being in their own order. After 5, 14, with nothing changed, for an odd number of an only row at an odd coordinate.

@@ -31,6 +31,6 @@ module _ (most L : ℕ) (h : Header) (n m : ℕ) where
   unfolding readByte heightRead sampleOf sampled
   second-byte v b e = (λ f. rw (ne-eqb (suc n) 0 (λ z. omega arith), e, f, sub-one (suc n)), λ f. rw (ne-eqb (suc n) 0 (λ z. omega arith), e, f))
 
-  pub lone-byte : (x : Bool) (v b : ℕ) → wide m ≡ false → Lasts x v b b
+  pub single-byte : (x : Bool) (v b : ℕ) → wide m ≡ false → Lasts x v b b
   unfolding readByte heightRead sampleOf sampled
-  lone-byte x v b e = (λ f. rw (ne-eqb (suc n) 0 (λ z. omega arith), e, f, sub-one (suc n)), λ f. rw (ne-eqb (suc n) 0 (λ z. omega arith), e, f))
+  single-byte x v b e = (λ f. rw (ne-eqb (suc n) 0 (λ z. omega arith), e, f, sub-one (suc n)), λ f. rw (ne-eqb (suc n) 0 (λ z. omega arith), e, f))

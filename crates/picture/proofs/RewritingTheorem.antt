@@ -46,7 +46,7 @@ use Rattle.pgm.specs.EndedAnswer as ended
 use Rattle.picture.specs.declared.parts.Part.{Part}
 use Rattle.picture.specs.declared.rewriting.Rewriting.{Rewriting}
 use Rattle.pgm.proofs.InputCases.{header-case, height-none, phase-2, phase-3, phase-on, end-early, end-over, end-few, end-whole}
-use Rattle.pgm.proofs.InputReads.{at, first-byte, Lasts, second-byte, lone-byte}
+use Rattle.pgm.proofs.InputReads.{at, first-byte, Lasts, second-byte, single-byte}
 use Rattle.picture.proofs.MachineLaws.{begun-room, kept-some, row-whole, row-begun}
 use Rattle.picture.proofs.MachineLaws.{left-none, settle-owed, read-owed, ends-as, end-owed, idle-owed, goes-owed}
 
@@ -284,7 +284,7 @@ module _ (e : Bool) (h : Header) (W H : ℕ) (some : 0 < W) (m : ℕ) where
   singles w [] (suc n) v f z a c = too-few e h W H n m false v f z ∙ sym (none-short e W some (take f z) (row-few f z a c) m n)
   singles w (b ∷ r) zero v f z a c = beyond e h W H m false v f b z r ∙ sym (surplus e W some (take f z) (row-few f z a c) m b r)
   singles w (b ∷ r) (suc n) v f z a c =
-      lasts n f z false v b b (b ∷ r) r (leb b m) refl (lone-byte 0 0 h n m false v b w) (leads-one m b r w) a c (singles w r n)
+      lasts n f z false v b b (b ∷ r) r (leb b m) refl (single-byte 0 0 h n m false v b w) (leads-one m b r w) a c (singles w r n)
 
   heights : (r : List ℕ) (n : ℕ) → Owes e h W H m n r
   heights r n = go (wide m) refl

@@ -15,7 +15,7 @@ use Rattle.pgm.specs.InputSteps.{readByte, heightsCame}
 use Rattle.pgm.specs.StepAnswer as steps
 use Rattle.pgm.specs.declared.header.Header.{Header}
 use Rattle.pgm.specs.declared.input.Input.{Input}
-use Rattle.pgm.proofs.InputReads.{at, first-byte, second-byte, lone-byte}
+use Rattle.pgm.proofs.InputReads.{at, first-byte, second-byte, single-byte}
 use Rattle.text.specs.Moves.{Goes, stays, then}
 use Rattle.text.proofs.MoveLaws.{one, goes-on}
 use Rattle.picture.specs.Machine.{noPart, rewriting, rowPart, Kept, kept, stepTo, byteRead, Move, reads, Reads}
@@ -38,7 +38,7 @@ byte-reads r r′ z z′ p a k h e f = record {
 -- ---- one height u of the largest value m, and its bytes
 pub data Sample (m u : ℕ) (bs : List ℕ) : Type 0 where
   two : (b c : ℕ) → wide m ≡ true → bs ≡ b ∷ c ∷ [] → u ≡ 256 * b + c → leb u m ≡ true → Sample m u bs
-  lone : (b : ℕ) → wide m ≡ false → bs ≡ b ∷ [] → u ≡ b → leb u m ≡ true → Sample m u bs
+  single : (b : ℕ) → wide m ≡ false → bs ≡ b ∷ [] → u ≡ b → leb u m ≡ true → Sample m u bs
 
 module _ (h : Header) (L W H m : ℕ) where
   -- n heights are still to come, f stand in the row area; half a sample, v, is held or not
@@ -64,8 +64,8 @@ module _ (h : Header) (L W H m : ℕ) where
   height n v f u p z bs k lt (two b c w eb eu le) =
       rw eb (then (one (first n v f b p z k w)) (last n b f c u true noPart z refl lt
       (rw eu (second-byte 0 L h n m b c w .0 (rw (sym eu) le)))))
-  height n v f u p z bs k lt (lone b w eb eu le) =
-      rw eb (one (last n v f b u false p z k lt (rw eu (lone-byte 0 L h n m false v b w .0 (rw (sym eu) le)))))
+  height n v f u p z bs k lt (single b w eb eu le) =
+      rw eb (one (last n v f b u false p z k lt (rw eu (single-byte 0 L h n m false v b w .0 (rw (sym eu) le)))))
 
 -- ---- height k of the bytes s
 module _ (m : ℕ) (s : List ℕ) where
@@ -106,7 +106,7 @@ module _ (m : ℕ) (s : List ℕ) where
       go : (w : Bool) → wide m ≡ w → getD (heightsOf m s) k 0 ≡ pick w (256 * getD s (2 * k) 0 + getD s (2 * k + 1) 0) (getD s k 0) →
           Sample m (getD (heightsOf m s) k 0) (bytesAt w k)
       go true w e = two (getD s (2 * k) 0) (getD s (2 * k + 1) 0) w refl e (height-fits k h)
-      go false w e = lone (getD s k 0) w refl e (height-fits k h)
+      go false w e = single (getD s k 0) w refl e (height-fits k h)
 
   bytes-next : (k : ℕ) → k < length (heightsOf m s) → take (sampleSize m * suc k) s ≡ take (sampleSize m * k) s ++ bytesAt (wide m) k
   unfolding sampleSize

@@ -48,7 +48,7 @@ pub fn is_left(y: usize, m: usize, n: usize) -> bool
 }
 
 // Whether row m completes a set of the first of l levels.
-pub fn sets_off(filter: usize, l: usize, y: usize, m: usize) -> bool
+pub fn makes_set(filter: usize, l: usize, y: usize, m: usize) -> bool
     ensures { λ r. ⌜ r ≡ both (ltb 0 l) (completes (filterOf filter .ahead) y m) ⌝ }
 {
     if l == 0 {

@@ -1,5 +1,5 @@
--- The level of an admission, strict or tolerant, as the streams know it (`levelOf`), and that it meets what is asked of one (`admission-laws`). A tolerant one from
--- the origin on refuses no set (`tolerant-goes`), whatever stands in the store, and what it makes is in range (`grid-fits`). Assumes nothing.
+-- The level of an admission, strict or tolerant, as the streams know it (`levelOf`), and that it meets what is asked of one (`admission-laws`). A tolerant one
+-- from the origin on refuses no set (`tolerant-goes`), whatever stands in the store, and what it makes is in range (`grid-fits`). Assumes nothing.
 use mathlib.Core.Path.{_≡_, refl, sym, ap, ap₂, subst, _∙_}
 use mathlib.Core.Bool.{Bool, true, false}
 use Prim.Native.Nat.{ℕ, zero, suc, _+_, _*_, _<_}
@@ -7,7 +7,7 @@ use native.Mathlib.Omega.{arith}
 use lib.IntN.{ℤ}
 use lib.Dec.{ltb}
 use Rattle.numbers.specs.Signal.{pick}
-use Rattle.lifting.specs.Grid.{Side, side, hasLine, loneHigh}
+use Rattle.lifting.specs.Grid.{Side, side, hasLine, singleHigh}
 use Rattle.lifting.specs.GridHalves.{hasLineIn}
 use Rattle.filters.specs.Filters.{filterOf}
 use Rattle.wavelet.specs.Bands.{Grid, Band}
@@ -58,7 +58,7 @@ admission-worked (suc a) (suc f) k W H last n x = back-worked (suc f) k W H last
 -- ---- from the origin on
 -- what a tolerant level makes is in its level's range
 limited-range : (k : ℕ) (W : Side) (h : ℕ) (p : Band → Grid) (r c : ℕ) → valueFits (filterOf 0) k (backLimited k W (side 0 h) p r c) ≡ true
-unfolding backLimited levelBackLimited loneHigh
+unfolding backLimited levelBackLimited singleHigh
 limited-range k W h p r c = limited-fits (filterOf 0) k _
 
 -- a row out of range is never drawn: by an admission of rows from 0 on, what is made fits where the strict test asks it
@@ -82,7 +82,7 @@ goes-pick true t u g h = g
 goes-pick false t u g h = h
 
 line-goes : (w q : ℕ) (x : ℕ → ℤ) → Goes (lineTried 4 (alongOf 0) (side 0 w) q x)
-unfolding lineTried rowHasLine hasLineIn hasLine loneHigh
+unfolding lineTried rowHasLine hasLineIn hasLine singleHigh
 line-goes w q x = (_, refl)
 
 -- a set of a tolerant level

@@ -55,7 +55,8 @@ module _ (ad f base spare : ℕ) (W H : Side) (l : ℕ) where
   }
 
   module _ (lim : Limits ad f base spare W H l) where
-    pub found-reached : (w : World) (e : Bool) (t : List Step) (fs : List FedRow) (ds : List (ℕ → ℤ)) (q : ℕ → ℤ) → Reached ad f base spare W H l lim w e t fs ds →
+    pub found-reached : (w : World) (e : Bool) (t : List Step) (fs : List FedRow) (ds : List (ℕ → ℤ)) (q : ℕ → ℤ)
+        → Reached ad f base spare W H l lim w e t fs ds →
         Reached ad f base spare W H l lim (found q w) e t fs ds
     found-reached _ e t fs ds q (reached d p _ x _ _ _ kept) =
         reached d p e (fronted (spare + storeBy f W (suc l)) x q) t fs ds

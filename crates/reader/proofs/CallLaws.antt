@@ -36,7 +36,7 @@ use Rattle.reader.specs.Answers.{gives, refused, impossible, Want, row, 
 use Rattle.level.specs.Tried.{Tried, failed, passed, fits, memory}
 use Rattle.level.specs.Stretch.{local}
 use Rattle.reader.specs.Store.{zeroed}
-use Rattle.reader_steps.specs.Places.{spot, placeOf, dive, enter, spotFed}
+use Rattle.reader_steps.specs.Places.{spot, placeOf, descend, enter, spotFed}
 use Rattle.reader.specs.State.{columns, rows, needs, next, nextRow, nextLength, unfinished, rowDue, drawDue, wants, settles, feeds, movedTo}
 use Rattle.reader.specs.State.{fedReader, drawnReader, endedReader}
 use Rattle.reader.specs.Questions.{countsFit, storeFits, runFits, wantQuestion, feedQuestion, drawQuestion}
@@ -45,7 +45,7 @@ use Rattle.reader.specs.Calls.{storeAfter, feedStore, drawReply, drawSto
 use Rattle.reader.specs.Inside.{Is, Small, Counts, storeQuestion, rowQuestion}
 use Rattle.level.specs.Rebuilding.{Kept, widest}
 use Rattle.areas.proofs.AreaLaws.{front-at, front-rest, did}
-use Rattle.reader.proofs.EnterLaws.{dive-level}
+use Rattle.reader.proofs.EnterLaws.{descend-level}
 use Rattle.reader.proofs.QuestionLaws.{counts-small}
 use Rattle.reader.proofs.StepLaws.{spot-of, next-draw}
 
@@ -288,9 +288,9 @@ drawn-row s a k l z u ea ek room made =
     ∙ ap (λ (f : ℕ → ℤ). fronted W (λ c. shown (s .stop) (f c)) z) (sym (back-made (s .filter) (columns s) (s .y) (s .drawn) (at l)))
 
 -- where a height row begins, from level 0 on
-pub enter-is : (f : ℕ) (W H : Side) (L d : ℕ) (p : Spot) → Is (dive f (L - 0) 0 W H d d) p → Is (enter f W H L d) p
+pub enter-is : (f : ℕ) (W H : Side) (L d : ℕ) (p : Spot) → Is (descend f (L - 0) 0 W H d d) p → Is (enter f W H L d) p
 unfolding enter
-enter-is f W H L d p is = let z : L - 0 ≡ L = omega arith in subst (λ (m : ℕ). Is (dive f m 0 W H d d) p) z is
+enter-is f W H L d p is = let z : L - 0 ≡ L = omega arith in subst (λ (m : ℕ). Is (descend f m 0 W H d d) p) z is
 
 -- ---- a height row handed out: its counts, where the next begins, its place a in a store of n numbers, and the heights
 module _ (s : Reader) (counts : Counts s) (due : s .drawn < s .height) where
@@ -300,11 +300,11 @@ module _ (s : Reader) (counts : Counts s) (due : s .drawn < s .height) where
   pub row-after : (d : ℕ) → d ≤ s .height → (0 ≤ s .levels) × (s .levels ≤ maxLevels) × (s .width ≤ 2 ^ 16) × (s .height < 2 ^ 32) × (d ≤ 2 ^ 34)
   row-after d more = let small = counts-small s counts in (zero-le, counts .few, small .0, small .2, omega (arith, small .2))
 
-  pub row-moves : (d : ℕ) (p : Spot) → d ≤ s .height → Is (dive (s .filter) (s .levels - 0) 0 (columns s) (rows s) d d) p →
+  pub row-moves : (d : ℕ) (p : Spot) → d ≤ s .height → Is (descend (s .filter) (s .levels - 0) 0 (columns s) (rows s) d d) p →
       Small (columns s) (rows s) d × (p .level ≤ maxLevels)
   row-moves d p more is =
       let small = counts-small s counts in
-      let deep = dive-level (s .filter) (s .levels - 0) 0 (columns s) (rows s) d d in
+      let deep = descend-level (s .filter) (s .levels - 0) 0 (columns s) (rows s) d d in
       ((small .0, small .1, small .2, small .3, more), omega (arith, deep, is .level, counts .few))
 
   module _ (n a : ℕ) (room : storeBy (s .filter) (columns s) (s .levels) ≤ n) (fit : a + s .width ≤ filterOf (s .filter) .rows * s .width) where

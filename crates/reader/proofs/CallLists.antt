@@ -173,10 +173,12 @@ module _ (ad f base spare : ℕ) (W H : Side) (l : ℕ) (lim : Limits ad f base 
         unfolding feedReply
         seen-stops = refl
 
-        pub feed-turned : (q : ℕ) → feedTurned f base W (spare + storeBy f W (suc l)) e t n a ≡ suc q → event (feed n a) (world ad f base spare W H l lim d p e x) ≡
+        pub feed-turned : (q : ℕ) → feedTurned f base W (spare + storeBy f W (suc l)) e t n a ≡ suc q
+            → event (feed n a) (world ad f base spare W H l lim d p e x) ≡
             fed a (refused (suc q))
         unfolding event
-        feed-turned q h = go (feed-view ad f base spare W H l lim d p (kept .drawn-le) (kept .level-le) (kept .band-le) (kept .back-le) n e (kept .lives) t x a viewed)
+        feed-turned q h = go (feed-view ad f base spare W H l lim d p (kept .drawn-le) (kept .level-le) (kept .band-le) (kept .back-le) n e
+            (kept .lives) t x a viewed)
           where
             go : FeedView ad f base spare W H l lim d p (kept .drawn-le) (kept .level-le) (kept .band-le) (kept .back-le) n e t x a →
                 seenFeed (feedQuestion (here ad f base spare W H l d p e) n x (a .size) (a .numbers)) ≡ fed a (refused (suc q))
@@ -186,7 +188,8 @@ module _ (ad f base spare : ℕ) (W H : Side) (l : ℕ) (lim : Limits ad f base 
         pub feed-on : feedTurned f base W (spare + storeBy f W (suc l)) e t n a ≡ 0 → OneOf (event (feed n a) (world ad f base spare W H l lim d p e x))
             (fed a (gives tt)) (fed a (refused 14))
         unfolding event
-        feed-on h = go (feed-view ad f base spare W H l lim d p (kept .drawn-le) (kept .level-le) (kept .band-le) (kept .back-le) n e (kept .lives) t x a viewed)
+        feed-on h = go (feed-view ad f base spare W H l lim d p (kept .drawn-le) (kept .level-le) (kept .band-le) (kept .back-le) n e
+            (kept .lives) t x a viewed)
           where
             zero-away : (q : ℕ) → q ≡ 0 → eqb q 0 ≡ false → ⊥
             zero-away q fr z = subst T (ap (λ i. eqb i 0) (sym fr) ∙ z) tt
@@ -326,7 +329,8 @@ module _ (ad f base spare : ℕ) (W H : Side) (l : ℕ) (lim : Limits ad f base 
 
       -- and the other way: what fits by the steps left is what is due
       fits-due : (P : Rows) (k n : ℕ) (c : Band) → Due f W H l d p k n c →
-          FeedFits ad f base W H (suc l) P (nameOf f W H l k n c) (stepsLeft f W H l d (beyond f W H (suc l) k n (code c))) → FeedDue ad f base W H (suc l) P k n
+          FeedFits ad f base W H (suc l) P (nameOf f W H l k n c) (stepsLeft f W H l d (beyond f W H (suc l) k n (code c)))
+          → FeedDue ad f base W H (suc l) P k n
           (code c)
       fits-due P k n c o fit = record {
         own = λ z. subst (SetFits ad f base W H P (suc l) k) number
@@ -463,7 +467,8 @@ module _ (ad f base spare : ℕ) (W H : Side) (l : ℕ) (lim : Limits ad f base 
         unfolding drawReply
         stop-says = refl
 
-        pub draw-works-here : event (draw n a) (world ad f base spare W H l lim d p e x) ≡ drew a (gives (heights (W .length))) after → SetsFit ad f base W H (suc l) P 0 d
+        pub draw-works-here : event (draw n a) (world ad f base spare W H l lim d p e x) ≡ drew a (gives (heights (W .length))) after
+            → SetsFit ad f base W H (suc l) P 0 d
         draw-works-here passes = go shown
           where
             no-row : (q : ℕ) → _≡_ {A = Reply Given} (refused q) (gives (heights (W .length))) → ⊥

@@ -253,7 +253,8 @@ module _ (ad f base spare : ℕ) (W H : Side) (l : ℕ) where
       unfolding feedTurned
       turned-is room e t a q w = rw room w
 
-      asked-away : Room ≡ true → (e : Bool) → Lives e → (t : List Step) (x : ℕ → ℤ) (a : Area) (q : ℕ) → View f W H l d p t → feedAway f base W e t a ≡ q → eqb q 0 ≡
+      asked-away : Room ≡ true → (e : Bool) → Lives e → (t : List Step) (x : ℕ → ℤ) (a : Area) (q : ℕ) → View f W H l d p t → feedAway f base W e t a ≡ q
+          → eqb q 0 ≡
           false →
           eqb q 14 ≡ false → FeedView e t x a
       asked-away room e goes t x a q v w g h = feed-away q (turned-is room e t a q w) g h (feed-asked room e goes t x a v
@@ -267,7 +268,8 @@ module _ (ad f base spare : ℕ) (W H : Side) (l : ℕ) where
       long-view room true goes t x a v = asked-away room true goes t x a 9 v refl refl refl
       long-view room false goes _ x a (at-end h) = asked-away room false goes [] x a 8 (at-end h) refl refl refl
       long-view room false goes _ x a (at-height due q) = asked-away room false goes _ x a 8 (at-height due q) refl refl refl
-      long-view room false goes _ x a (at-row k u c o) = go (eqb (a .size) (bandColumns W (suc k) c)) refl (runFits f (base + suc k) (a .size) (a .numbers)) refl
+      long-view room false goes _ x a (at-row k u c o) = go (eqb (a .size) (bandColumns W (suc k) c)) refl
+          (runFits f (base + suc k) (a .size) (a .numbers)) refl
         where
           steps : List Step
           steps = feed (nameOf f W H l k u c) ∷ stepsLeft f W H l d (beyond f W H (suc l) k u (code c))

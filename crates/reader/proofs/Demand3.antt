@@ -141,7 +141,12 @@ module _ (f base spare : ℕ) (W H : Side) (l : ℕ) (lim : Limits 0 f base spar
       fed-agrees = kept .rows (lookup fs) fed-has
 
       d-is : d ≡ H .length
-      d-is = omega (arith, kept .drawn-le, all-drawn 0 f base spare W H l lim d p e x t fs ds kept (subst (View f W H l d p) over (viewed 0 f base spare W H l lim d p e x t fs ds kept)))
+      d-is = omega (
+        arith,
+        kept .drawn-le,
+        all-drawn 0 f base spare W H l lim d p e x t fs ds kept
+            (subst (View f W H l d p) over (viewed 0 f base spare W H l lim d p e x t fs ds kept)),
+      )
 
       words-at : (k : ℕ) (c : Band) (r i : ℕ) → k ≤ l → r < count (down c) (sideAt k H) → i < count (across c) (sideAt k W) →
           SFits w32 (lookup fs (rowName (suc k) c r) i)
@@ -183,7 +188,8 @@ module _ (f base spare : ℕ) (W H : Side) (l : ℕ) (lim : Limits 0 f base spar
     finished-then : event want (world 0 f base spare W H l lim d p e x) ≡ wanted (gives done) →
         (g : Grid) × Map g × All (HasRow f W H g) fs × (length ds ≡ H .length) × FirstRows base W g ds
     finished-then z =
-        let w : _≡_ {A = Event} (wanted (gives (wantSays base W e t))) (wanted (gives done)) = sym (want-is 0 f base spare W H l lim d p e x t fs ds kept) ∙ z in
+        let w : _≡_ {A = Event} (wanted (gives (wantSays base W e t))) (wanted (gives done)) = sym (want-is 0 f base spare W H l lim d p e x t fs ds kept)
+        ∙ z in
         let v : wantSays base W e t ≡ done = cc in
         let o = done-only base W e t v in (
           grid (o .0) (o .1),
@@ -203,11 +209,13 @@ module _ (f base spare : ℕ) (W H : Side) (l : ℕ) (lim : Limits 0 f base spar
     unfolding wantSays
     then-finished g m has all =
         let live : e ≡ false = not-ended e (λ z. none-has z g m has) in
-        let over : t ≡ [] = none-left 0 f base spare W H l lim d p e x t fs ds kept t (viewed 0 f base spare W H l lim d p e x t fs ds kept) (omega (arith, kept .drawn, all)) in
+        let over : t ≡ [] = none-left 0 f base spare W H l lim d p e x t fs ds kept t (viewed 0 f base spare W H l lim d p e x t fs ds kept)
+        (omega (arith, kept .drawn, all)) in
         (want-is 0 f base spare W H l lim d p e x t fs ds kept) ∙ ap₂ (λ u v. wanted (gives (wantSays base W u v))) live over
 
   -- ---- the claim, for a world that is reached
-  pub claim : (w : World) (es : List Event) → Then 0 f base spare W H l lim es w → (all.countsFit (w .reader) ≡ true) × Demand3 f base spare W H (suc l) es (λ c. event c w)
+  pub claim : (w : World) (es : List Event) → Then 0 f base spare W H l lim es w → (all.countsFit (w .reader) ≡ true)
+      × Demand3 f base spare W H (suc l) es (λ c. event c w)
   claim _ es (reached d p e x t fs ds kept) = (
     counts 0 f base spare W H l lim d p (kept .drawn-le) (kept .level-le) (kept .band-le) (kept .back-le) e (kept .lives),
     record {
@@ -220,7 +228,8 @@ module _ (f base spare : ℕ) (W H : Side) (l : ℕ) (lim : Limits 0 f base spar
       first = λ g has. first-rows d p e x t fs ds kept g (has .map) (has .rows);
       feed-works = λ n a y t′ goes P has. feed-works-here 0 f base spare W H l lim d p e x t fs ds kept n a y t′ (goes .next) P has (goes .passes);
       draw-works = λ n a z passes P has.
-          subst (λ i. SetsFit 0 f base W H (suc l) P 0 i) (sym (kept .drawn)) (draw-works-here 0 f base spare W H l lim d p e x t fs ds kept n a z P has passes);
+          subst (λ i. SetsFit 0 f base W H (suc l) P 0 i) (sym (kept .drawn))
+          (draw-works-here 0 f base spare W H l lim d p e x t fs ds kept n a z P has passes);
       feed-ends = λ n a y t′ first ends P has. feed-ends-here 0 f base spare W H l lim d p e x t fs ds kept n a y t′ first P has ends;
       draw-ends = λ n a z ends P has fit.
           draw-ends-here 0 f base spare W H l lim d p e x t fs ds kept n a z P has ends (subst (λ i. SetsFit 0 f base W H (suc l) P 0 i) (kept .drawn) fit);

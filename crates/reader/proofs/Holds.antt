@@ -26,7 +26,7 @@ use Rattle.reader_steps.specs.Sets.{ahead, hasRow, rowOf, taking, needed, first
 use Rattle.reader_steps.specs.Asked.{keptAt, asked, bandsFrom, those, look, firstCode, nextBand, named}
 use Rattle.reader.specs.Admission.{workBy, gridBy, fitsBy, standsBy}
 use Rattle.reader.specs.Rebuilt.{Rows, bandsBy, rebuilt, bandsAt, partAt, SetFits, SetsFit}
-use Rattle.reader_steps.specs.Places.{Ready, hasCells, Spot, spot, bandAt, lastOfSet, nextUp, past, beyond, dive, begins, enter}
+use Rattle.reader_steps.specs.Places.{Ready, hasCells, Spot, spot, bandAt, lastOfSet, nextUp, past, beyond, descend, begins, enter}
 use Rattle.reader.specs.Holds.{Tested, M, FeedDue}
 use Rattle.level.specs.Tried.{Tried, passed, bind, onto}
 use Rattle.level.specs.Stands.{SetHasBy, SetFitsBy}
@@ -426,7 +426,7 @@ module _ (ad f base : ℕ) (W H : Side) (l : ℕ) (P : Rows) where
 
   abbrev startsAt : ℕ → ℕ → ℕ → Spot
   startsAt m k n = pick (leb (firstSet (sideAt k H) lo) n)
-      (dive f m (suc k) (next (sideAt k W)) (next (sideAt k H)) n (n - firstSet (sideAt k H) lo)) (spot (suc k) n 1)
+      (descend f m (suc k) (next (sideAt k W)) (next (sideAt k H)) n (n - firstSet (sideAt k H) lo)) (spot (suc k) n 1)
 
   begun-down : (k n : ℕ) (x : ℕ → ℤ) → hasRow H (suc k) n ≡ true → Begun k n x → Down (suc k) n (rowOf H (suc k) n) x
   begun-down k n x t s = record {
@@ -455,13 +455,13 @@ module _ (ad f base : ℕ) (W H : Side) (l : ℕ) (P : Rows) where
       low-low = unfold down in refl
 
   begin-holds : (m k n : ℕ) (x : ℕ → ℤ) → k ≤ l → Begun k n x →
-      ((n r : ℕ) → taking H (suc k) r ≡ n → Down (suc k) n r x → HeldAt (dive f m (suc k) (sideAt (suc k) W) (sideAt (suc k) H) n r) x) →
+      ((n r : ℕ) → taking H (suc k) r ≡ n → Down (suc k) n r x → HeldAt (descend f m (suc k) (sideAt (suc k) W) (sideAt (suc k) H) n r) x) →
       HeldAt (startsAt m k n) x
   unfolding sideAt hasRow rowOf
   begin-holds m k n x h s g = go (leb (firstSet (sideAt k H) lo) n) refl
     where
       go : (t : Bool) → leb (firstSet (sideAt k H) lo) n ≡ t →
-          HeldAt (pick t (dive f m (suc k) (next (sideAt k W)) (next (sideAt k H)) n (n - firstSet (sideAt k H) lo)) (spot (suc k) n 1)) x
+          HeldAt (pick t (descend f m (suc k) (next (sideAt k W)) (next (sideAt k H)) n (n - firstSet (sideAt k H) lo)) (spot (suc k) n 1)) x
       go true t = g n (n - firstSet (sideAt k H) lo) (taking-row H (suc k) n t) (begun-down k n x t s)
       go false t = begun-alone k n x h t s
 
@@ -534,18 +534,18 @@ module _ (ad f base : ℕ) (W H : Side) (l : ℕ) (P : Rows) where
       same : (j : ℕ) → suc k ≤ j → needed f H k (taking H k q) j ≡ needed f H k n j
       same j b = needed-on f H k (taking H k q) _ at-q j b ∙ sym (needed-on f H k n _ at-n j b)
 
-  dive-holds : (m k n r : ℕ) (x : ℕ → ℤ) → k + m ≡ suc l → taking H k r ≡ n → Down k n r x → HeldAt (dive f m k (sideAt k W) (sideAt k H) n r) x
-  unfolding dive
-  dive-holds zero k n r x e t s = record {
+  descend-holds : (m k n r : ℕ) (x : ℕ → ℤ) → k + m ≡ suc l → taking H k r ≡ n → Down k n r x → HeldAt (descend f m k (sideAt k W) (sideAt k H) n r) x
+  unfolding descend
+  descend-holds zero k n r x e t s = record {
     below = λ _ j live q. absurd (omega (arith, live .0));
     before = s .before;
     got = λ j live q c kept less. absurd (omega arith);
   }
-  dive-holds (suc m) k n r x e t s =
-      go (hasCells (sideAt k W) (sideAt k H)) refl (opens (ahead f) (sideAt k H) r) refl (λ n r t s. dive-holds m (suc k) n r x (omega arith) t s)
+  descend-holds (suc m) k n r x e t s =
+      go (hasCells (sideAt k W) (sideAt k H)) refl (opens (ahead f) (sideAt k H) r) refl (λ n r t s. descend-holds m (suc k) n r x (omega arith) t s)
     where
       go : (c : Bool) → hasCells (sideAt k W) (sideAt k H) ≡ c → (o : Bool) → opens (ahead f) (sideAt k H) r ≡ o →
-          ((n r : ℕ) → taking H (suc k) r ≡ n → Down (suc k) n r x → HeldAt (dive f m (suc k) (sideAt (suc k) W) (sideAt (suc k) H) n r) x) →
+          ((n r : ℕ) → taking H (suc k) r ≡ n → Down (suc k) n r x → HeldAt (descend f m (suc k) (sideAt (suc k) W) (sideAt (suc k) H) n r) x) →
           HeldAt (pick (both c o) (startsAt m k (setsBefore (ahead f) (sideAt k H) r)) (spot k n 1)) x
       go false c o _ ih = rests k n x (omega arith) (s .before) (λ j live q. absurd (empty-past k j c q live))
       go true c false o ih = down-rests k n r x (omega arith) t o s
@@ -556,14 +556,14 @@ module _ (ad f base : ℕ) (W H : Side) (l : ℕ) (P : Rows) where
   pub first-holds : (x : ℕ → ℤ) → HeldAt (enter f W H (suc l) 0) x
   unfolding enter sideAt
   first-holds x =
-      dive-holds (suc l) 0 0 0 x (omega arith) (unfold taking in refl)
+      descend-holds (suc l) 0 0 0 x (omega arith) (unfold taking in refl)
       (record { before = λ j h e. absurd (omega arith); done = λ q e. absurd (omega arith) })
 
   -- ---- a row drawn: the next one begins
   pub enter-holds : (d b : ℕ) (x : ℕ → ℤ) → Held 0 d b x → HeldAt (enter f W H (suc l) (suc d)) x
   unfolding enter sideAt
   enter-holds d b x s =
-      dive-holds (suc l) 0 (suc d) (suc d) x (omega arith) (unfold taking in refl)
+      descend-holds (suc l) 0 (suc d) (suc d) x (omega arith) (unfold taking in refl)
       (record {
         before = λ j h e. absurd (omega arith);
         done = λ q e j h g. subst (λ i. LeavesAt j (needed f H 0 i (suc j)) (mem f W j x)) (row-q q e) (s .below (unfold hasRow in refl) j h g);
@@ -574,9 +574,9 @@ module _ (ad f base : ℕ) (W H : Side) (l : ℕ) (P : Rows) where
 
   -- ---- past a set that is worked out
   -- a set without a low row that makes a row is of a level whose next is empty
-  lone : (k n j : ℕ) → n ≤ lastSet (sideAt k H) → makes f (sideAt k H) n ≡ true → hasRow H (suc k) n ≡ false → Live j → suc k ≤ j → ⊥
+  single : (k n j : ℕ) → n ≤ lastSet (sideAt k H) → makes f (sideAt k H) n ≡ true → hasRow H (suc k) n ≡ false → Live j → suc k ≤ j → ⊥
   unfolding hasRow
-  lone k n j there e t live q =
+  single k n j there e t live q =
       let S = sideAt k H in
       let b = leb-false (firstSet S lo) n t in
       let c = cells-are (sideAt (suc k) W) (sideAt (suc k) H) (cells-before W H (suc k) j q (live .1)) .1 in
@@ -599,7 +599,7 @@ module _ (ad f base : ℕ) (W H : Side) (l : ℕ) (P : Rows) where
     where
       coarse : (t : Bool) → hasRow H (suc k) n ≡ t → (j : ℕ) → Live j → suc k ≤ j → LeavesAt j (needed f H (suc k) n (suc j)) (mem f W j z)
       coarse true t j live q = s .below t j live q
-      coarse false t j live q = absurd (lone k n j there e t live q)
+      coarse false t j live q = absurd (single k n j there e t live q)
 
   next-begun : (k n : ℕ) (z : ℕ → ℤ) → makes f (sideAt k H) n ≡ false → Worked k n z → Begun k (suc n) z
   unfolding waiting
@@ -625,7 +625,7 @@ module _ (ad f base : ℕ) (W H : Side) (l : ℕ) (P : Rows) where
       go true e = up-holds k n z h there e s
       go false e =
           subst (λ q. HeldAt q z) (sym (begins-is f W H l (l - k) k (suc n) (omega arith)))
-          (begin-holds (l - k) k (suc n) z h (next-begun k n z e s) (λ n r t q. dive-holds (l - k) (suc k) n r z (omega arith) t q))
+          (begin-holds (l - k) k (suc n) z h (next-begun k n z e s) (λ n r t q. descend-holds (l - k) (suc k) n r z (omega arith) t q))
 
   -- ---- the sets that wait
   -- a set of which no band from b on is asked for has all of them
@@ -751,7 +751,8 @@ module _ (ad f base : ℕ) (W H : Side) (l : ℕ) (P : Rows) where
           ((y : ℕ → ℤ) → Held k (waiting f H k n) 1 y → Outcome (NextFits d to) (HeldNext d to)
           (settled ad f base W H (suc l) (to .level) k (waiting f H k n) y)) →
           Outcome (NextFits d to) (HeldNext d to)
-          (pick (ltb (to .level) (suc k)) (bind (workedAt ad f base W H (suc l) k n x) (settled ad f base W H (suc l) (to .level) k (waiting f H k n))) (passed x))
+          (pick (ltb (to .level) (suc k)) (bind (workedAt ad f base W H (suc l) k n x) (settled ad f base W H (suc l) (to .level) k (waiting f H k n)))
+          (passed x))
       on e ih = rw (lt-ltb (to .level) (suc k) (omega (arith, next-le k (waiting f H k n) 1)))
           (bind-outcome (workedAt ad f base W H (suc l) k n x) _
           (by-outcome _ _ _ _ _ (due e) (λ y q. up-holds k n y (omega arith) (r .there k refl) (r .asks k refl (ap firstCode e)) q)
@@ -759,7 +760,8 @@ module _ (ad f base : ℕ) (W H : Side) (l : ℕ) (P : Rows) where
 
       go : (xs : List Band) → those p (bandsFrom b) ≡ xs →
           (firstCode (those p (bandsFrom b)) ≡ 4 →
-          (y : ℕ → ℤ) → Held k (waiting f H k n) 1 y → Outcome (NextFits d to) (HeldNext d to) (settled ad f base W H (suc l) (to .level) k (waiting f H k n) y)) →
+          (y : ℕ → ℤ) → Held k (waiting f H k n) 1 y
+          → Outcome (NextFits d to) (HeldNext d to) (settled ad f base W H (suc l) (to .level) k (waiting f H k n) y)) →
           Outcome (NextFits d (pick (ltb (firstCode xs) 4) (spot (suc k) n (firstCode xs)) to))
           (HeldNext d (pick (ltb (firstCode xs) 4) (spot (suc k) n (firstCode xs)) to))
           (pick (ltb (pick (ltb (firstCode xs) 4) (spot (suc k) n (firstCode xs)) to .level) (suc k))

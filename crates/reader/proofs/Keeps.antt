@@ -21,14 +21,15 @@ use Rattle.reader.specs.Answers.{Reply, gives, refused, impossible, Hand
 use Rattle.reader.specs.Rebuilt.{Rows, partAt}
 use Rattle.level.specs.Tried.{Tried, failed, passed, fits, memory}
 use Rattle.reader_steps.specs.Sets.{ahead, needed, waitsAt}
-use Rattle.reader_steps.specs.Places.{Spot, spot, Place, place, placeOf, spotFed, beyond, dive, enter, Ready}
+use Rattle.reader_steps.specs.Places.{Spot, spot, Place, place, placeOf, spotFed, beyond, descend, enter, Ready}
 use Rattle.reader.specs.State.{columns, needs, next, nextRow, nextLength, settles, feeds, drawDue, fedReader, drawnReader, endedReader}
 use Rattle.reader.specs.Admission.{Admits}
 use Rattle.reader.specs.Questions.{countsInside, countsFit, stopFits, storeFits, setUpQuestion, feedQuestion, drawQuestion}
 use Rattle.lifting.specs.Halves.{fronted}
 use Rattle.filters.specs.Figures.{storeBy}
 use Rattle.reader.specs.Limited.{drawnAs}
-use Rattle.reader.specs.Calls.{freshBy, fresh, freshTolerant, setUpReply, tolerantReply, setUpStore, feedReply, feedStore, storeAfter, drawReply, drawStore, drawArea, heightRow}
+use Rattle.reader.specs.Calls.{freshBy, fresh, freshTolerant, setUpReply, tolerantReply, setUpStore, feedReply, feedStore, storeAfter, drawReply}
+use Rattle.reader.specs.Calls.{drawStore, drawArea, heightRow}
 use Rattle.reader.specs.Holds.{Holds, FeedDue, WantedFits, DrawnFits, IsWanted, SetUpHolds, FeedKeeps, DrawKeeps}
 use Rattle.reader_steps.proofs.Looks.{named-code}
 use Rattle.reader_steps.proofs.StepsLeft.{stepsLeft}
@@ -178,7 +179,17 @@ holds-at ad f base spare W H l d q P x ready h =
 
 module _ (ad f base spare : ℕ) (W H : Side) (l d : ℕ) (p : Place) (e : Bool) (n : ℕ) (x : ℕ → ℤ) where
   limits-of : Inside ad f base spare W H l d p e → Limits ad f base spare W H l
-  limits-of i = record { across = i .across; down = i .down; wide = i .wide; high = i .high; known = i .known; deep = i .deep; stop = i .stop; admits = i .admits }
+  limits-of i = record {
+    across = i .across;
+    down = i .down;
+    wide = i .wide;
+    high = i .high;
+    known = i .known;
+    deep = i .deep;
+    stop = i .stop;
+    admits = i
+        .admits;
+  }
 
   -- ---- feed
   module _ (a : Area) where
@@ -202,7 +213,8 @@ module _ (ad f base spare : ℕ) (W H : Side) (l d : ℕ) (p : Place) (e : Bool)
     onward ready never b g =
         let t = two-yes (countsFit (s ad f base spare W H l d p e)) (storeFits (spare + storeBy f W (suc l)) n) _ q refl b g in
         let i = inside ad f base spare W H l d p e (t .0) in
-        go i (feed-view ad f base spare W H l (limits-of i) d p (i .drawn-le) (i .level-le) (i .band-le) (i .back-le) n e (i .lives) (stepsLeft f W H l d (at f W H l d p))
+        go i (feed-view ad f base spare W H l (limits-of i) d p (i .drawn-le) (i .level-le) (i .band-le) (i .back-le) n e (i .lives)
+        (stepsLeft f W H l d (at f W H l d p))
         x a
         (view f W H l d p (i .level-le) ready))
       where
@@ -250,7 +262,8 @@ module _ (ad f base spare : ℕ) (W H : Side) (l d : ℕ) (p : Place) (e : Bool)
             (o .u) (o .c) (o .row) v
             (wanted-row P o row))
 
-        tried : (o : Onward) → q ≡ 0 → (t : Reader) → t ≡ fedReader (s ad f base spare W H l d p e) → (P : Rows) → IsWanted P (s ad f base spare W H l d p e) v →
+        tried : (o : Onward) → q ≡ 0 → (t : Reader) → t ≡ fedReader (s ad f base spare W H l d p e) → (P : Rows)
+            → IsWanted P (s ad f base spare W H l d p e) v →
             Holds P (s ad f base spare W H l d p e) x → (u : Tried) → feeds (s ad f base spare W H l d p e) v x ≡ u → Holds P t
             (feedStore (s ad f base spare W H l d p e) q v x)
         tried o z t same P row h failed g = absurd (omega (arith, no-mix failed 0 z (o .asks) g, ask-failed))
@@ -301,12 +314,14 @@ module _ (ad f base spare : ℕ) (W H : Side) (l d : ℕ) (p : Place) (e : Bool)
     drawing ready never b g idle =
         let t = two-yes (countsFit (s ad f base spare W H l d p e)) (storeFits (spare + storeBy f W (suc l)) n) _ o₀ refl b g in
         let i = inside ad f base spare W H l d p e (t .0) in
-        go i (draw-view ad f base spare W H l (limits-of i) d p (i .drawn-le) (i .level-le) (i .band-le) (i .back-le) n e (i .lives) (stepsLeft f W H l d (at f W H l d p))
+        go i (draw-view ad f base spare W H l (limits-of i) d p (i .drawn-le) (i .level-le) (i .band-le) (i .back-le) n e (i .lives)
+        (stepsLeft f W H l d (at f W H l d p))
         x a
         (view f W H l d p (i .level-le) ready))
       where
         go : (i : Inside ad f base spare W H l d p e) {lim : Limits ad f base spare W H l} →
-            DrawView ad f base spare W H l lim d p (i .drawn-le) (i .level-le) (i .band-le) (i .back-le) n e (stepsLeft f W H l d (at f W H l d p)) x a → Drawing
+            DrawView ad f base spare W H l lim d p (i .drawn-le) (i .level-le) (i .band-le) (i .back-le) n e (stepsLeft f W H l d (at f W H l d p)) x a
+            → Drawing
         go i (draw-away r z y _ at) = absurd (never (ap (λ j. eqb j 0) at ∙ z) (ap (λ j. eqb j 14) at ∙ y))
         go i (draw-idle live z _ at) = absurd (idle z at)
         go i (draw-onward live due at-height head to-draw _ at) =
@@ -328,7 +343,8 @@ module _ (ad f base spare : ℕ) (W H : Side) (l d : ℕ) (p : Place) (e : Bool)
     unfolding drawnReader
     drawn-reader = refl
 
-    same-test : (u : Tried) (r : ℕ) → o₀ ≡ r → o₀ ≡ ask (fits (settles (s ad f base spare W H l d p e) x)) 14 0 → settles (s ad f base spare W H l d p e) x ≡ u →
+    same-test : (u : Tried) (r : ℕ) → o₀ ≡ r → o₀ ≡ ask (fits (settles (s ad f base spare W H l d p e) x)) 14 0
+        → settles (s ad f base spare W H l d p e) x ≡ u →
         ask (fits u) 14 0 ≡ r
     same-test u r z k h = sym (ap (λ w. ask (fits w) 14 0) h) ∙ sym k ∙ z
 
@@ -418,7 +434,7 @@ draw-counts s n m x f g = two-yes (countsFit s) (storeFits (needs s) n) _ (drawQ
 fresh-holds : (ad f : ℕ) (W H : Side) (L : ℕ) (P : Rows) (y : ℕ → ℤ) → Holds P (freshBy ad f 0 0 W H L) y
 unfolding freshBy
 fresh-holds ad f W H zero P y = record {
-  ready = λ _. unfold enter dive needed in record {
+  ready = λ _. unfold enter descend needed in record {
     top = unfold waitsAt in refl;
     cells = λ k e. absurd (omega arith);
     there = λ k e. absurd (omega arith);
@@ -459,7 +475,8 @@ feed-keeps s n m x v = at (s .levels)
   where
     at : (L : ℕ) → (let u = at-levels L s in FeedKeeps u v x (feedReply u (feedQuestion u n x m v)) (feedStore u (feedQuestion u n x m v) v x))
     at (suc l) =
-        feed-at (s .admission) (s .filter) (s .stop) (s .spare) (side (s .x) (s .width)) (side (s .y) (s .height)) l (s .drawn) (place (s .level) (s .back) (s .band))
+        feed-at (s .admission) (s .filter) (s .stop) (s .spare) (side (s .x) (s .width)) (side (s .y) (s .height)) l (s .drawn)
+        (place (s .level) (s .back) (s .band))
         (s .ended) n x
         (record { size = m; numbers = v })
     at zero =
@@ -479,7 +496,8 @@ draw-keeps s n m x z = at (s .levels)
     at : (L : ℕ) → (let u = at-levels L s in
         DrawKeeps u x (drawReply u (drawQuestion u n x m)) (drawStore u (drawQuestion u n x m) x) (drawArea u (drawQuestion u n x m) x z))
     at (suc l) =
-        draw-at (s .admission) (s .filter) (s .stop) (s .spare) (side (s .x) (s .width)) (side (s .y) (s .height)) l (s .drawn) (place (s .level) (s .back) (s .band))
+        draw-at (s .admission) (s .filter) (s .stop) (s .spare) (side (s .x) (s .width)) (side (s .y) (s .height)) l (s .drawn)
+        (place (s .level) (s .back) (s .band))
         (s .ended) n x
         (record { size = m; numbers = z })
     at zero =

@@ -45,9 +45,11 @@ shown-is F zero v h = let fit = height-fits F v .0 h in height-kept v (fit .0) (
 shown-is F (suc b) v h = refl
 
 -- the height row that is drawn
-pub row-out : (ad f base spare : ℕ) (W H : Side) (l d : ℕ) (p : Place) (e : Bool) → (0 < ad → H .start ≡ 0) → d < H .length → 0 < W .length → (P : Rows) (y : ℕ → ℤ) → Held ad f base W H l P
+pub row-out : (ad f base spare : ℕ) (W H : Side) (l d : ℕ) (p : Place) (e : Bool) → (0 < ad → H .start ≡ 0) → d < H .length → 0 < W .length
+    → (P : Rows) (y : ℕ → ℤ) → Held ad f base W H l P
     0 d 4 y →
-    (z : ℕ → ℤ) (c : ℕ) → c < W .length → fronted (W .length) (heightRow (here ad f base spare W H l d p e) y) z c ≡ drawnAs base (partAt ad f base W H P (suc l) 0 d c)
+    (z : ℕ → ℤ) (c : ℕ) → c < W .length → fronted (W .length) (heightRow (here ad f base spare W H l d p e) y) z c ≡ drawnAs base
+    (partAt ad f base W H P (suc l) 0 d c)
 unfolding fronted heightRow
 row-out ad f base spare W H l d p e start due wide P y h z c b =
     rw (lt-ltb c (W .length) b) (ap (shown base) (height-made ad f base W H l P d y due wide h c b)

@@ -36,7 +36,7 @@ use Rattle.level.specs.Stands.{SetHasBy}
 use Rattle.reader_steps.specs.Sets.{ahead, hasRow, rowOf, needed, makes, waiting}
 use Rattle.reader_steps.specs.Asked.{keptAt}
 use Rattle.reader.specs.Rebuilt.{Rows, bandsAt, partAt}
-use Rattle.reader_steps.specs.Places.{hasCells, Spot, spot, Place, placeOf, lastOfSet, spotFed, past, beyond, dive, begins, enter, Ready}
+use Rattle.reader_steps.specs.Places.{hasCells, Spot, spot, Place, placeOf, lastOfSet, spotFed, past, beyond, descend, begins, enter, Ready}
 use Rattle.level.specs.Tried.{Tried, failed, passed, fits, memory}
 use Rattle.reader.specs.Holds.{FeedDue}
 use Rattle.reader.specs.State as state
@@ -64,12 +64,12 @@ abbrev pub namesOf : List FedRow → List RowName
 namesOf = map (λ f. f .row)
 
 -- where a number of a level begins, and past a set, the numbers are inside their ranges
-dive-le : (f l m k : ℕ) (W H : Side) (n r : ℕ) → k + m ≡ suc l → (dive f m k W H n r .level ≤ suc l) × (dive f m k W H n r .band ≤ 4)
-unfolding dive
-dive-le f l zero k W H n r e = (omega arith, omega arith)
-dive-le f l (suc m) k W H n r e =
+descend-le : (f l m k : ℕ) (W H : Side) (n r : ℕ) → k + m ≡ suc l → (descend f m k W H n r .level ≤ suc l) × (descend f m k W H n r .band ≤ 4)
+unfolding descend
+descend-le f l zero k W H n r e = (omega arith, omega arith)
+descend-le f l (suc m) k W H n r e =
     go (both (hasCells W H) (opens (ahead f) H r)) (leb (firstSet H lo) (setsBefore (ahead f) H r)) _
-    (dive-le f l m (suc k) (next W) (next H) (setsBefore (ahead f) H r) (setsBefore (ahead f) H r - firstSet H lo) (omega arith))
+    (descend-le f l m (suc k) (next W) (next H) (setsBefore (ahead f) H r) (setsBefore (ahead f) H r - firstSet H lo) (omega arith))
   where
     go : (t u : Bool) (q : Spot) → (q .level ≤ suc l) × (q .band ≤ 4) →
         (pick t (pick u q (spot (suc k) (setsBefore (ahead f) H r) 1)) (spot k n 1) .level ≤ suc l)
@@ -80,17 +80,17 @@ dive-le f l (suc m) k W H n r e =
 
 pub enter-le : (f : ℕ) (W H : Side) (l d : ℕ) → (enter f W H (suc l) d .level ≤ suc l) × (enter f W H (suc l) d .band ≤ 4)
 unfolding enter
-enter-le f W H l d = dive-le f l (suc l) 0 W H d d (omega arith)
+enter-le f W H l d = descend-le f l (suc l) 0 W H d d (omega arith)
 
 begins-le : (f : ℕ) (W H : Side) (l k n : ℕ) → k ≤ l → (begins f W H (suc l) (suc k) n .level ≤ suc l) × (begins f W H (suc l) (suc k) n .band ≤ 4)
 unfolding begins
 begins-le f W H l k n h = go (hasRow H (suc k) n)
   where
     to : Spot
-    to = dive f (suc l - suc k) (suc k) (sideAt (suc k) W) (sideAt (suc k) H) n (rowOf H (suc k) n)
+    to = descend f (suc l - suc k) (suc k) (sideAt (suc k) W) (sideAt (suc k) H) n (rowOf H (suc k) n)
 
     go : (t : Bool) → (pick t to (spot (suc k) n 1) .level ≤ suc l) × (pick t to (spot (suc k) n 1) .band ≤ 4)
-    go true = dive-le f l (suc l - suc k) (suc k) _ _ _ _ (omega arith)
+    go true = descend-le f l (suc l - suc k) (suc k) _ _ _ _ (omega arith)
     go false = (omega arith, omega arith)
 
 pub beyond-le : (f : ℕ) (W H : Side) (l k n c : ℕ) → k ≤ l → c < 4 → (beyond f W H (suc l) k n c .level ≤ suc l) × (beyond f W H (suc l) k n c .band ≤ 4)
@@ -209,7 +209,8 @@ module _ (ad f base spare : ℕ) (W H : Side) (l : ℕ) where
           outcome-is : (P : Rows) → All (HasFedRow W P) (fs ++ (fr ∷ [])) →
               Outcome (FeedDue ad f base W H (suc l) P k u (code c)) (HeldAt ad f base W H l P (beyond f W H (suc l) k u (code c))) (feeds s (a .numbers) x)
           outcome-is P has =
-              feeds-outcome ad f base spare W H l d p (kept .level-le) (kept .ready (o .due)) P x (kept .rows P (all-left fs (fr ∷ []) has) .holds live (o .due))
+              feeds-outcome ad f base spare W H l d p (kept .level-le) (kept .ready (o .due)) P x
+              (kept .rows P (all-left fs (fr ∷ []) has) .holds live (o .due))
               e k u c o
               (a .numbers) (all-last fs fr has)
 
@@ -302,7 +303,8 @@ module _ (ad f base spare : ℕ) (W H : Side) (l : ℕ) where
               reached d stored false y (stepsLeft f W H l d to) (fs ++ (fr ∷ [])) ds (on-kept y z₁))
 
         feed-reached : FedTo (feedQuestion s n x (a .size) (a .numbers))
-        feed-reached = go (feed-view ad f base spare W H l lim d p (kept .drawn-le) (kept .level-le) (kept .band-le) (kept .back-le) n e (kept .lives) t x a viewed)
+        feed-reached = go (feed-view ad f base spare W H l lim d p (kept .drawn-le) (kept .level-le) (kept .band-le) (kept .back-le) n e
+            (kept .lives) t x a viewed)
           where
             go : FeedView ad f base spare W H l lim d p (kept .drawn-le) (kept .level-le) (kept .band-le) (kept .back-le) n e t x a
                 → FedTo (feedQuestion s n x (a .size) (a .numbers))
@@ -423,7 +425,8 @@ module _ (ad f base spare : ℕ) (W H : Side) (l : ℕ) where
               names = λ _. names-same ∙ kept .names live;
               rows = λ P has.
                   let old = kept .rows P has in
-                  let h : Held ad f base W H l P 0 d 4 y = outcome-passed y (subst (Outcome (NextFits ad f base W H l P d (spot 0 0 4)) _) made (settles-is P has)) in
+                  let h : Held ad f base W H l P 0 d 4 y = outcome-passed y
+                  (subst (Outcome (NextFits ad f base W H l P d (spot 0 0 4)) _) made (settles-is P has)) in
                   record {
                     fit = λ r c b q. elim (ℕ-discrete r d) [
                       | yes z ↦ rw z (height-fit ad f base W H l P d y due wide h at-top c q)
@@ -449,7 +452,8 @@ module _ (ad f base spare : ℕ) (W H : Side) (l : ℕ) where
                 (reached (suc d) kept-as false y (stepsLeft f W H l (suc d) into) fs (ds ++ (out ∷ [])) given-kept)
 
         draw-reached : DrawnTo (drawQuestion s n x (a .size))
-        draw-reached = go (draw-view ad f base spare W H l lim d p (kept .drawn-le) (kept .level-le) (kept .band-le) (kept .back-le) n e (kept .lives) t x a viewed)
+        draw-reached = go (draw-view ad f base spare W H l lim d p (kept .drawn-le) (kept .level-le) (kept .band-le) (kept .back-le) n e
+            (kept .lives) t x a viewed)
           where
             go : DrawView ad f base spare W H l lim d p (kept .drawn-le) (kept .level-le) (kept .band-le) (kept .back-le) n e t x a → DrawnTo
                 (drawQuestion s n x (a .size))

@@ -17,7 +17,7 @@ use Rattle.wavelet.specs.Steps.{setsBefore}
 use Rattle.level.specs.Sets.{opens}
 use Rattle.reader_steps.specs.Sets.{ahead, hasRow, rowOf, taking, makes, waiting, waitsAt}
 use Rattle.reader_steps.specs.Asked.{asked}
-use Rattle.reader_steps.specs.Places.{hasCells, Spot, spot, Place, bandAt, lastOfSet, nextUp, past, beyond, dive, begins, Ready}
+use Rattle.reader_steps.specs.Places.{hasCells, Spot, spot, Place, bandAt, lastOfSet, nextUp, past, beyond, descend, begins, Ready}
 use Rattle.reader.specs.Demand3.{setNumber, goesOnSet}
 use Rattle.reader_steps.proofs.Looks.{code-lt}
 use Rattle.reader_steps.proofs.OpenedSets.{opened-row, taking-row, waits-here, waits-finer}
@@ -34,10 +34,10 @@ module _ (f : ℕ) (W H : Side) (l : ℕ) where
   As k n q = (j : ℕ) → j ≤ k → waitsAt f H (q .level) (q .set) j ≡ waitsAt f H k n j
 
   -- where number n of level k begins, which takes row r
-  dive-waits : (m k n r : ℕ) → taking H k r ≡ n → As k n (dive f m k (sideAt k W) (sideAt k H) n r)
-  unfolding dive sideAt rowOf hasRow
-  dive-waits zero k n r t = λ j h. refl
-  dive-waits (suc m) k n r t = go (hasCells (sideAt k W) S) (opens (ahead f) S r) refl (dive-waits m (suc k))
+  descend-waits : (m k n r : ℕ) → taking H k r ≡ n → As k n (descend f m k (sideAt k W) (sideAt k H) n r)
+  unfolding descend sideAt rowOf hasRow
+  descend-waits zero k n r t = λ j h. refl
+  descend-waits (suc m) k n r t = go (hasCells (sideAt k W) S) (opens (ahead f) S r) refl (descend-waits m (suc k))
     where
       S : Side
       S = sideAt k H
@@ -46,10 +46,10 @@ module _ (f : ℕ) (W H : Side) (l : ℕ) where
       s = setsBefore (ahead f) S r
 
       to : Spot
-      to = dive f m (suc k) (next (sideAt k W)) (next S) s (s - firstSet S lo)
+      to = descend f m (suc k) (next (sideAt k W)) (next S) s (s - firstSet S lo)
 
       Deeper : Type 0
-      Deeper = (n r : ℕ) → taking H (suc k) r ≡ n → As (suc k) n (dive f m (suc k) (sideAt (suc k) W) (sideAt (suc k) H) n r)
+      Deeper = (n r : ℕ) → taking H (suc k) r ≡ n → As (suc k) n (descend f m (suc k) (sideAt (suc k) W) (sideAt (suc k) H) n r)
 
       up : opens (ahead f) S r ≡ true → As k n (spot (suc k) s 1)
       up o j h = waits-finer f H k s j h ∙ ap (λ i. waitsAt f H k i j) (unfold waiting in ap (taking H k) (opened-row f S r o) ∙ t)
@@ -68,8 +68,8 @@ module _ (f : ℕ) (W H : Side) (l : ℕ) where
   begins-waits k n = go (hasRow H (suc k) n) refl
     where
       go : (t : Bool) → hasRow H (suc k) n ≡ t →
-          As (suc k) n (pick t (dive f (suc l - suc k) (suc k) (sideAt (suc k) W) (sideAt (suc k) H) n (rowOf H (suc k) n)) (spot (suc k) n 1))
-      go true t = dive-waits (suc l - suc k) (suc k) n (rowOf H (suc k) n) (taking-row H (suc k) n t)
+          As (suc k) n (pick t (descend f (suc l - suc k) (suc k) (sideAt (suc k) W) (sideAt (suc k) H) n (rowOf H (suc k) n)) (spot (suc k) n 1))
+      go true t = descend-waits (suc l - suc k) (suc k) n (rowOf H (suc k) n) (taking-row H (suc k) n t)
       go false t = λ j h. refl
 
   -- the row wanted is of the set that its level waits for

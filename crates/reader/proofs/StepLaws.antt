@@ -25,7 +25,7 @@ use Rattle.reader_steps.specs.Sets.{hasRow, rowOf, taking, firstRow, makes, wai
 use Rattle.reader_steps.specs.Asked.{named}
 use Rattle.level.specs.Tried.{failed, passed}
 use Rattle.reader.specs.Store.{fedAt}
-use Rattle.reader_steps.specs.Places.{spot, bandAt, nextUp, lastOfSet, past, beyond, dive, begins, spotFed}
+use Rattle.reader_steps.specs.Places.{spot, bandAt, nextUp, lastOfSet, past, beyond, descend, begins, spotFed}
 use Rattle.reader.specs.Machine.{settled, finished, fedOn}
 use Rattle.reader_steps.specs.Places as machine
 use Rattle.reader.specs.State.{columns, rows, spotNow, next, nextRow, nextLength, settles, feeds}
@@ -34,7 +34,7 @@ use Rattle.reader.specs.Inside.{Counts, IsLevel, Is, IsNext}
 use Rattle.wavelet.proofs.SideLaws.{size-le}
 use Rattle.reader.proofs.QuestionLaws.{counts-small}
 use Rattle.level.proofs.WorkLaws.{bind-failed, bind-passed}
-use Rattle.reader.proofs.EnterLaws.{dive-level}
+use Rattle.reader.proofs.EnterLaws.{descend-level}
 use Rattle.reader.proofs.PartLaws.{level-wide, level-high}
 
 pub spot-of : (q : machine.Spot) (p : Spot) → Is q p → spot (p .level) (p .set) (p .band) ≡ q
@@ -114,7 +114,8 @@ module _ (s : Reader) where
     feed-on v x y n h set e =
         ap (λ (i : ℕ). finished (s .admission) (s .filter) (s .stop) (columns s) (rows s) (s .levels) (p .level - 1) i (p .band)
         (fedAt (s .filter) (columns s) (rows s) (p .level - 1) i (p .band) v y)) set ∙ on (p .level) (p .set) (p .band) h
-        ∙ ap (λ (q : machine.Spot). fedOn (s .admission) (s .filter) (s .stop) (columns s) (rows s) (s .levels) (q .level) (q .set) (q .band) v y) (spot-of (next s) p is)
+        ∙ ap (λ (q : machine.Spot). fedOn (s .admission) (s .filter) (s .stop) (columns s) (rows s) (s .levels) (q .level) (q .set) (q .band) v y)
+        (spot-of (next s) p is)
         ∙ bind-passed _ _ y e
       where
         on : (k i c : ℕ) → 0 < k →
@@ -144,7 +145,7 @@ level-fits s p c is = omega (arith, is .level, near s .within, c .at, c .stops, 
 -- ---- where a set begins, as the code has its level
 pub begins-at : (f : ℕ) (W H : Side) (L d k n : ℕ) (l : Level) → 0 < k → IsLevel f W H d (k - 1) l →
     pick (leb (firstSet (side (l .y) (l .height)) lo) n)
-    (dive f (L - k) k (levels.next (side (l .x) (l .width))) (levels.next (side (l .y) (l .height))) n (n - firstSet (side (l .y) (l .height)) lo))
+    (descend f (L - k) k (levels.next (side (l .x) (l .width))) (levels.next (side (l .y) (l .height))) n (n - firstSet (side (l .y) (l .height)) lo))
     (spot k n 1) ≡ begins f W H L k n
 unfolding begins hasRow rowOf sideAt
 begins-at f W H L d zero n l h is = absurd (omega arith)
@@ -167,10 +168,10 @@ unfolding begins
 begins-level f W H L k n h = go (hasRow H (suc k) n)
   where
     to : machine.Spot
-    to = dive f (L - suc k) (suc k) (sideAt (suc k) W) (sideAt (suc k) H) n (rowOf H (suc k) n)
+    to = descend f (L - suc k) (suc k) (sideAt (suc k) W) (sideAt (suc k) H) n (rowOf H (suc k) n)
 
     go : (t : Bool) → pick t to (spot (suc k) n 1) .level ≤ L
-    go true = omega (arith, dive-level f (L - suc k) (suc k) (sideAt (suc k) W) (sideAt (suc k) H) n (rowOf H (suc k) n))
+    go true = omega (arith, descend-level f (L - suc k) (suc k) (sideAt (suc k) W) (sideAt (suc k) H) n (rowOf H (suc k) n))
     go false = omega arith
 
 pub fed-level : (f : ℕ) (W H : Side) (L k n c : ℕ) → k ≤ L → spotFed f W H L k n c .level ≤ L

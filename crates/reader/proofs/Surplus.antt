@@ -100,7 +100,8 @@ module _ (s : Reader) (deep : s .level ≤ s .levels) where
   unfolding feeds
   feeds-past v x =
       bound (storeBy (s .filter) (columns s) (s .levels)) x (settles s x) _ (settles-past x)
-      (λ y. fed-past (s .admission) (s .filter) (s .stop) (columns s) (rows s) (s .levels) (next s .level) (next s .set) (next s .band) v y (omega (arith, near s .within)))
+      (λ y. fed-past (s .admission) (s .filter) (s .stop) (columns s) (rows s) (s .levels) (next s .level) (next s .set) (next s .band) v y
+      (omega (arith, near s .within)))
 
 remembered : (n : ℕ) (x : ℕ → ℤ) (t : Tried) → Keeps n x t → (j : ℕ) → n ≤ j → memory x t j ≡ x j
 unfolding memory

@@ -1,5 +1,5 @@
--- The tolerant reader in plain numbers: which answer its set-up gives (`tolerant-asks`, `tolerant-passes`), what its state is (`tolerates`), and that nothing ends
--- it (`never-ends`). Assumes nothing.
+-- The tolerant reader in plain numbers: which answer its set-up gives (`tolerant-asks`, `tolerant-passes`), what its state is (`tolerates`), and that nothing
+-- ends it (`never-ends`). Assumes nothing.
 use mathlib.Core.Path.{_≡_, refl, sym, ap, subst, _∙_}
 use mathlib.Core.Bool.{Bool, true, false, not, true≢false, false≢true}
 use mathlib.Core.Logic.{_↔_}
@@ -169,7 +169,8 @@ module _ (s : Reader) (other : s .admission ≡ 0 → ⊥) where
       go false p false b e = let z : _≡_ {A = ℕ} 0 1 = cc in omega arith
 
   wanted-by : (L : ℕ) →
-      by L (last.wantReply s (by L (last.wantQuestion s) (levels.wantQuestion s))) (levels-call.wantReply s (by L (last.wantQuestion s) (levels.wantQuestion s)))
+      by L (last.wantReply s (by L (last.wantQuestion s) (levels.wantQuestion s)))
+      (levels-call.wantReply s (by L (last.wantQuestion s) (levels.wantQuestion s)))
       ≡ gives ended → ⊥
   unfolding last.wantReply last.wantQuestion
   wanted-by zero = rw none-last (no-end 1)

@@ -96,7 +96,8 @@ module _ (s : Reader) (more : 0 < s .admission) (is : Admits (s .admission) (s .
   unfolding feeds
   feeds-goes v x =
       goes-bind _ _ (settles-goes x)
-      (λ y. fed-goes (s .admission) (s .filter) (s .stop) (columns s) (rows s) (s .levels) more is (state.next s .level) (state.next s .set) (state.next s .band)
+      (λ y. fed-goes (s .admission) (s .filter) (s .stop) (columns s) (rows s) (s .levels) more is (state.next s .level) (state.next s .set)
+      (state.next s .band)
       v y)
 
   pub tolerant-settles : (x : ℕ → ℤ) → settles s x ≡ failed → ⊥

@@ -1,8 +1,8 @@
 -- What the admission changes of a level on the way back: its work, the grid that its bands come to, the test of 14, and what stands in its memory. a is the
 -- admission, f the number of the filter.
--- 0 is strict, document 01's reader. Any other is tolerant; document 02, Q-10: it "limits each rebuilt value, before further use, to its level's range, heights to
--- 0 to 65,535, instead of giving 14". The tolerant level is the 5/3's. No state has it with another filter (question 1), so there the definitions say what the
--- strict one does, and the laws hold of any two numbers.
+-- 0 is strict, document 01's reader. Any other is tolerant; document 02, Q-10: it "limits each rebuilt value, before further use, to its level's range, heights
+-- to 0 to 65,535, instead of giving 14". The tolerant level is the 5/3's. No state has it with another filter (question 1), so there the definitions say what
+-- the strict one does, and the laws hold of any two numbers.
 use mathlib.Core.Path.{_≡_}
 use mathlib.Core.Bool.{Bool, true}
 use Prim.Native.Nat.{ℕ, zero, suc, _<_}

@@ -18,8 +18,8 @@ use Rattle.reader_steps.specs.Places.{placeOf, enter}
 use Rattle.reader.specs.State.{columns, needs, wants, settles, feeds, drawDue, fedReader, drawnReader, endedReader}
 
 -- ---- set-up
--- a fresh reader with the admission a of the filter f, of the columns W and the rows H of level b of a map, at L levels, with e spare numbers: nothing drawn, and
--- row 0 begins
+-- a fresh reader with the admission a of the filter f, of the columns W and the rows H of level b of a map, at L levels, with e spare numbers: nothing drawn,
+-- and row 0 begins
 unfoldable pub freshBy : ℕ → ℕ → ℕ → ℕ → Side → Side → ℕ → Reader
 freshBy a f b e W H L = record {
   width = W .length;

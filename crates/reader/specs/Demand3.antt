@@ -300,8 +300,8 @@ goesOnSet H x [] = false
 goesOnSet H x (step.feed y ∷ t) = both (eqb (y .level) (x .level)) (eqb (setNumber H y) (setNumber H x))
 goesOnSet H x (step.draw r ∷ t) = false
 
--- A feed of row x, with the steps t after it and the admission k. Its own set fits if x is the last of it; and the sets of the levels above, which made what its set takes, if it
--- takes a row.
+-- A feed of row x, with the steps t after it and the admission k. Its own set fits if x is the last of it; and the sets of the levels above, which made what
+-- its set takes, if it takes a row.
 pub record FeedFits (k f b : ℕ) (W H : Side) (L : ℕ) (P : Rows) (x : RowName) (t : List Step) : Type 0 where
   pub own : goesOnSet H x t ≡ false → SetFits k f b W H P L (x .level - 1) (setNumber H x)
   pub above : hasRow H (x .level) (setNumber H x) ≡ true → SetsFit k f b W H L P (x .level) (setNumber H x)

@@ -44,13 +44,16 @@ module _ (P : Rows) (s : Reader) where
   pub record Holds (x : ℕ → ℤ) : Type 0 where
     pub ready : s .drawn < s .height → Ready (s .filter) (columns s) (rows s) (s .levels) (s .drawn) (spotNow s)
     pub below : s .drawn < s .height → hasRow (rows s) (s .level) (spotNow s .set) ≡ true → (k : ℕ) → Level k → s .level ≤ k →
-        M (s .admission) (s .filter) .Leaves (s .stop + k) (sideAt k (columns s)) (sideAt k (rows s)) (bandsAt (s .admission) (s .filter) (s .stop) (columns s) (rows s) P (s .levels) k)
+        M (s .admission) (s .filter) .Leaves (s .stop + k) (sideAt k (columns s)) (sideAt k (rows s))
+        (bandsAt (s .admission) (s .filter) (s .stop) (columns s) (rows s) P (s .levels) k)
         (needed (s .filter) (rows s) (s .level) (spotNow s .set) (suc k)) (from (stretchAt (s .filter) (columns s) k) x)
     pub before : s .drawn < s .height → (k : ℕ) → Level k → suc k ≤ s .level →
-        M (s .admission) (s .filter) .Before (s .stop + k) (sideAt k (columns s)) (sideAt k (rows s)) (bandsAt (s .admission) (s .filter) (s .stop) (columns s) (rows s) P (s .levels) k)
+        M (s .admission) (s .filter) .Before (s .stop + k) (sideAt k (columns s)) (sideAt k (rows s))
+        (bandsAt (s .admission) (s .filter) (s .stop) (columns s) (rows s) P (s .levels) k)
         (waitsAt (s .filter) (rows s) (s .level) (spotNow s .set) (suc k)) (from (stretchAt (s .filter) (columns s) k) x)
     pub got : s .drawn < s .height → (k : ℕ) → Level k → suc k ≡ s .level → (c : Band) → keptAt (eqb (suc k) (s .levels)) c ≡ true → code c < s .band →
-        M (s .admission) (s .filter) .Got (sideAt k (columns s)) (sideAt k (rows s)) (bandsAt (s .admission) (s .filter) (s .stop) (columns s) (rows s) P (s .levels) k) (spotNow s .set)
+        M (s .admission) (s .filter) .Got (sideAt k (columns s)) (sideAt k (rows s))
+        (bandsAt (s .admission) (s .filter) (s .stop) (columns s) (rows s) P (s .levels) k) (spotNow s .set)
         (from (stretchAt (s .filter) (columns s) k) x) c
 
   -- v is the row of P that is wanted
@@ -84,5 +87,6 @@ pub record FeedKeeps (s : Reader) (v x : ℕ → ℤ) (r : Reply Reader) (x′ :
 -- a draw gives the row of the way back from P in the area z′, and goes on to hold P; 14 likewise
 pub record DrawKeeps (s : Reader) (x : ℕ → ℤ) (r : Reply Handed) (x′ z′ : ℕ → ℤ) : Type 0 where
   pub passed : (n : ℕ) (t : Reader) → r ≡ gives (aRow n t) → (P : Rows) → Holds P s x →
-      Holds P t x′ × ((c : ℕ) → c < s .width → z′ c ≡ drawnAs (s .stop) (partAt (s .admission) (s .filter) (s .stop) (columns s) (rows s) P (s .levels) 0 (s .drawn) c))
+      Holds P t x′ × ((c : ℕ) → c < s .width → z′ c ≡ drawnAs (s .stop)
+      (partAt (s .admission) (s .filter) (s .stop) (columns s) (rows s) P (s .levels) 0 (s .drawn) c))
   pub ended : (t : Reader) → r ≡ impossible t → (P : Rows) → Holds P s x → DrawnFits P s → ⊥

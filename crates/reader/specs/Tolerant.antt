@@ -1,5 +1,6 @@
--- The tolerant reader in plain numbers (wavelet's Asks), by any state and whatever stands in its store. Document 02, Q-10: "A tolerant reader, its set-up without
--- origin, filter or stop, limits each rebuilt value ... instead of giving 14." So nothing ends it: it gives neither 14 nor 9, and its wants are never Ended.
+-- The tolerant reader in plain numbers (wavelet's Asks), by any state and whatever stands in its store. Document 02, Q-10: "A tolerant reader, its set-up
+-- without origin, filter or stop, limits each rebuilt value ... instead of giving 14." So nothing ends it: it gives neither 14 nor 9, and its wants are never
+-- Ended.
 use mathlib.Core.Path.{_≡_}
 use mathlib.Core.Bool.{false}
 use Prim.Native.Nat.{ℕ, _≤_}

@@ -184,7 +184,7 @@ impl Reader {
         requires { ⌜ Small (side x width) (side y height) 0 × (levels ≤ maxLevels) ⌝ }
         ensures { λ r. ⌜ r ≡ freshBy admission filter stop spare (side x width) (side y height) levels ⌝ }
     {
-        let p = walk::dive_from(filter, levels, 0, x, width, y, height, 0, 0);
+        let p = walk::descend_from(filter, levels, 0, x, width, y, height, 0, 0);
         let s = Reader {
             width,
             height,
@@ -234,8 +234,8 @@ impl Reader {
         SetUp::Ready(stops::reader_at(filter, map.levels, x, map.width, y, map.height, stop, n))
     }
 
-    // A fresh tolerant reader, of the 5/3 from the origin on and without a stop: each value that it makes is limited to its level's range. The needed part of the
-    // line store is zeroed. The questions are 2, 3, 4 and 5.
+    // A fresh tolerant reader, of the 5/3 from the origin on and without a stop: each value that it makes is limited to its level's range. The needed part of
+    // the line store is zeroed. The questions are 2, 3, 4 and 5.
     pub fn set_up_tolerant(width: usize, height: usize, levels: usize, store: &mut [i32]) -> SetUp
         ensures answer { λ r. ⌜ ofSetUp r ≡ tolerantReply width height levels (tolerantQuestion width height levels (length (now (store .entry)))) ⌝ }
         ensures kept { λ _. ⌜ at (now (store .exit)) ≡
@@ -427,7 +427,7 @@ impl Reader {
         let e = a + w;
         limited::draw_row(self.stop, &store[a..e], self.x, out);
         let d = self.drawn + 1;
-        let p = walk::dive_from(
+        let p = walk::descend_from(
             self.filter,
             self.levels,
             0,

@@ -50,7 +50,7 @@ pub fn limit_row(row: &[i32], out: &mut [u16])
 }
 
 // A row in halves to its own order, limited, at the front of `out`: a pair a turn.
-fn weave_limited(row: &[i32], start: usize, out: &mut [u16])
+fn interleave_limited(row: &[i32], start: usize, out: &mut [u16])
     requires { ⌜ length (now row) ≤ length (now out) ⌝ }
     ensures { λ _. ⌜ heightsAt (now (out .exit)) ≡
         fronted (length (now (row .entry))) (λ c. limited (joined (side start (length (now (row .entry))))
@@ -84,5 +84,5 @@ pub fn draw_row(stop: usize, row: &[i32], start: usize, out: &mut [u16])
         height_rows::draw_heights(row, start, out);
         return;
     }
-    weave_limited(row, start, out);
+    interleave_limited(row, start, out);
 }

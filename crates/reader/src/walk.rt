@@ -27,7 +27,7 @@ ghost use Rattle.reader_steps.specs.Asked.{named};
 ghost use Rattle.reader.specs.Admission.{workBy, Admits};
 ghost use Rattle.reader.specs.Store.{fedAt, workedAt, zeroed};
 ghost use Rattle.reader_steps.specs.Sets.{waiting};
-ghost use Rattle.reader_steps.specs.Places.{spot, bandAt, nextUp, dive};
+ghost use Rattle.reader_steps.specs.Places.{spot, bandAt, nextUp, descend};
 ghost use Rattle.reader.specs.Machine.{settled};
 ghost use Rattle.reader.specs.Inside.{Small, IsLevel, IsAt, Is, IsNext};
 
@@ -372,7 +372,7 @@ pub fn settle(
 
 // Where number n of level `level` begins, which takes row `row` of the level's low-low part, of the columns from x on and the rows from y on: past each level
 // whose set it needs. A set of a high row alone needs none.
-pub fn dive_from(
+pub fn descend_from(
     filter: usize,
     levels: usize,
     level: usize,
@@ -384,7 +384,7 @@ pub fn dive_from(
     row: usize,
 ) -> Spot
     requires { ⌜ (level ≤ levels) × (levels ≤ maxLevels) × (width ≤ 2 ^ 16) × (height < 2 ^ 32) × (row ≤ 2 ^ 34) ⌝ }
-    ensures { λ p. ⌜ Is (dive filter (levels - level) level (side x width) (side y height) n row) p ⌝ }
+    ensures { λ p. ⌜ Is (descend filter (levels - level) level (side x width) (side y height) n row) p ⌝ }
 {
     let mut k = level;
     let mut wx = x;
@@ -428,7 +428,7 @@ pub fn dive_from(
 pub fn begin(filter: usize, levels: usize, level: usize, l: Level, n: usize) -> Spot
     requires { ⌜ (level ≤ levels) × (levels ≤ maxLevels) × (l .width ≤ 2 ^ 16) × (l .height < 2 ^ 32) × (n ≤ 2 ^ 33) ⌝ }
     ensures { λ p. ⌜ Is (pick (leb (firstSet (side (l .y) (l .height)) lo) n)
-        (dive filter (levels - level) level (next (side (l .x) (l .width))) (next (side (l .y) (l .height))) n (n - firstSet (side (l .y) (l .height)) lo))
+        (descend filter (levels - level) level (next (side (l .x) (l .width))) (next (side (l .y) (l .height))) n (n - firstSet (side (l .y) (l .height)) lo))
         (spot level n 1)) p ⌝ }
 {
     if n < l.y % 2 {
@@ -438,7 +438,7 @@ pub fn begin(filter: usize, levels: usize, level: usize, l: Level, n: usize) -> 
             band: 1,
         };
     }
-    dive_from(
+    descend_from(
         filter,
         levels,
         level,

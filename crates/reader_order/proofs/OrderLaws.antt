@@ -124,7 +124,8 @@ module _ (s : Shape) where
   unfolding nextPlace
   next-none p e = rw e refl
 
-  pub fed-is : (k n c : ℕ) → 1 ≤ k → beyond (s .filter) (columns s) (rows s) (s .levels) (k - 1) n c ≡ spotFed (s .filter) (columns s) (rows s) (s .levels) k n c
+  pub fed-is : (k n c : ℕ) → 1 ≤ k → beyond (s .filter) (columns s) (rows s) (s .levels) (k - 1) n c ≡ spotFed (s .filter) (columns s) (rows s)
+      (s .levels) k n c
   unfolding spotFed
   fed-is zero n c h = absurd (omega arith)
   fed-is (suc k) n c h = let z : suc k - 1 ≡ k = omega arith in rw z refl

@@ -23,7 +23,7 @@ use Rattle.wavelet.proofs.SideLaws.{size-le}
 use Rattle.level.specs.Sets.{opens}
 use Rattle.reader_steps.specs.Sets.{ahead, hasRow, rowOf, makes, waiting}
 use Rattle.reader_steps.specs.Asked.{named}
-use Rattle.reader_steps.specs.Places.{hasCells, Spot, spot, lastOfSet, nextUp, past, beyond, dive, begins, enter, Ready}
+use Rattle.reader_steps.specs.Places.{hasCells, Spot, spot, lastOfSet, nextUp, past, beyond, descend, begins, enter, Ready}
 use Rattle.reader_steps.proofs.OpenedSets.{last-is}
 use Rattle.reader_steps.proofs.Looks.{named-code, code-lt}
 use Rattle.reader_steps.proofs.ReadyLaws.{ready-enter, ready-beyond}
@@ -33,15 +33,15 @@ use Rattle.reader_order.specs.Order.{placed, nowhere, at, wantedFrom, se
 use Rattle.reader_order.proofs.OrderLaws.{fits-sized, row-some, first-some, next-some}
 
 -- ---- no place is deeper than the last level
-dive-level : (f m k : ℕ) (W H : Side) (n r : ℕ) → dive f m k W H n r .level ≤ k + m
-unfolding dive
-dive-level f zero k W H n r = omega arith
-dive-level f (suc m) k W H n r =
+descend-level : (f m k : ℕ) (W H : Side) (n r : ℕ) → descend f m k W H n r .level ≤ k + m
+unfolding descend
+descend-level f zero k W H n r = omega arith
+descend-level f (suc m) k W H n r =
     go (both (hasCells W H) (opens (ahead f) H r)) (leb (firstSet H lo) (setsBefore (ahead f) H r))
-    (dive-level f m (suc k) (next W) (next H) (setsBefore (ahead f) H r) (setsBefore (ahead f) H r - firstSet H lo))
+    (descend-level f m (suc k) (next W) (next H) (setsBefore (ahead f) H r) (setsBefore (ahead f) H r - firstSet H lo))
   where
     to : Spot
-    to = dive f m (suc k) (next W) (next H) (setsBefore (ahead f) H r) (setsBefore (ahead f) H r - firstSet H lo)
+    to = descend f m (suc k) (next W) (next H) (setsBefore (ahead f) H r) (setsBefore (ahead f) H r - firstSet H lo)
 
     go : (t u : Bool) → to .level ≤ suc k + m → pick t (pick u to (spot (suc k) (setsBefore (ahead f) H r) 1)) (spot k n 1) .level ≤ k + suc m
     go true true ih = omega (arith, ih)
@@ -51,16 +51,16 @@ dive-level f (suc m) k W H n r =
 module _ (f : ℕ) (W H : Side) (L : ℕ) where
   enter-level : (d : ℕ) → enter f W H L d .level ≤ L
   unfolding enter
-  enter-level d = omega (arith, dive-level f L 0 W H d d)
+  enter-level d = omega (arith, descend-level f L 0 W H d d)
 
   beyond-level : (k n c : ℕ) → k < L → beyond f W H L k n c .level ≤ L
   unfolding beyond past begins
   beyond-level k n c h =
       go (lastOfSet W H L k n c) (makes f (sideAt k H) n) (hasRow H (suc k) (suc n))
-      (dive-level f (L - suc k) (suc k) (sideAt (suc k) W) (sideAt (suc k) H) (suc n) (rowOf H (suc k) (suc n)))
+      (descend-level f (L - suc k) (suc k) (sideAt (suc k) W) (sideAt (suc k) H) (suc n) (rowOf H (suc k) (suc n)))
     where
       to : Spot
-      to = dive f (L - suc k) (suc k) (sideAt (suc k) W) (sideAt (suc k) H) (suc n) (rowOf H (suc k) (suc n))
+      to = descend f (L - suc k) (suc k) (sideAt (suc k) W) (sideAt (suc k) H) (suc n) (rowOf H (suc k) (suc n))
 
       go : (t u v : Bool) → to .level ≤ suc k + (L - suc k) →
           pick t (pick u (spot k (waiting f H k n) 1) (pick v to (spot (suc k) (suc n) 1))) (spot (suc k) n (c + 1)) .level ≤ L

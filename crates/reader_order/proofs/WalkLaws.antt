@@ -16,7 +16,7 @@ use Rattle.wavelet.specs.Shape.{columns, rows}
 use Rattle.wavelet.proofs.SideLaws.{size-le}
 use Rattle.reader_steps.specs.Sets.{hasRow, rowOf, taking, firstRow, makes, waiting}
 use Rattle.reader_steps.specs.Asked.{nextBand}
-use Rattle.reader_steps.specs.Places.{spot, bandAt, lastOfSet, nextUp, past, beyond, dive, begins, enter}
+use Rattle.reader_steps.specs.Places.{spot, bandAt, lastOfSet, nextUp, past, beyond, descend, begins, enter}
 use Rattle.reader_steps.specs.Places as machine
 use Rattle.reader_steps.proofs.OpenedSets.{row-in, first-low}
 use Rattle.reader_order.specs.declared.walk.Spot.{Spot}
@@ -103,7 +103,7 @@ module _ (f : ℕ) (W H : Side) (L : ℕ) where
   up-none (suc k) n b e = absurd (omega arith)
 
   -- ---- where a height row begins, and where a set does
-  pub enter-is : (d : ℕ) → dive f (L - 0) 0 W H d d ≡ enter f W H L d
+  pub enter-is : (d : ℕ) → descend f (L - 0) 0 W H d d ≡ enter f W H L d
   unfolding enter
   enter-is d = let z : L - 0 ≡ L = omega arith in rw z refl
 
@@ -113,7 +113,7 @@ module _ (f : ℕ) (W H : Side) (L : ℕ) where
     begin-alone h = rw (add-one k, lt-leb (firstSet (sideAt k H) lo) n (omega (arith, first-low (sideAt k H), ap (λ i. i % 2) low))) refl
 
     pub begin-on : p % 2 ≤ n → {X S : Side} → X ≡ sideAt (k + 1) W → S ≡ sideAt (k + 1) H →
-        dive f (L - (k + 1)) (k + 1) X S n (n - p % 2) ≡ begins f W H L (k + 1) n
+        descend f (L - (k + 1)) (k + 1) X S n (n - p % 2) ≡ begins f W H L (k + 1) n
     unfolding begins hasRow rowOf
     begin-on h {X} {S} ex es =
         let z : n - p % 2 ≡ n - firstSet (sideAt k H) lo = omega (arith, first-low (sideAt k H), ap (λ i. i % 2) low) in

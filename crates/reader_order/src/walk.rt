@@ -10,7 +10,7 @@ ghost use Rattle.wavelet.specs.Levels.{sideAt};
 ghost use Rattle.wavelet.specs.Limits.{maxLevels};
 ghost use Rattle.wavelet.specs.Shape.{columns, rows};
 ghost use Rattle.reader_steps.specs.Sets.{waiting};
-ghost use Rattle.reader_steps.specs.Places.{bandAt, nextUp, dive, begins, past, beyond, enter};
+ghost use Rattle.reader_steps.specs.Places.{bandAt, nextUp, descend, begins, past, beyond, enter};
 ghost use Rattle.reader_order.specs.Inside.{Small, IsAt, Is};
 
 // A level, one of its sets, and a band of it.
@@ -93,9 +93,9 @@ pub fn next_up(s: Shape, q: Spot) -> Spot
 
 // Where number n of level `level`, of the sides v, begins, which takes row `row` of the level's low-low part: past each level whose set it needs. A set of a
 // high row alone needs none.
-fn dive_from(filter: usize, levels: usize, level: usize, v: Sides, n: usize, row: usize) -> Spot
+fn descend_from(filter: usize, levels: usize, level: usize, v: Sides, n: usize, row: usize) -> Spot
     requires { ⌜ (level ≤ levels) × (levels ≤ maxLevels) × (v .height < 2 ^ 32) × (n ≤ 2 ^ 33) × (row ≤ 2 ^ 33) ⌝ }
-    ensures { λ p. ⌜ Is (dive filter (levels - level) level (side (v .x) (v .width)) (side (v .y) (v .height)) n row) p × (p .set ≤ 2 ^ 33) ×
+    ensures { λ p. ⌜ Is (descend filter (levels - level) level (side (v .x) (v .width)) (side (v .y) (v .height)) n row) p × (p .set ≤ 2 ^ 33) ×
         (p .level ≤ levels) ⌝ }
 {
     let mut k = level;
@@ -147,7 +147,7 @@ pub fn begin_row(s: Shape, d: usize) -> Spot
         y: s.y as usize,
         height: s.height,
     };
-    dive_from(s.filter as usize, s.levels, 0, v, d, d)
+    descend_from(s.filter as usize, s.levels, 0, v, d, d)
 }
 
 // Where set n of level k + 1 begins.
@@ -163,7 +163,7 @@ fn begin_set(s: Shape, k: usize, n: usize) -> Spot
             band: 1,
         };
     }
-    dive_from(
+    descend_from(
         s.filter as usize,
         s.levels,
         k + 1,

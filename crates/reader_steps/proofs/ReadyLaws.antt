@@ -16,7 +16,7 @@ use Rattle.wavelet.proofs.StepLaws.{set-there, set-last, before-suc}
 use Rattle.level.specs.Sets.{opens}
 use Rattle.reader_steps.specs.Sets.{ahead, hasRow, rowOf, taking, firstRow, makes, needed, waiting, waitsAt}
 use Rattle.reader_steps.specs.Asked.{asked, look, nextBand}
-use Rattle.reader_steps.specs.Places.{hasCells, Spot, spot, spotOf, placeOf, bandAt, lastOfSet, past, beyond, dive, begins, enter, Ready}
+use Rattle.reader_steps.specs.Places.{hasCells, Spot, spot, spotOf, placeOf, bandAt, lastOfSet, past, beyond, descend, begins, enter, Ready}
 use Rattle.reader_steps.proofs.Looks.{code-lt, first-le}
 use Rattle.reader_steps.proofs.OpenedSets.{opens-yes, opened-row, row-next, makes-not, makes-last, taking-row, waits-finer, There}
 use Rattle.reader_steps.proofs.OpenedSets.{waiting-there, in-back, looks}
@@ -96,12 +96,12 @@ module _ (f : ℕ) (W H : Side) (l d : ℕ) where
   At q = Ready f W H (suc l) d q
 
   -- where number n of level k begins, which takes row r
-  pub ready-dive : (m k n r : ℕ) → k + m ≡ suc l → ((j : ℕ) → suc j ≡ k → hasCells (sideAt j W) (sideAt j H) ≡ true) → There f H k n → taking H k r ≡ n →
-      waitsAt f H k n 0 ≡ d → At (dive f m k (sideAt k W) (sideAt k H) n r)
-  unfolding dive sideAt waiting rowOf hasRow
-  ready-dive zero zero n r e cells there t top = absurd (omega arith)
-  ready-dive zero (suc k) n r e cells there t top = starts f W H l d k n 0 (omega arith) (cells k refl) (there .1) top
-  ready-dive (suc m) k n r e cells there t top = go (hasCells (sideAt k W) (sideAt k H)) refl (opens (ahead f) (sideAt k H) r) refl (ready-dive m (suc k))
+  pub ready-descend : (m k n r : ℕ) → k + m ≡ suc l → ((j : ℕ) → suc j ≡ k → hasCells (sideAt j W) (sideAt j H) ≡ true) → There f H k n → taking H k r ≡ n →
+      waitsAt f H k n 0 ≡ d → At (descend f m k (sideAt k W) (sideAt k H) n r)
+  unfolding descend sideAt waiting rowOf hasRow
+  ready-descend zero zero n r e cells there t top = absurd (omega arith)
+  ready-descend zero (suc k) n r e cells there t top = starts f W H l d k n 0 (omega arith) (cells k refl) (there .1) top
+  ready-descend (suc m) k n r e cells there t top = go (hasCells (sideAt k W) (sideAt k H)) refl (opens (ahead f) (sideAt k H) r) refl (ready-descend m (suc k))
     where
       S : Side
       S = sideAt k H
@@ -110,7 +110,7 @@ module _ (f : ℕ) (W H : Side) (l d : ℕ) where
       s = setsBefore (ahead f) S r
 
       to : Spot
-      to = dive f m (suc k) (next (sideAt k W)) (next S) s (s - firstSet S lo)
+      to = descend f m (suc k) (next (sideAt k W)) (next S) s (s - firstSet S lo)
 
       in-set : opens (ahead f) S r ≡ true → s ≤ lastSet S
       in-set o = omega (arith, opens-yes f S r o, set-there (ahead f) S r)
@@ -120,7 +120,7 @@ module _ (f : ℕ) (W H : Side) (l d : ℕ) where
 
       Deeper : Type 0
       Deeper = (n r : ℕ) → suc k + m ≡ suc l → ((j : ℕ) → suc j ≡ suc k → hasCells (sideAt j W) (sideAt j H) ≡ true) → There f H (suc k) n →
-          taking H (suc k) r ≡ n → waitsAt f H (suc k) n 0 ≡ d → At (dive f m (suc k) (sideAt (suc k) W) (sideAt (suc k) H) n r)
+          taking H (suc k) r ≡ n → waitsAt f H (suc k) n 0 ≡ d → At (descend f m (suc k) (sideAt (suc k) W) (sideAt (suc k) H) n r)
 
       into : Deeper → hasCells (sideAt k W) S ≡ true → opens (ahead f) S r ≡ true → (u : Bool) → leb (firstSet S lo) s ≡ u → At (pick u to (spot (suc k) s 1))
       into ih c o true u =
@@ -140,14 +140,14 @@ module _ (f : ℕ) (W H : Side) (l d : ℕ) where
   ready-begins k n h c there top = go (hasRow H (suc k) n) refl
     where
       go : (t : Bool) → hasRow H (suc k) n ≡ t →
-          At (pick t (dive f (suc l - suc k) (suc k) (sideAt (suc k) W) (sideAt (suc k) H) n (rowOf H (suc k) n)) (spot (suc k) n 1))
-      go true t = ready-dive (suc l - suc k) (suc k) n (rowOf H (suc k) n) (omega arith) (λ j z. let y : j ≡ k = omega arith in rw y c)
+          At (pick t (descend f (suc l - suc k) (suc k) (sideAt (suc k) W) (sideAt (suc k) H) n (rowOf H (suc k) n)) (spot (suc k) n 1))
+      go true t = ready-descend (suc l - suc k) (suc k) n (rowOf H (suc k) n) (omega arith) (λ j z. let y : j ≡ k = omega arith in rw y c)
           (cells-are (sideAt k W) (sideAt k H) c .1, there) (taking-row H (suc k) n t) top
       go false t = starts f W H l d k n 1 (omega arith) c there top
 
   pub ready-enter : d < H .length → At (enter f W H (suc l) d)
   unfolding enter sideAt
-  ready-enter due = ready-dive (suc l) 0 d d (omega arith) (λ j z. absurd (omega arith)) due (unfold taking in refl) (unfold waitsAt in refl)
+  ready-enter due = ready-descend (suc l) 0 d d (omega arith) (λ j z. absurd (omega arith)) due (unfold taking in refl) (unfold waitsAt in refl)
 
   -- past a set, and after a row that is fed
   pub ready-past : (k n b : ℕ) → k ≤ l → At (spot (suc k) n b) → At (past f W H (suc l) k n)
@@ -197,8 +197,8 @@ ready-back f W H L d q due s =
 -- with all rows drawn no set is asked for
 pub enter-end : (f : ℕ) (W H : Side) (L d : ℕ) → 0 < H .length → d ≡ H .length → placeOf f H d (enter f W H L d) .back ≡ 0
 unfolding enter
-enter-end f W H zero d p e = unfold dive needed in omega arith
-enter-end f W H (suc l) d p e = unfold dive in go (hasCells W H) (opens (ahead f) H d) (end d e) _
+enter-end f W H zero d p e = unfold descend needed in omega arith
+enter-end f W H (suc l) d p e = unfold descend in go (hasCells W H) (opens (ahead f) H d) (end d e) _
   where
     last : (r : ℕ) → suc r ≡ H .length → setsBefore (ahead f) H (suc (suc r)) ≤ setsBefore (ahead f) H (suc r)
     last r e = let u = set-last (ahead f) H r (looks f) (omega arith) in

@@ -18,7 +18,7 @@ use Rattle.wavelet.specs.Levels.{next, sideAt}
 use Rattle.level.specs.Sets.{opens}
 use Rattle.reader_steps.specs.Sets.{ahead, hasRow, rowOf, taking, firstRow, makes, waiting, waitsAt}
 use Rattle.reader_steps.specs.Asked.{keptAt, asked, bandsFrom, those, look, firstCode, nextBand}
-use Rattle.reader_steps.specs.Places.{hasCells, Spot, spot, bandAt, lastOfSet, nextUp, past, beyond, dive, begins, enter, Ready}
+use Rattle.reader_steps.specs.Places.{hasCells, Spot, spot, bandAt, lastOfSet, nextUp, past, beyond, descend, begins, enter, Ready}
 use Rattle.reader_steps.proofs.Looks.{code-lt, Look, nothing, first, look-is}
 use Rattle.reader_steps.proofs.OpenedSets.{sets-none, opens-yes, opened-row, row-next, makes-yes, makes-not, taking-row}
 use Rattle.reader_steps.proofs.CellLaws.{cells-not, Empty, empty-row, empty-set, no-low}
@@ -187,16 +187,16 @@ module _ (f : ℕ) (W H : Side) (l : ℕ) where
   -- where a set begins, as the search for it has it
   pub begins-is : (m k n : ℕ) → k + m ≡ l → begins f W H (suc l) (suc k) n ≡
       pick (leb (firstSet (sideAt k H) lo) n)
-      (dive f m (suc k) (next (sideAt k W)) (next (sideAt k H)) n (n - firstSet (sideAt k H) lo)) (spot (suc k) n 1)
+      (descend f m (suc k) (next (sideAt k W)) (next (sideAt k H)) n (n - firstSet (sideAt k H) lo)) (spot (suc k) n 1)
   unfolding begins hasRow rowOf sideAt
   begins-is m k n e = let z : suc l - suc k ≡ m = omega arith in rw z refl
 
   -- where number n of level k begins, if the steps of the set are left that it begins with
-  dive-tail : (m k n r : ℕ) → k + m ≡ l → taking H k r ≡ n →
+  descend-tail : (m k n r : ℕ) → k + m ≡ l → taking H k r ≡ n →
       ((i : ℕ) → tailAt (begins f W H (suc l) (suc k) i) ≡ setLeft m k i ++ rest k i) →
-      tailAt (dive f (suc m) k (sideAt k W) (sideAt k H) n r) ≡ rowsBelow m k r ++ tail k n 1
-  unfolding dive
-  dive-tail m k n r e t y = go (hasCells (sideAt k W) (sideAt k H)) refl (opens (ahead f) (sideAt k H) r) refl
+      tailAt (descend f (suc m) k (sideAt k W) (sideAt k H) n r) ≡ rowsBelow m k r ++ tail k n 1
+  unfolding descend
+  descend-tail m k n r e t y = go (hasCells (sideAt k W) (sideAt k H)) refl (opens (ahead f) (sideAt k H) r) refl
     where
       S : Side
       S = sideAt k H
@@ -205,7 +205,7 @@ module _ (f : ℕ) (W H : Side) (l : ℕ) where
       s = setsBefore (ahead f) S r
 
       to : Spot
-      to = pick (leb (firstSet S lo) s) (dive f m (suc k) (next (sideAt k W)) (next S) s (s - firstSet S lo)) (spot (suc k) s 1)
+      to = pick (leb (firstSet S lo) s) (descend f m (suc k) (next (sideAt k W)) (next S) s (s - firstSet S lo)) (spot (suc k) s 1)
 
       go : (c : Bool) → hasCells (sideAt k W) S ≡ c → (o : Bool) → opens (ahead f) S r ≡ o →
           tailAt (pick (both c o) to (spot k n 1)) ≡ rowsBelow m k r ++ tail k n 1
@@ -214,30 +214,30 @@ module _ (f : ℕ) (W H : Side) (l : ℕ) where
       go true c true o = ap tailAt (sym (begins-is m k s e)) ∙ y s ∙ sym (below-first m k n r e o t)
 
   begin-tail : (m k n : ℕ) → k + m ≡ l → tailAt (begins f W H (suc l) (suc k) n) ≡ setLeft m k n ++ rest k n
-  unfolding begins dive tail
+  unfolding begins descend tail
   begin-tail zero k n e = go (hasRow H (suc k) n) refl
     where
       go : (t : Bool) → hasRow H (suc k) n ≡ t →
-          tailAt (pick t (dive f (suc l - suc k) (suc k) (sideAt (suc k) W) (sideAt (suc k) H) n (rowOf H (suc k) n)) (spot (suc k) n 1))
+          tailAt (pick t (descend f (suc l - suc k) (suc k) (sideAt (suc k) W) (sideAt (suc k) H) n (rowOf H (suc k) n)) (spot (suc k) n 1))
           ≡ setLeft 0 k n ++ rest k n
       go false h = ap (λ u. u ++ rest k n) (sym (alone-steps 0 k n e h))
       go true h = let z : suc l - suc k ≡ 0 = omega arith in rw z (ap (λ u. u ++ rest k n) (sym (last-steps k n (omega arith))))
   begin-tail (suc m) k n e = go (hasRow H (suc k) n) refl (λ i. begin-tail m (suc k) i (omega arith))
     where
       go : (t : Bool) → hasRow H (suc k) n ≡ t → ((i : ℕ) → tailAt (begins f W H (suc l) (suc (suc k)) i) ≡ setLeft m (suc k) i ++ rest (suc k) i) →
-          tailAt (pick t (dive f (suc l - suc k) (suc k) (sideAt (suc k) W) (sideAt (suc k) H) n (rowOf H (suc k) n)) (spot (suc k) n 1))
+          tailAt (pick t (descend f (suc l - suc k) (suc k) (sideAt (suc k) W) (sideAt (suc k) H) n (rowOf H (suc k) n)) (spot (suc k) n 1))
           ≡ setLeft (suc m) k n ++ rest k n
       go false h ih = ap (λ u. u ++ rest k n) (sym (alone-steps (suc m) k n e h))
       go true h ih =
           let z : suc l - suc k ≡ suc m = omega arith in
           rw z
-          (dive-tail m (suc k) n (rowOf H (suc k) n) (omega arith) (taking-row H (suc k) n h) ih
+          (descend-tail m (suc k) n (rowOf H (suc k) n) (omega arith) (taking-row H (suc k) n h) ih
           ∙ sym (append-assoc (rowsBelow m (suc k) (rowOf H (suc k) n)) (rowsLeft k n 1) (rest k n))
           ∙ ap (λ u. u ++ rest k n) (sym (on-steps m k n e ∙ ap (λ t. pick t (rowsBelow m (suc k) (rowOf H (suc k) n)) [] ++ rowsLeft k n 1) h)))
 
   enter-tail : (d : ℕ) → tailAt (enter f W H (suc l) d) ≡ turn d
   unfolding enter tail sideAt
-  enter-tail d = dive-tail l 0 d d (omega arith) (unfold taking in refl) (λ i. begin-tail l 0 i (omega arith))
+  enter-tail d = descend-tail l 0 d d (omega arith) (unfold taking in refl) (λ i. begin-tail l 0 i (omega arith))
 
   -- ---- past a set
   -- one that does not make the row which waits leaves the next to be asked for

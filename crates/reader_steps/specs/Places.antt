@@ -31,12 +31,12 @@ spot k n b = record { level = k; set = n; band = b }
 -- Where number n of level k begins, which takes row r of level k's low-low part, of the columns W and the rows H, with m levels left: at the first set that no
 -- row before r needs, if there is one, and past each level whose set so needs another. A set of a high row alone needs none; the last level starts with its LL
 -- row; an empty level has nothing to ask for.
-unfoldable pub dive : ℕ → ℕ → ℕ → Side → Side → ℕ → ℕ → Spot
-dive f zero k W H n r = spot k n 0
-dive f (suc m) k W H n r =
+unfoldable pub descend : ℕ → ℕ → ℕ → Side → Side → ℕ → ℕ → Spot
+descend f zero k W H n r = spot k n 0
+descend f (suc m) k W H n r =
     pick (both (hasCells W H) (opens (ahead f) H r))
     (pick (leb (firstSet H lo) (setsBefore (ahead f) H r))
-    (dive f m (suc k) (next W) (next H) (setsBefore (ahead f) H r) (setsBefore (ahead f) H r - firstSet H lo))
+    (descend f m (suc k) (next W) (next H) (setsBefore (ahead f) H r) (setsBefore (ahead f) H r - firstSet H lo))
     (spot (suc k) (setsBefore (ahead f) H r) 1))
     (spot k n 1)
 
@@ -53,7 +53,7 @@ module _ (W H : Side) (L : ℕ) where
 module _ (f : ℕ) (W H : Side) (L : ℕ) where
   -- where number n of level k begins
   unfoldable pub begins : ℕ → ℕ → Spot
-  begins k n = pick (hasRow H k n) (dive f (L - k) k (sideAt k W) (sideAt k H) n (rowOf H k n)) (spot k n 1)
+  begins k n = pick (hasRow H k n) (descend f (L - k) k (sideAt k W) (sideAt k H) n (rowOf H k n)) (spot k n 1)
 
   -- The row wanted: the first of this level's set, or of the next finer one that waits and asks for one. Level 0: none, a height row can be drawn.
   unfoldable pub nextUp : ℕ → ℕ → ℕ → Spot
@@ -74,7 +74,7 @@ module _ (f : ℕ) (W H : Side) (L : ℕ) where
 
 -- where height row d begins
 unfoldable pub enter : ℕ → Side → Side → ℕ → ℕ → Spot
-enter f W H L d = dive f L 0 W H d d
+enter f W H L d = descend f L 0 W H d d
 
 -- ---- a place as a state keeps it, while row d is waited for: the set is so many before the last of its level that row d needs
 pub record Place : Type 0 where

@@ -37,8 +37,8 @@ quarter-within M = each _ λ p q. each _ λ r s. each _ λ t u. simp lin (omega 
 half-within : (M B : ℕ) (x a b : ℤ) → natAbs x ≤ M → natAbs a ≤ B → natAbs b ≤ B → natAbs (x +ℤ halfSum a b) ≤ M + B
 half-within M B = each _ λ p q. each _ λ r s. each _ λ t u. simp lin (omega arith)
 
-lone-within : (M : ℕ) (x : ℤ) → natAbs x ≤ M → natAbs (shrZ x 2) ≤ M
-lone-within M = each _ λ p q. simp lin (omega arith)
+single-within : (M : ℕ) (x : ℤ) → natAbs x ≤ M → natAbs (shrZ x 2) ≤ M
+single-within M = each _ λ p q. simp lin (omega arith)
 
 -- ---- a line whose values are within M: two ways to keep a sum are the same if they are for the sums that come; an even value comes to B at most
 module _ (S : Side) (keep keep′ : ℤ → ℤ) (c : Half → ℕ → ℤ) (M B : ℕ) (least : M ≤ B)
@@ -91,7 +91,7 @@ module _ (S : Side) (c : Half → ℕ → ℤ) (M : ℕ) (inside : (a : Half) (n
             let e = half-within M (2 * M + 1) (c hi n) (lineHalvesBack whole S c lo (left lo S n)) (lineHalvesBack whole S c lo (right lo S n))
             (inside hi n b) l r in
             rw (odd-by whole S g c n b) (omega arith)
-        | no g ↦ let e = lone-within M (c hi n) (inside hi n b) in rw (odd-one S (omega arith) whole c n) (omega arith)
+        | no g ↦ let e = single-within M (c hi n) (inside hi n b) in rw (odd-one S (omega arith) whole c n) (omega arith)
       ]
 
   whole-within : (i : ℕ) → i < S .length → natAbs (joined S (lineHalvesBack whole S c) i) ≤ 3 * M + 1

@@ -1,5 +1,6 @@
--- The tolerant reader over every list of calls: from a fresh one and its store (`tolerant-calls`), whatever each call finds past the needed part (`tolerant-past`). Its steps, wants and questions are the strict reader's, 14
--- never comes, and what it hands out is the limited way back from the rows fed. Assumes nothing.
+-- The tolerant reader over every list of calls: from a fresh one and its store (`tolerant-calls`), whatever each call finds past the needed part
+-- (`tolerant-past`). Its steps, wants and questions are the strict reader's, 14 never comes, and what it hands out is the limited way back from the rows fed.
+-- Assumes nothing.
 use mathlib.Core.Bool.{Bool, true, false}
 use mathlib.Core.Path.{_≡_, refl, sym, ap, ap₂, subst, _∙_}
 use mathlib.Core.List.{List, []}
@@ -126,7 +127,8 @@ module _ (W H l : ℕ) (lim : Limits 1 0 0 0 (side 0 W) (side 0 H) l) where
 
   -- ---- a world that is reached
   module _ (w : World) (es : List Event) (r : After es w) where
-    turned : (n : ℕ) (a : Area) (t : List Step) (q : ℕ) → ((q : ℕ) → feedTurned 0 0 wide (needed W H (suc l)) false t n a ≡ suc q → event (feed n a) w ≡ fed a (refused (suc q))) →
+    turned : (n : ℕ) (a : Area) (t : List Step) (q : ℕ)
+        → ((q : ℕ) → feedTurned 0 0 wide (needed W H (suc l)) false t n a ≡ suc q → event (feed n a) w ≡ fed a (refused (suc q))) →
         (feedTurned 0 0 wide (needed W H (suc l)) false t n a ≡ 0 → OneOf (event (feed n a) w) (fed a (gives tt)) (fed a (refused 14))) →
         feedTurned 0 0 wide (needed W H (suc l)) false t n a ≡ q → event (feed n a) w ≡ fed a (unless q tt)
     turned n a t zero away on z = go (on z)

@@ -1,6 +1,6 @@
--- The tolerant reader over every list of calls, and what it hands out from a rounded plane. Document 02, Q-10: "A tolerant reader ... limits each rebuilt value,
--- before further use, to its level's range, heights to 0 to 65,535, instead of giving 14." "Prove that, from the rounded plane of a map, it draws all rows and no
--- height is off from that map by more than level 1's figure."
+-- The tolerant reader over every list of calls, and what it hands out from a rounded plane. Document 02, Q-10: "A tolerant reader ... limits each rebuilt
+-- value, before further use, to its level's range, heights to 0 to 65,535, instead of giving 14." "Prove that, from the rounded plane of a map, it draws all
+-- rows and no height is off from that map by more than level 1's figure."
 -- Of W columns and H rows at L levels: its steps, and what turns a call away, are the strict reader's (reader's Demand3), with no 9, 14 or Ended.
 use mathlib.Core.Path.{_≡_}
 use mathlib.Core.Logic.{_↔_}

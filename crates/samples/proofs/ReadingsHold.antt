@@ -44,7 +44,7 @@ use Rattle.samples.specs.Reading.{outcome, AllRead, none, also, readings
 
 pub readings-hold : AllRead readings
 unfolding signal.windowed signal.spliced signal.stored word.wrap32 tests.every line.unupdated line.unpredicted line.mirror grid.half grid.place grid.count
-    grid.joined grid.before grid.after grid.evenAt grid.oddAt grid.lineHalvesBack grid.lineBack grid.loneHigh grid.isEven grid.hasLine
+    grid.joined grid.before grid.after grid.evenAt grid.oddAt grid.lineHalvesBack grid.lineBack grid.singleHigh grid.isEven grid.hasLine
     halves.halvesOf halves.inHalves halves.unliftedInPlace halves.hasLineIn rows.rowFits rows.rowsFit rows.rowChanged rows.rowsChanged nine.lowPart
     nine.unupdated nine.unpredicted nine.mirror nine.before nine.after nine.evenAt nine.oddAt nine.lineHalvesBack nine-rows.fiveFit nine-rows.rowBy
     nine-rows.rowsBy nine-passes.farLeft nine-passes.farRight nine-memory.unliftedInPlace heights.height16 limits.maxWidth limits.maxHeight
@@ -53,15 +53,16 @@ unfolding signal.windowed signal.spliced signal.stored word.wrap32 tests.every l
     widths.anyLength view.bandColumns maps.valueFits filters.filterOf filters.isFilter lists.events cells.spot rebuilding.workableBy
     rebuilding.workLeftBy rebuilding.lowestBy opening.opens stretch.local stretch.rowOfSet stretch.halfPlace stretch.endOf stretch.hasLow
     stretch.rowPlace stretch.bandFed stretch.rowIn stretch.rowHasLine stretch.rowBy stretch.rowHalved stretch.rowIsEven stretch.lowRowTaken
-    stretch.lowTaken stretch.loneMade stretch.rowFits stretch.admitted stretch.rowUnlifted stretch.lineTried stretch.lowTried stretch.highTried
+    stretch.lowTaken stretch.singleMade stretch.rowFits stretch.admitted stretch.rowUnlifted stretch.lineTried stretch.lowTried stretch.highTried
     stretch.setUnlifted tried.bind tried.onto tried.fits tried.memory asked.keptAt asked.asked asked.bandsFrom asked.those asked.look asked.firstCode
-    asked.nextBand asked.named places.hasCells places.dive places.bandAt places.lastOfSet places.begins places.nextUp places.past places.beyond
+    asked.nextBand asked.named places.hasCells places.descend places.bandAt places.lastOfSet places.begins places.nextUp places.past places.beyond
     places.spotFed places.enter sets.hasRow sets.rowOf sets.taking sets.needed sets.firstRow sets.makes sets.waiting sets.waitsAt back.backOf
     back.standsOf back.rowPlaceOf columns.rowBefore columns.rowAfter columns.rowByFour columns.alongOf columns.unupdatedOf columns.evenOf
     columns.oddOf work.ownEven work.pairOf work.evenDone work.pairMade work.firstMade work.pairBefore work.pairsMade work.lastMade work.restMade
     work.mostMade work.rowsMade work.setMade work.setWorked calls.freshBy calls.setUpStore calls.feedReply calls.storeAfter calls.feedStore
     calls.drawReply calls.drawStore calls.heightRow calls.drawArea demand.event demand.next machine.settled machine.finished machine.fedOn
-    gate.countsFit gate.countsInside gate.stopFits gate.admissionFits gate.storeFits gate.runFits gate.feedQuestion gate.drawQuestion state.next state.nextRow state.nextLength
+    gate.countsFit gate.countsInside gate.stopFits gate.admissionFits gate.storeFits gate.runFits gate.feedQuestion gate.drawQuestion state.next state.nextRow
+    state.nextLength
     state.unfinished
     state.rowDue state.drawDue state.wants state.settles state.feeds state.fedReader state.drawnReader state.endedReader store.stretchAt store.from
     store.behind store.zeroed store.fedAt store.hasSet store.workedAt outcome

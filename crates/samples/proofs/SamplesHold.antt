@@ -1,7 +1,8 @@
 -- Every sample of the tables holds: both sides compute to the same. Assumes nothing.
 use mathlib.Core.Path.{refl}
 use Rattle.lifting.specs.Line.{predicted, updated, mirror, unupdated, unpredicted}
-use Rattle.lifting.specs.Grid.{half, place, count, joined, before, after, highAt, lowAt, evenAt, oddAt, lineForward, lineHalvesBack, lineBack, loneHigh, isEven}
+use Rattle.lifting.specs.Grid.{half, place, count, joined, before, after, highAt, lowAt, evenAt, oddAt, lineForward, lineHalvesBack, lineBack, singleHigh}
+use Rattle.lifting.specs.Grid.{isEven}
 use Rattle.lifting.specs.Grid.{hasLine}
 use Rattle.numbers.specs.Word.{wrap32}
 use Rattle.wavelet.specs.Limits.{maxWidth, maxHeight, maxSample, range}
@@ -26,7 +27,7 @@ unfolding values listed lineForward lowAt highAt before after half place mirror 
     columnsLifted across down bandOf halfAt placeIn bandRow bandColumns next sideAt approximation levelBand handedOut firstSet lastSet setRow setHas rowsOf
     setRows madeBy unmade closing inTurn made feedAll setTo setOf setsBefore rowSteps setSteps steps bandRowsOf backwardQuestion sizeQuestions shapeQuestions
     planeQuestions isFilter filterOf within maxWidth maxHeight maxSample range inRange rebuiltFits everyCell every valueFits levelAt planeBands mapBack
-    levelBack levelHas rowsHave columnsHave rowsUnlifted lineBack lineHalvesBack joined evenAt oddAt hasLine loneHigh isEven unupdated unpredicted wrap32
+    levelBack levelHas rowsHave columnsHave rowsUnlifted lineBack lineHalvesBack joined evenAt oddAt hasLine singleHigh isEven unupdated unpredicted wrap32
 samples-hold =
     also (holds-line refl refl)
     (also (holds-line refl refl)
@@ -48,7 +49,7 @@ unfolding values listed lineForward lowAt highAt before after half place mirror 
     columnsLifted across down bandOf halfAt placeIn bandRow bandColumns next sideAt approximation levelBand handedOut firstSet lastSet setRow setHas rowsOf
     setRows madeBy unmade closing inTurn made feedAll setTo setOf setsBefore rowSteps setSteps steps bandRowsOf backwardQuestion sizeQuestions shapeQuestions
     planeQuestions isFilter filterOf within maxWidth maxHeight maxSample range inRange rebuiltFits everyCell every valueFits levelAt planeBands mapBack
-    levelBack levelHas rowsHave columnsHave rowsUnlifted lineBack lineHalvesBack joined evenAt oddAt hasLine loneHigh isEven unupdated unpredicted wrap32
+    levelBack levelHas rowsHave columnsHave rowsUnlifted lineBack lineHalvesBack joined evenAt oddAt hasLine singleHigh isEven unupdated unpredicted wrap32
 odd-samples-hold =
     also (holds-line refl refl)
     (also (holds-line refl refl)
@@ -66,7 +67,7 @@ unfolding values listed lineForward lowAt highAt before after half place mirror 
     columnsLifted across down bandOf halfAt placeIn bandRow bandColumns next sideAt approximation levelBand handedOut firstSet lastSet setRow setHas rowsOf
     setRows madeBy unmade closing inTurn made feedAll setTo setOf setsBefore rowSteps setSteps steps bandRowsOf backwardQuestion sizeQuestions shapeQuestions
     planeQuestions isFilter filterOf within maxWidth maxHeight maxSample range inRange rebuiltFits everyCell every valueFits levelAt planeBands mapBack
-    levelBack levelHas rowsHave columnsHave rowsUnlifted lineBack lineHalvesBack joined evenAt oddAt hasLine loneHigh isEven unupdated unpredicted wrap32
+    levelBack levelHas rowsHave columnsHave rowsUnlifted lineBack lineHalvesBack joined evenAt oddAt hasLine singleHigh isEven unupdated unpredicted wrap32
     nine.lineForward nine.lineHalvesBack nine.lineBack nine.lowAt nine.highAt nine.evenAt nine.oddAt nine.mirror nine.before nine.after nine.predicted
     nine.updated nine.unpredicted nine.unupdated nine.lowPart
 second-samples-hold =
@@ -91,7 +92,7 @@ unfolding values listed lineForward lowAt highAt before after half place mirror 
     columnsLifted across down bandOf halfAt placeIn bandRow bandColumns next sideAt approximation levelBand handedOut firstSet lastSet setRow setHas rowsOf
     setRows madeBy unmade closing inTurn made feedAll setTo setOf setsBefore rowSteps setSteps steps bandRowsOf backwardQuestion sizeQuestions shapeQuestions
     planeQuestions isFilter filterOf within maxWidth maxHeight maxSample range inRange rebuiltFits everyCell every valueFits levelAt planeBands mapBack
-    levelBack levelHas rowsHave columnsHave rowsUnlifted lineBack lineHalvesBack joined evenAt oddAt hasLine loneHigh isEven unupdated unpredicted wrap32
+    levelBack levelHas rowsHave columnsHave rowsUnlifted lineBack lineHalvesBack joined evenAt oddAt hasLine singleHigh isEven unupdated unpredicted wrap32
     counted countsOf
 seven-hold =
     also (holds-order refl)
@@ -108,7 +109,7 @@ unfolding values listed lineForward lowAt highAt before after half place mirror 
     columnsLifted across down bandOf halfAt placeIn bandRow bandColumns next sideAt approximation levelBand handedOut firstSet lastSet setRow setHas rowsOf
     setRows madeBy unmade closing inTurn made feedAll setTo setOf setsBefore rowSteps setSteps steps bandRowsOf backwardQuestion sizeQuestions shapeQuestions
     planeQuestions isFilter filterOf within maxWidth maxHeight maxSample range inRange rebuiltFits everyCell every valueFits levelAt planeBands mapBack
-    levelBack levelHas rowsHave columnsHave rowsUnlifted lineBack lineHalvesBack joined evenAt oddAt hasLine loneHigh isEven unupdated unpredicted wrap32
+    levelBack levelHas rowsHave columnsHave rowsUnlifted lineBack lineHalvesBack joined evenAt oddAt hasLine singleHigh isEven unupdated unpredicted wrap32
     nine.lineForward nine.lineHalvesBack nine.lineBack nine.lowAt nine.highAt nine.evenAt nine.oddAt nine.mirror nine.before nine.after nine.predicted
     nine.updated nine.unpredicted nine.unupdated nine.lowPart
     counted countsOf

@@ -223,7 +223,7 @@ module _ (f : ℕ) (W H : Side) (L : ℕ) where
   needs-last : (x : RowName) (h : ℕ) → x .level ≡ suc h → IsSet h x → {t : ℕ → ℕ}
       → Above f W H L (L - suc h) h (setNumber H x) t → (k g : ℕ) → k < L → 0 < sideAt k H .length → order.lastSet (sideAt k H) < t k → h < k
       → g ≡ sideAt k H .start / 2 + order.lastSet (sideAt k H) → NeededNext x h k g
-  needs-last x h l range {t} a k g deep there most c lone =
+  needs-last x h l range {t} a k g deep there most c single =
       let n = setNumber H x in
       let j = k - suc h in
       let e : suc h + j ≡ k = omega arith in
@@ -263,7 +263,7 @@ module _ (f : ℕ) (W H : Side) (L : ℕ) where
       go {t} run (feeds h d range still own above) =
           let z : h ≡ i = omega arith in
           let w = work-is f W H L p₁ p₂ k g run in
-          let lone = unfed-is k g deep cells unfed (w .1) (w .2) in
+          let single = unfed-is k g deep cells unfed (w .1) (w .2) in
           let most : order.lastSet (sideAt k H) < t k = omega arith in
           subst (λ (h : ℕ). NeededNext x h k g) z
           (elim (decLt h k) [
@@ -272,7 +272,7 @@ module _ (f : ℕ) (W H : Side) (L : ℕ) where
                   | yes y ↦ absurd (let o = subst (λ (j : ℕ). t j ≤ order.lastSet (sideAt j H)) (sym y) (let r = range .1 in omega arith) in omega arith)
                   | no y ↦ absurd (let o = still k (omega (arith, y)) in omega arith)
                 ]
-            | yes c ↦ needs-last x h d range above k g deep (let o = length-is k H in omega arith) most c lone
+            | yes c ↦ needs-last x h d range above k g deep (let o = length-is k H in omega arith) most c single
           ])
 
   -- in a draw
@@ -287,7 +287,7 @@ module _ (f : ℕ) (W H : Side) (L : ℕ) where
       go : {t : ℕ → ℕ} → Runs f W H L (λ _. 0) (p₁ ++ (works (suc k) g ∷ p₂)) t → Finds f W H L (draw r) t → neededSet f (over H) 0 (H .start + r) k ≡ g
       go {t} run (draws b d) =
           let w = work-is f W H L p₁ p₂ k g run in
-          let lone = unfed-is k g deep cells unfed (w .1) (w .2) in
+          let single = unfed-is k g deep cells unfed (w .1) (w .2) in
           let c = chain-at 0 r (L - 1) 0 (omega arith) (subst (λ (h : ℕ). Stand f W H L (L - 1) 0 h t) (row-sets r) d) k (omega arith) (omega arith) there in
           let top : needed f H 0 r (suc k) ≤ order.lastSet (sideAt k H) =
           subst (λ (i : ℕ). needed f H 0 r (suc i) ≤ order.lastSet (sideAt i H)) (omega arith) (needed-set f H 0 r k .1) in

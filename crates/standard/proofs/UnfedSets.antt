@@ -65,7 +65,7 @@ unfolding halfOf
 low-row H n p q = (omega arith, omega arith)
 
 -- what is known of a set n without a fed row
-pub record Lone (l : ℕ) (W H : Interval) (n : ℕ) : Type 0 where
+pub record Single (l : ℕ) (W H : Interval) (n : ℕ) : Type 0 where
   -- its level is not the last one,
   pub below : 0 < l
   -- its only row is the level's last row, 2n,
@@ -90,7 +90,7 @@ module _ (k : ℕ) (W H : Interval) (n : ℕ) (some : 0 < size W) (from : H .i0 
             (omega arith, elim (decLt 0 (size (halfOf hi W))) [ yes u ↦ absurd (a .1 u (h .0) (h .1)) | no u ↦ omega arith ])
       ]
 
-  pub unfed-last : (l : ℕ) → waiting l k W H n ≡ [] → Lone l W H n
+  pub unfed-last : (l : ℕ) → waiting l k W H n ≡ [] → Single l W H n
   unfolding waiting across down
   unfed-last zero e =
       let a = skipped k W H n LL (HL ∷ LH ∷ HH ∷ []) e in

@@ -71,9 +71,9 @@ module _ (keep : ℤ → ℤ) (u v N a t w : ℕ) (K : Cut u v N a t w) (x y : �
       ∙ by-three (updated keep) (at _ _ (omega arith) (omega arith) (omega arith)) h h
       ∙ sym (low-end keep N x (t + n) (omega arith) (omega arith))
 
-  low-lone : (n : ℕ) → v ≤ n → n < w → w ≤ 1 → u ≡ 0 → a + w ≡ N → lineForward keep (side 0 w) y lo n ≡ lineForward keep (side 0 N) x lo (t + n)
+  low-single : (n : ℕ) → v ≤ n → n < w → w ≤ 1 → u ≡ 0 → a + w ≡ N → lineForward keep (side 0 w) y lo n ≡ lineForward keep (side 0 N) x lo (t + n)
   unfolding place
-  low-lone n l b g z i =
+  low-single n l b g z i =
       let c = K .even in
       let k : a ≡ 0 = ⊎-elim (λ k. omega arith) (λ k. omega arith) (K .left) in
       low-one (side 0 w) g keep y n ∙ at _ _ (omega arith) (omega arith) (omega arith) ∙ sym (low-one (side 0 N) (omega arith) keep x (t + n))
@@ -88,6 +88,6 @@ module _ (keep : ℤ → ℤ) (u v N a t w : ℕ) (K : Cut u v N a t w) (x y : �
         | yes p ↦ low n l p r
         | no p ↦
             ⊎-elim
-            (λ k. elim (decLt 1 w) [ yes g ↦ low-last n l g (k .0) (k .1) (omega arith) | no g ↦ low-lone n l (omega arith) (omega arith) (k .0) (k .1) ])
+            (λ k. elim (decLt 1 w) [ yes g ↦ low-last n l g (k .0) (k .1) (omega arith) | no g ↦ low-single n l (omega arith) (omega arith) (k .0) (k .1) ])
             (λ k. absurd (omega arith)) (K .right)
       ]

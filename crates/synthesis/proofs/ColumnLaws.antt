@@ -7,7 +7,7 @@ use lib.IntN.{ℤ}
 use lib.Signed.{shrZ}
 use Rattle.numbers.specs.Word.{wrap32}
 use Rattle.lifting.specs.Line.{Half, lo, hi}
-use Rattle.lifting.specs.Grid.{Side, count, parted, loneHigh}
+use Rattle.lifting.specs.Grid.{Side, count, deinterleaved, singleHigh}
 use Rattle.lifting.specs.Filter.{lineBackBy}
 use Rattle.wavelet.specs.Bands.{Grid, Band, rowsUnlifted}
 use Rattle.wavelet.specs.Order.{firstSet}
@@ -29,20 +29,20 @@ pub record ColumnLaws (C : Columns) : Type 0 where
   pub keeps : C .filter .rows ≡ 4 * C .filter .ahead
   -- the two bands of a row become the line that has them
   pub along-is : (W : Side) (q : ℕ) (x : ℕ → ℤ) (c : Half → ℕ → ℤ) → RowStands (C .filter .rows) W x q c →
-      RowStands (C .filter .rows) W (rowUnlifted (C .filter .rows) (C .along) W q x) q (parted W (lineBackBy (C .filter) wrap32 W c))
+      RowStands (C .filter .rows) W (rowUnlifted (C .filter .rows) (C .along) W q x) q (deinterleaved W (lineBackBy (C .filter) wrap32 W c))
   -- a row rebuilt changes its own slot alone
   pub only-even : (k w : ℕ) (H : Side) (q : ℕ) (x : ℕ → ℤ) → Only (C .filter .rows) w q x (C .even k w H q x)
   pub only-odd : (k w : ℕ) (H : Side) (q : ℕ) (x : ℕ → ℤ) → Only (C .filter .rows) w q x (C .odd k w H q x)
   -- an even row is rebuilt from its low row and the high rows of its set and of the one before, an odd one from the even rows of the last 2a sets
   pub even-is : (k : ℕ) (W H : Side) (p : Band → Grid) (n : ℕ) (x : ℕ → ℤ) → 2 * n < endOf H → firstSet H lo ≤ n →
-      RowStands (C .filter .rows) W x (2 * n) (parted W (colsOf C W p lo (n - firstSet H lo))) →
-      ((i : ℕ) → i < count hi H → i ≤ n → n ≤ i + 1 → RowStands (C .filter .rows) W x (2 * i + 1) (parted W (colsOf C W p hi i))) →
-      RowStands (C .filter .rows) W (C .even k (W .length) H (2 * n) x) (2 * n) (parted W (C .back k W H p (2 * n - firstSet H lo)))
+      RowStands (C .filter .rows) W x (2 * n) (deinterleaved W (colsOf C W p lo (n - firstSet H lo))) →
+      ((i : ℕ) → i < count hi H → i ≤ n → n ≤ i + 1 → RowStands (C .filter .rows) W x (2 * i + 1) (deinterleaved W (colsOf C W p hi i))) →
+      RowStands (C .filter .rows) W (C .even k (W .length) H (2 * n) x) (2 * n) (deinterleaved W (C .back k W H p (2 * n - firstSet H lo)))
   pub odd-is : (k : ℕ) (W H : Side) (p : Band → Grid) (n i : ℕ) (x : ℕ → ℤ) → Near (C .filter .ahead) H n i →
-      RowStands (C .filter .rows) W x (2 * i + 1) (parted W (colsOf C W p hi i)) →
+      RowStands (C .filter .rows) W x (2 * i + 1) (deinterleaved W (colsOf C W p hi i)) →
       ((j : ℕ) → firstSet H lo ≤ j → j ≤ n → n < j + 2 * C .filter .ahead →
-      RowStands (C .filter .rows) W x (2 * j) (parted W (C .back k W H p (2 * j - firstSet H lo)))) →
-      RowStands (C .filter .rows) W (C .odd k (W .length) H (2 * i + 1) x) (2 * i + 1) (parted W (C .back k W H p (2 * i + 1 - firstSet H lo)))
+      RowStands (C .filter .rows) W x (2 * j) (deinterleaved W (C .back k W H p (2 * j - firstSet H lo)))) →
+      RowStands (C .filter .rows) W (C .odd k (W .length) H (2 * i + 1) x) (2 * i + 1) (deinterleaved W (C .back k W H p (2 * i + 1 - firstSet H lo)))
   -- an only row at an odd coordinate is halved
-  pub lone-is : (k : ℕ) (W H : Side) (p : Band → Grid) (i c : ℕ) → H .length ≤ 1 → loneHigh H ≡ true →
+  pub single-is : (k : ℕ) (W H : Side) (p : Band → Grid) (i c : ℕ) → H .length ≤ 1 → singleHigh H ≡ true →
       shrZ (colsOf C W p hi i c) 2 ≡ C .back k W H p (2 * i + 1 - firstSet H lo) c

@@ -12,7 +12,7 @@ use Rattle.numbers.specs.Signal.{pick}
 use Rattle.numbers.specs.Word.{wrap32}
 use Rattle.lifting.specs.Line as five
 use Rattle.lifting.specs.Line.{Half, lo, hi}
-use Rattle.lifting.specs.Grid.{Side, place, count, parted}
+use Rattle.lifting.specs.Grid.{Side, place, count, deinterleaved}
 use Rattle.lifting.specs.GridHalves as five-halves
 use Rattle.lifting.specs.Filter.{Filter, lineBackBy}
 use Rattle.lifting.proofs.GridLaws as five-laws
@@ -52,8 +52,8 @@ rows-some f = omega (arith, rows-are f, ahead-some f)
 
 -- ---- along the rows
 pub along : (f : ℕ) (W : Side) (q : ℕ) (x : ℕ → ℤ) (c : Half → ℕ → ℤ) → RowStands (filterOf f .rows) W x q c →
-    RowStands (filterOf f .rows) W (rowUnlifted (filterOf f .rows) (alongOf f) W q x) q (parted W (lineBackBy (filterOf f) wrap32 W c))
-unfolding alongOf filterOf five-halves.unliftedInPlace nine-halves.unliftedInPlace parted
+    RowStands (filterOf f .rows) W (rowUnlifted (filterOf f .rows) (alongOf f) W q x) q (deinterleaved W (lineBackBy (filterOf f) wrap32 W c))
+unfolding alongOf filterOf five-halves.unliftedInPlace nine-halves.unliftedInPlace deinterleaved
 along zero W q x c e h i b =
     unlifted-by {m = 4} (omega arith) five-halves.unliftedInPlace W q x _ refl h i b
     ∙ five-reads.halves-back-reads wrap32 W _ c (row-halves {m = 4} (omega arith) W x q _ e) h i b
@@ -154,16 +154,17 @@ module _ (F : Filter) (W H : Side) (p : Band → Grid) where
 -- ---- rows of the level, told by their columns
 module _ (W : Side) where
   by-columns : (f : ℤ → ℤ → ℤ → ℤ → ℤ → ℤ) (r₁ r₂ r₃ r₄ r₅ r₆ : ℕ → ℤ) → ((c : ℕ) → c < W .length → f (r₁ c) (r₂ c) (r₃ c) (r₄ c) (r₅ c) ≡ r₆ c) →
-      (h : Half) (i : ℕ) → i < count h W → f (parted W r₁ h i) (parted W r₂ h i) (parted W r₃ h i) (parted W r₄ h i) (parted W r₅ h i) ≡ parted W r₆ h i
-  unfolding parted
+      (h : Half) (i : ℕ) → i < count h W → f (deinterleaved W r₁ h i) (deinterleaved W r₂ h i) (deinterleaved W r₃ h i) (deinterleaved W r₄ h i)
+      (deinterleaved W r₅ h i) ≡ deinterleaved W r₆ h i
+  unfolding deinterleaved
   by-columns f r₁ r₂ r₃ r₄ r₅ r₆ e h i b = e (place W h i) (place-in W h i b)
 
   pub by-three : (f : ℤ → ℤ → ℤ → ℤ) (r₁ r₂ r₃ r₄ : ℕ → ℤ) → ((c : ℕ) → c < W .length → f (r₁ c) (r₂ c) (r₃ c) ≡ r₄ c) → (h : Half) (i : ℕ) → i < count h W →
-      f (parted W r₁ h i) (parted W r₂ h i) (parted W r₃ h i) ≡ parted W r₄ h i
+      f (deinterleaved W r₁ h i) (deinterleaved W r₂ h i) (deinterleaved W r₃ h i) ≡ deinterleaved W r₄ h i
   by-three f r₁ r₂ r₃ r₄ e = by-columns (λ u v w _ _. f u v w) r₁ r₂ r₃ r₁ r₁ r₄ e
 
-  pub moved : (m : ℕ) (x : ℕ → ℤ) (q t : ℕ) (v : ℕ → ℤ) → q ≡ t → RowStands m W x t (parted W v) → RowStands m W x q (parted W v)
-  moved m x q t v e s = subst (λ (j : ℕ). RowStands m W x j (parted W v)) (sym e) s
+  pub moved : (m : ℕ) (x : ℕ → ℤ) (q t : ℕ) (v : ℕ → ℤ) → q ≡ t → RowStands m W x t (deinterleaved W v) → RowStands m W x q (deinterleaved W v)
+  moved m x q t v e s = subst (λ (j : ℕ). RowStands m W x j (deinterleaved W v)) (sym e) s
 
 pub in-lows : (H : Side) (n : ℕ) → 2 * n < endOf H → firstSet H lo ≤ n → n - firstSet H lo < count lo H
 unfolding endOf count firstSet
@@ -171,9 +172,10 @@ in-lows H n l b = omega arith
 
 -- ---- an even row
 pub even-made : (f : ℕ) (W H : Side) (p : Band → Grid) (n : ℕ) (x : ℕ → ℤ) → 2 * n < endOf H → firstSet H lo ≤ n →
-    RowStands (filterOf f .rows) W x (2 * n) (parted W (rowsUnlifted (filterOf f) wrap32 W p lo (n - firstSet H lo))) →
-    ((i : ℕ) → i < count hi H → i ≤ n → n ≤ i + 1 → RowStands (filterOf f .rows) W x (2 * i + 1) (parted W (rowsUnlifted (filterOf f) wrap32 W p hi i))) →
-    RowStands (filterOf f .rows) W (evenOf f (W .length) H (2 * n) x) (2 * n) (parted W (levelBack (filterOf f) wrap32 W H p (2 * n - firstSet H lo)))
+    RowStands (filterOf f .rows) W x (2 * n) (deinterleaved W (rowsUnlifted (filterOf f) wrap32 W p lo (n - firstSet H lo))) →
+    ((i : ℕ) → i < count hi H → i ≤ n → n ≤ i + 1
+    → RowStands (filterOf f .rows) W x (2 * i + 1) (deinterleaved W (rowsUnlifted (filterOf f) wrap32 W p hi i))) →
+    RowStands (filterOf f .rows) W (evenOf f (W .length) H (2 * n) x) (2 * n) (deinterleaved W (levelBack (filterOf f) wrap32 W H p (2 * n - firstSet H lo)))
 unfolding evenOf
 even-made f W H p n x l b low high = go (decLt 1 (H .length))
   where
@@ -188,7 +190,7 @@ even-made f W H p n x l b low high = go (decLt 1 (H .length))
 
     go : Dec (1 < H .length) → RowStands (filterOf f .rows) W
         (pick (ltb 1 (H .length)) (rowBy (filterOf f .rows) (unupdatedOf f) (W .length) (2 * n) (rowBefore H 1 (2 * n)) (rowAfter H 1 (2 * n)) x) x) (2 * n)
-        (parted W (levelBack (filterOf f) wrap32 W H p (2 * n - firstSet H lo)))
+        (deinterleaved W (levelBack (filterOf f) wrap32 W H p (2 * n - firstSet H lo)))
     go (yes g) =
         let c = in-lows H n l b in
         let u = before-in H n g b c in
@@ -207,12 +209,12 @@ even-made f W H p n x l b low high = go (decLt 1 (H .length))
 -- ---- an odd row
 abbrev Evens : ℕ → Side → Side → (Band → Grid) → ℕ → (ℕ → ℤ) → Type 0
 Evens f W H p n x = (j : ℕ) → firstSet H lo ≤ j → j ≤ n → n < j + 2 * filterOf f .ahead →
-    RowStands (filterOf f .rows) W x (2 * j) (parted W (levelBack (filterOf f) wrap32 W H p (2 * j - firstSet H lo)))
+    RowStands (filterOf f .rows) W x (2 * j) (deinterleaved W (levelBack (filterOf f) wrap32 W H p (2 * j - firstSet H lo)))
 
 odd-made : (f : ℕ) (W H : Side) (p : Band → Grid) (n i : ℕ) (x : ℕ → ℤ) → Near (filterOf f .ahead) H n i →
-    RowStands (filterOf f .rows) W x (2 * i + 1) (parted W (rowsUnlifted (filterOf f) wrap32 W p hi i)) → Evens f W H p n x →
+    RowStands (filterOf f .rows) W x (2 * i + 1) (deinterleaved W (rowsUnlifted (filterOf f) wrap32 W p hi i)) → Evens f W H p n x →
     RowStands (filterOf f .rows) W (oddOf f (W .length) H (2 * i + 1) x) (2 * i + 1)
-    (parted W (levelBack (filterOf f) wrap32 W H p (2 * i + 1 - firstSet H lo)))
+    (deinterleaved W (levelBack (filterOf f) wrap32 W H p (2 * i + 1 - firstSet H lo)))
 unfolding filterOf oddOf
 odd-made zero W H p n i x g high evens h t q =
     let F = filterOf 0 in
@@ -256,5 +258,5 @@ columns-laws f = record {
   only-odd = λ k. odd-only f;
   even-is = λ k. even-made f;
   odd-is = λ k. odd-made f;
-  lone-is = λ k W H p i c g _. sym (odd-back (filterOf f) W H p i c ∙ odd-one H (λ a j. cols (filterOf f) W H p a j c) f g i);
+  single-is = λ k W H p i c g _. sym (odd-back (filterOf f) W H p i c ∙ odd-one H (λ a j. cols (filterOf f) W H p a j c) f g i);
 }

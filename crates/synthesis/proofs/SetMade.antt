@@ -14,9 +14,9 @@ use Rattle.numbers.specs.Signal.{pick}
 use Rattle.numbers.proofs.Sweep.{both as both-hold}
 use Rattle.numbers.proofs.TestLaws.{every-each, each-every}
 use Rattle.lifting.specs.Line.{Half, lo, hi}
-use Rattle.lifting.specs.Grid.{Side, place, count, parted, loneHigh, isEven, hasLine}
+use Rattle.lifting.specs.Grid.{Side, place, count, deinterleaved, singleHigh, isEven, hasLine}
 use Rattle.lifting.proofs.GridLaws.{place-in}
-use Rattle.lifting.proofs.LoneLaws.{lone-high, has-lone, has-other}
+use Rattle.lifting.proofs.SingleLaws.{single-high, has-single, has-other}
 use Rattle.wavelet.specs.Bands.{Grid, Band, bandOf, rowsUnlifted}
 use Rattle.wavelet.specs.Order.{firstSet, lastSet}
 use Rattle.wavelet.specs.Steps.{setOf}
@@ -28,7 +28,7 @@ use Rattle.level.proofs.RowsIn.{apart, Only, is-old, only-unlifted, line-is, on
 use Rattle.level.proofs.TriedRows.{Outcome, stops, goes, bind-outcome, not-false, each-stands, stands-each, admit}
 use Rattle.synthesis.specs.Columns.{Columns}
 use Rattle.synthesis.specs.Work.{evenDone, admitted, pairMade, ownEven, firstMade, pairOf}
-use Rattle.synthesis.specs.Work.{pairBefore, pairsMade, earlierMade, mostMade, ownMade, loneMade}
+use Rattle.synthesis.specs.Work.{pairBefore, pairsMade, earlierMade, mostMade, ownMade, singleMade}
 use Rattle.synthesis.specs.Work.{lastMade, restMade, rowsMade, setUnlifted, setMade}
 use Rattle.synthesis.specs.Stands.{SetBefore, SetLeaves}
 use Rattle.synthesis.proofs.ColumnLaws.{colsOf, Near, ColumnLaws}
@@ -79,8 +79,8 @@ module _ (C : Columns) (L : ColumnLaws C) (one : 1 ≤ C .filter .ahead) (four :
 
     -- rows of the level, told by their columns
     by-row : (f : ℤ → ℤ) (r₁ r₂ : ℕ → ℤ) → ((c : ℕ) → c < W .length → f (r₁ c) ≡ r₂ c) → (h : Half) (i : ℕ) → i < count h W →
-        f (parted W r₁ h i) ≡ parted W r₂ h i
-    unfolding parted
+        f (deinterleaved W r₁ h i) ≡ deinterleaved W r₂ h i
+    unfolding deinterleaved
     by-row f r₁ r₂ e h i b = e (place W h i) (place-in W h i b)
 
     -- ---- what a set needs
@@ -120,7 +120,7 @@ module _ (C : Columns) (L : ColumnLaws C) (one : 1 ≤ C .filter .ahead) (four :
       -- a row tried: what stands in the other slots still does
       line-tried : (P : (ℕ → ℤ) → Type 0) (n : ℕ) (h : Half) (r q : ℕ) (x : ℕ → ℤ) → (SetHas n → hasLine W (λ b. p (bandOf b h) r) ≡ true) →
           Is x q (λ b. p (bandOf b h) r) →
-          (hasLine W (λ b. p (bandOf b h) r) ≡ true → Is (rowUnlifted m (C .along) W q x) q (parted W (cols h r)) → P (rowUnlifted m (C .along) W q x)) →
+          (hasLine W (λ b. p (bandOf b h) r) ≡ true → Is (rowUnlifted m (C .along) W q x) q (deinterleaved W (cols h r)) → P (rowUnlifted m (C .along) W q x)) →
           Outcome (FitSet n) P (lineTried m (C .along) W q x)
       unfolding lineTried rowsUnlifted
       line-tried P n h r q x has s f = go (rowHasLine m W q x) refl
@@ -132,7 +132,7 @@ module _ (C : Columns) (L : ColumnLaws C) (one : 1 ≤ C .filter .ahead) (four :
       -- the low row lifted back
       record Low (n : ℕ) (x : ℕ → ℤ) : Type 0 where
         line : b₀ ≤ n → hasLine W (λ h. p (bandOf h lo) (n - b₀)) ≡ true
-        low : b₀ ≤ n → Is x (2 * n) (parted W (cols lo (n - b₀)))
+        low : b₀ ≤ n → Is x (2 * n) (deinterleaved W (cols lo (n - b₀)))
         high : n < count hi H → Is x (2 * n + 1) (λ h. p (bandOf h hi) n)
         before : SetBefore C k W H p n x
         past : Past x
@@ -169,9 +169,9 @@ module _ (C : Columns) (L : ColumnLaws C) (one : 1 ≤ C .filter .ahead) (four :
       -- both
       record Rows (n : ℕ) (x : ℕ → ℤ) : Type 0 where
         lines : Lines n
-        low : b₀ ≤ n → Is x (2 * n) (parted W (cols lo (n - b₀)))
-        high : (i : ℕ) → i < count hi H → i ≤ n → n ≤ i + a → Is x (2 * i + 1) (parted W (cols hi i))
-        even : (i : ℕ) → i < n → n < i + 2 * a → b₀ ≤ i → Is x (2 * i) (parted W (G (row (2 * i))))
+        low : b₀ ≤ n → Is x (2 * n) (deinterleaved W (cols lo (n - b₀)))
+        high : (i : ℕ) → i < count hi H → i ≤ n → n ≤ i + a → Is x (2 * i + 1) (deinterleaved W (cols hi i))
+        even : (i : ℕ) → i < n → n < i + 2 * a → b₀ ≤ i → Is x (2 * i) (deinterleaved W (G (row (2 * i))))
         past : Past x
 
       high-tried : (n : ℕ) (x : ℕ → ℤ) → Low n x → Outcome (FitSet n) (Rows n) (highTried m (C .along) W H n x)
@@ -209,9 +209,9 @@ module _ (C : Columns) (L : ColumnLaws C) (one : 1 ≤ C .filter .ahead) (four :
       -- ---- the columns: even rows to 2n are rebuilt, of the odd ones those before 2d + 1
       record Held (n d : ℕ) (x : ℕ → ℤ) : Type 0 where
         lines : Lines n
-        even : (i : ℕ) → b₀ ≤ i → i ≤ n → n < i + 2 * a → Is x (2 * i) (parted W (G (row (2 * i))))
-        odd : (i : ℕ) → i < count hi H → i < d → n ≤ i + a → Is x (2 * i + 1) (parted W (G (row (2 * i + 1))))
-        high : (i : ℕ) → i < count hi H → d ≤ i → i ≤ n → n ≤ i + a → Is x (2 * i + 1) (parted W (cols hi i))
+        even : (i : ℕ) → b₀ ≤ i → i ≤ n → n < i + 2 * a → Is x (2 * i) (deinterleaved W (G (row (2 * i))))
+        odd : (i : ℕ) → i < count hi H → i < d → n ≤ i + a → Is x (2 * i + 1) (deinterleaved W (G (row (2 * i + 1))))
+        high : (i : ℕ) → i < count hi H → d ≤ i → i ≤ n → n ≤ i + a → Is x (2 * i + 1) (deinterleaved W (cols hi i))
         past : Past x
 
       evened : (n : ℕ) (x : ℕ → ℤ) → 2 * n < endOf H → b₀ ≤ n → Rows n x → Held n (n - a) (C .even k (W .length) H (2 * n) x)
@@ -271,7 +271,7 @@ module _ (C : Columns) (L : ColumnLaws C) (one : 1 ≤ C .filter .ahead) (four :
         fit : Fit n f
 
       -- row r, which set n makes, tested
-      tested : (P : (ℕ → ℤ) → Type 0) (n q r : ℕ) (x : ℕ → ℤ) → r < H .length → setOf a H r ≡ n → Is x q (parted W (G r)) → (FitRow r → P x) →
+      tested : (P : (ℕ → ℤ) → Type 0) (n q r : ℕ) (x : ℕ → ℤ) → r < H .length → setOf a H r ≡ n → Is x q (deinterleaved W (G r)) → (FitRow r → P x) →
           Outcome (FitSet n) P (admitted C k (W .length) q x)
       tested P n q r x b o s f = admit (C .fits) m k W (FitSet n) P q (G r) x (λ all c u. all .fit r c b o u) s f
 
@@ -421,25 +421,25 @@ module _ (C : Columns) (L : ColumnLaws C) (one : 1 ≤ C .filter .ahead) (four :
       even-set q i e b = omega arith
 
       made-by : (n d : ℕ) (x : ℕ → ℤ) → Held n d x → (r : ℕ) → r < H .length → 2 * n < local (H .start) r + 2 * a → local (H .start) r < 2 * d + 1 →
-          local (H .start) r ≤ 2 * n + 1 → Is x (local (H .start) r) (parted W (G r))
+          local (H .start) r ≤ 2 * n + 1 → Is x (local (H .start) r) (deinterleaved W (G r))
       made-by n d x s r b l u v = go (ℕ-discrete (q % 2) 0)
         where
           q : ℕ
           q = local (H .start) r
 
-          go : Dec (q % 2 ≡ 0) → Is x q (parted W (G r))
+          go : Dec (q % 2 ≡ 0) → Is x q (deinterleaved W (G r))
           go (yes e) =
               let i = q / 2 in
               let z = halved q e in
               let w = even-set q i z (local-in r b .1) in
-              subst (λ (j : ℕ). Is x j (parted W (G r))) (sym z)
-              (subst (λ (j : ℕ). Is x (2 * i) (parted W (G j))) (at-row (2 * i) r z) (s .even i w (omega arith) (omega arith)))
+              subst (λ (j : ℕ). Is x j (deinterleaved W (G r))) (sym z)
+              (subst (λ (j : ℕ). Is x (2 * i) (deinterleaved W (G j))) (at-row (2 * i) r z) (s .even i w (omega arith) (omega arith)))
           go (no e) =
               let i = q / 2 in
               let z = odd-halved q e in
               let c = in-highs i (omega (arith, local-in r b .0)) in
-              subst (λ (j : ℕ). Is x j (parted W (G r))) (sym z)
-              (subst (λ (j : ℕ). Is x (2 * i + 1) (parted W (G j))) (at-row (2 * i + 1) r z) (s .odd i c (omega arith) (omega arith)))
+              subst (λ (j : ℕ). Is x j (deinterleaved W (G r))) (sym z)
+              (subst (λ (j : ℕ). Is x (2 * i + 1) (deinterleaved W (G j))) (at-row (2 * i + 1) r z) (s .odd i c (omega arith) (omega arith)))
 
       -- the columns are lines' where there is more than an only row at an odd coordinate
       has-of : (n : ℕ) → Lines n → ((c : ℕ) → c < W .length → hasLine H (λ h i. cols h i c) ≡ true) → SetHas n
@@ -472,7 +472,7 @@ module _ (C : Columns) (L : ColumnLaws C) (one : 1 ≤ C .filter .ahead) (four :
       last-by : (n : ℕ) → 2 * n + 1 < endOf H → endOf H ≤ 2 * n + 2 → setOf a H (row (2 * n + 1)) ≡ n
       last-by n l e = made-in n n (2 * n + 1) (omega arith) (omega arith) (omega arith) (omega arith) (λ _. e)
 
-      beside-made : (n : ℕ) (x : ℕ → ℤ) → 0 < H .length → 2 * n + 1 < endOf H → endOf H ≤ 2 * n + 2 → loneHigh H ≡ false → Stage n n (2 * n + 1) x →
+      beside-made : (n : ℕ) (x : ℕ → ℤ) → 0 < H .length → 2 * n + 1 < endOf H → endOf H ≤ 2 * n + 2 → singleHigh H ≡ false → Stage n n (2 * n + 1) x →
           Outcome (FitSet n) (Worked n) (admitted C k (W .length) (2 * n + 1) (C .odd k (W .length) H (2 * n + 1) x))
       unfolding endOf
       beside-made n x g l e f s =
@@ -491,33 +491,33 @@ module _ (C : Columns) (L : ColumnLaws C) (one : 1 ≤ C .filter .ahead) (four :
       unfolding endOf
       only-first n l e = omega arith
 
-      lone-made : (n : ℕ) (x : ℕ → ℤ) → 0 < H .length → 2 * n + 1 < endOf H → endOf H ≤ 2 * n + 2 → loneHigh H ≡ true → Stage n n (2 * n + 1) x →
-          Outcome (FitSet n) (Worked n) (loneMade C k (W .length) (2 * n + 1) x)
-      unfolding stretch.loneMade rowIsEven
-      lone-made n x g l e f s = go (rowIsEven m (W .length) (2 * n + 1) x) refl
+      single-made : (n : ℕ) (x : ℕ → ℤ) → 0 < H .length → 2 * n + 1 < endOf H → endOf H ≤ 2 * n + 2 → singleHigh H ≡ true → Stage n n (2 * n + 1) x →
+          Outcome (FitSet n) (Worked n) (singleMade C k (W .length) (2 * n + 1) x)
+      unfolding stretch.singleMade rowIsEven
+      single-made n x g l e f s = go (rowIsEven m (W .length) (2 * n + 1) x) refl
         where
           y : ℕ → ℤ
           y = rowHalved m (W .length) (2 * n + 1) x
 
           only : H .length ≡ 1
-          only = lone-high H f .0
+          only = single-high H f .0
 
           first : n ≡ 0
           first = only-first n l only
 
-          high : Is x (2 * n + 1) (parted W (cols hi n))
+          high : Is x (2 * n + 1) (deinterleaved W (cols hi n))
           high = s .held .high n (in-highs n l) (omega arith) (omega arith) (omega arith)
 
           o : Only m (W .length) (2 * n + 1) x y
           o = only-halved some W (2 * n + 1) x
 
-          last : Is y (2 * n + 1) (parted W (G (row (2 * n + 1))))
+          last : Is y (2 * n + 1) (deinterleaved W (G (row (2 * n + 1))))
           last h i b =
               halved-is some W (2 * n + 1) x _ high h i b
-              ∙ by-row (λ v. shrZ v 2) (cols hi n) (G (row (2 * n + 1))) (λ c _. L .lone-is k W H p n c (omega (arith, only)) f) h i b
+              ∙ by-row (λ v. shrZ v 2) (cols hi n) (G (row (2 * n + 1))) (λ c _. L .single-is k W H p n c (omega (arith, only)) f) h i b
 
           column : (c : ℕ) → hasLine H (λ h i. cols h i c) ≡ isEven (cols hi n c)
-          column c = has-lone H _ f ∙ ap (λ (i : ℕ). isEven (cols hi i c)) (sym first)
+          column c = has-single H _ f ∙ ap (λ (i : ℕ). isEven (cols hi i c)) (sym first)
 
           held : Held n (suc n) y
           held = record {
@@ -540,9 +540,9 @@ module _ (C : Columns) (L : ColumnLaws C) (one : 1 ≤ C .filter .ahead) (four :
               sym (column c) ∙ all .has .columns (row (2 * n + 1)) (row-in (2 * n + 1) l (omega (arith, few))) (last-by n l e) c v))) odd)
 
       -- no last row: the level ends with an even one
-      no-lone : (n : ℕ) → endOf H ≤ 2 * n + 1 → 2 * n < endOf H → loneHigh H ≡ true → ⊥
+      no-single : (n : ℕ) → endOf H ≤ 2 * n + 1 → 2 * n < endOf H → singleHigh H ≡ true → ⊥
       unfolding endOf count
-      no-lone n e l f = let t = lone-high H f in omega (arith, t .0, t .2)
+      no-single n e l f = let t = single-high H f in omega (arith, t .0, t .2)
 
       none-made : (n : ℕ) (x : ℕ → ℤ) → Held n n x → endOf H ≤ 2 * n + 1 → Held n (suc n) x
       none-made n x s e = record {
@@ -558,29 +558,29 @@ module _ (C : Columns) (L : ColumnLaws C) (one : 1 ≤ C .filter .ahead) (four :
       unfolding lastMade
       last-made n x g l e s = go (decLt (2 * n + 1) (endOf H))
         where
-          lone : (t : Bool) → loneHigh H ≡ t → 2 * n + 1 < endOf H → Outcome (FitSet n) (Worked n)
-              (pick t (loneMade C k (W .length) (2 * n + 1) x) (admitted C k (W .length) (2 * n + 1) (C .odd k (W .length) H (2 * n + 1) x)))
-          lone true f u = lone-made n x g u e f s
-          lone false f u = beside-made n x g u e f s
+          single : (t : Bool) → singleHigh H ≡ t → 2 * n + 1 < endOf H → Outcome (FitSet n) (Worked n)
+              (pick t (singleMade C k (W .length) (2 * n + 1) x) (admitted C k (W .length) (2 * n + 1) (C .odd k (W .length) H (2 * n + 1) x)))
+          single true f u = single-made n x g u e f s
+          single false f u = beside-made n x g u e f s
 
-          none : (t : Bool) → loneHigh H ≡ t → endOf H ≤ 2 * n + 1 → (c : ℕ) → c < W .length → hasLine H (λ h i. cols h i c) ≡ true
-          none true f u c b = absurd (no-lone n u l f)
+          none : (t : Bool) → singleHigh H ≡ t → endOf H ≤ 2 * n + 1 → (c : ℕ) → c < W .length → hasLine H (λ h i. cols h i c) ≡ true
+          none true f u c b = absurd (no-single n u l f)
           none false f u c b = has-other H _ f
 
           go : Dec (2 * n + 1 < endOf H) → Outcome (FitSet n) (Worked n)
               (pick (ltb (2 * n + 1) (endOf H))
-              (pick (loneHigh H) (loneMade C k (W .length) (2 * n + 1) x) (admitted C k (W .length) (2 * n + 1) (C .odd k (W .length) H (2 * n + 1) x)))
+              (pick (singleHigh H) (singleMade C k (W .length) (2 * n + 1) x) (admitted C k (W .length) (2 * n + 1) (C .odd k (W .length) H (2 * n + 1) x)))
               (passed x))
-          go (yes u) = rw (lt-ltb (2 * n + 1) (endOf H) u) (lone (loneHigh H) refl u)
+          go (yes u) = rw (lt-ltb (2 * n + 1) (endOf H) u) (single (singleHigh H) refl u)
           go (no u) = rw (le-ltb (2 * n + 1) (endOf H) (omega arith)) (goes x (last-leaves n x g e (record {
             held = none-made n x (s .held) (omega arith);
             fit = λ r b q v. s .fit r b q (omega (arith, local-in r b .0));
-          }) (none (loneHigh H) refl (omega arith))))
+          }) (none (singleHigh H) refl (omega arith))))
 
       -- a set that is not the last
-      not-only : (n : ℕ) → 2 * n + 2 < endOf H → loneHigh H ≡ true → ⊥
+      not-only : (n : ℕ) → 2 * n + 2 < endOf H → singleHigh H ≡ true → ⊥
       unfolding endOf count
-      not-only n l f = let t = lone-high H f in omega (arith, t .0, t .2)
+      not-only n l f = let t = single-high H f in omega (arith, t .0, t .2)
 
       not-last : (n : ℕ) → 2 * n + 2 < endOf H → suc n ≤ lastSet H
       unfolding endOf lastSet
@@ -596,12 +596,12 @@ module _ (C : Columns) (L : ColumnLaws C) (one : 1 ≤ C .filter .ahead) (four :
             even = λ i u v c. s .held .even i c (omega arith) (omega arith);
             high = λ i u v. s .held .high i (in-highs i (omega arith)) (omega arith) (omega arith) (omega arith);
           };
-          has = has-of n (s .held .lines) (λ c _. has (loneHigh H) refl c);
+          has = has-of n (s .held .lines) (λ c _. has (singleHigh H) refl c);
         },
         s .held .past,
       )
         where
-          has : (t : Bool) → loneHigh H ≡ t → (c : ℕ) → hasLine H (λ h i. cols h i c) ≡ true
+          has : (t : Bool) → singleHigh H ≡ t → (c : ℕ) → hasLine H (λ h i. cols h i c) ≡ true
           has true f c = absurd (not-only n l f)
           has false f c = has-other H _ f
 

@@ -15,7 +15,7 @@ use Rattle.numbers.specs.Tests.{every}
 use Rattle.numbers.proofs.Integers.{each, lin}
 use Rattle.numbers.proofs.Parts.{length-mid, at-mid, at-put, splice-in, splice-below, splice-past}
 use Rattle.lifting.specs.Line.{lo}
-use Rattle.lifting.specs.Grid.{Side, side, loneHigh}
+use Rattle.lifting.specs.Grid.{Side, side, singleHigh}
 use Rattle.lifting.specs.Halves.{fronted}
 use Rattle.areas.proofs.AreaLaws.{front-at}
 use Rattle.lifting.specs.FiveThree.{fiveThreeFilter}
@@ -93,7 +93,7 @@ module _ (k w h n : ℕ) (there : 2 * n < h) where
       go false = pair-made (n - 1) x
 
   last-made : (x : ℕ → ℤ) → restMade C k w H n x ≡ passed (lastLimited k w H n x)
-  unfolding restMade lastMade lastLimited pairsMade bind loneHigh filterOf
+  unfolding restMade lastMade lastLimited pairsMade bind singleHigh filterOf
   last-made x = go (leb (endOf H) (2 * n + 2)) (ltb (2 * n + 1) (endOf H))
     where
       go : (s t : Bool) → pick s (pick t (admitted C k w (2 * n + 1) (oddLimited k w H (2 * n + 1) x)) (passed x)) (passed x)

@@ -11,10 +11,10 @@ use Rattle.numbers.specs.Signal.{pick, windowed, spliced}
 use Rattle.numbers.specs.Word.{wrap32}
 use Rattle.numbers.proofs.Parts.{splice-in, window-in}
 use Rattle.lifting.specs.Line.{Half, lo, hi, unpredicted}
-use Rattle.lifting.specs.Grid.{Side, side, place, count, parted, loneHigh, lineHalvesBack}
+use Rattle.lifting.specs.Grid.{Side, side, place, count, deinterleaved, singleHigh, lineHalvesBack}
 use Rattle.lifting.specs.Filter.{Filter}
 use Rattle.lifting.proofs.GridLaws.{joined-place, place-in, even-one}
-use Rattle.lifting.proofs.LoneLaws.{lone-high}
+use Rattle.lifting.proofs.SingleLaws.{single-high}
 use Rattle.lifting.proofs.Neighbours.{left, right}
 use Rattle.lifting.proofs.Neighbours as near
 use Rattle.lifting.proofs.FiveThree.{halfSum, quarterSum, even-by, odd-by}
@@ -72,8 +72,8 @@ module _ (k : ℕ) (W H : Side) (p : Band → Grid) where
   abbrev b₀ : ℕ
   b₀ = firstSet H lo
 
-  -- where no row is a lone one at an odd coordinate
-  back-is : (h : Half) (n c : ℕ) → loneHigh H ≡ false → B (place H h n) c ≡ limited F k (lineHalvesBack fix H (column c) h n)
+  -- where no row is a single one at an odd coordinate
+  back-is : (h : Half) (n c : ℕ) → singleHigh H ≡ false → B (place H h n) c ≡ limited F k (lineHalvesBack fix H (column c) h n)
   unfolding backLimited levelBackLimited filterOf
   back-is h n c e = rw e (ap (limited F k) (joined-place H (lineHalvesBack fix H (column c)) h n))
 
@@ -81,18 +81,18 @@ module _ (k : ℕ) (W H : Side) (p : Band → Grid) where
   unfolding levelBack filterOf
   strict-is h n c = joined-place H (lineHalvesBack wrap32 H (column c)) h n
 
-  not-lone : 0 < count lo H → loneHigh H ≡ false
-  not-lone h = go (loneHigh H) refl
+  not-single : 0 < count lo H → singleHigh H ≡ false
+  not-single h = go (singleHigh H) refl
     where
-      go : (t : Bool) → loneHigh H ≡ t → t ≡ false
-      go true e = absurd (omega (arith, lone-high H e .1))
+      go : (t : Bool) → singleHigh H ≡ t → t ≡ false
+      go true e = absurd (omega (arith, single-high H e .1))
       go false e = refl
 
-  many-not : 1 < H .length → loneHigh H ≡ false
-  many-not h = go (loneHigh H) refl
+  many-not : 1 < H .length → singleHigh H ≡ false
+  many-not h = go (singleHigh H) refl
     where
-      go : (t : Bool) → loneHigh H ≡ t → t ≡ false
-      go true e = absurd (omega (arith, lone-high H e .0))
+      go : (t : Bool) → singleHigh H ≡ t → t ≡ false
+      go true e = absurd (omega (arith, single-high H e .0))
       go false e = refl
 
   -- an even value is the strict one, limited
@@ -101,10 +101,10 @@ module _ (k : ℕ) (W H : Side) (p : Band → Grid) where
       elim (decLt 1 (H .length)) [
         | yes g ↦
             ap (limited F k) (strict-is lo n c ∙ even-by wrap32 H g (column c) n b)
-            ∙ sym (back-is lo n c (not-lone (omega arith)) ∙ ap (limited F k) (even-by fix H g (column c) n b) ∙ twice k _)
+            ∙ sym (back-is lo n c (not-single (omega arith)) ∙ ap (limited F k) (even-by fix H g (column c) n b) ∙ twice k _)
         | no g ↦
             ap (limited F k) (strict-is lo n c ∙ even-one H (omega arith) wrap32 (column c) n)
-            ∙ sym (back-is lo n c (not-lone (omega arith)) ∙ ap (limited F k) (even-one H (omega arith) fix (column c) n))
+            ∙ sym (back-is lo n c (not-single (omega arith)) ∙ ap (limited F k) (even-one H (omega arith) fix (column c) n))
       ]
 
   -- and by it odd ones are rebuilt
@@ -127,9 +127,9 @@ module _ (k : ℕ) (W H : Side) (p : Band → Grid) where
 
 -- ---- an even row
 even-row : (k : ℕ) (W H : Side) (p : Band → Grid) (n : ℕ) (x : ℕ → ℤ) → 2 * n < endOf H → firstSet H lo ≤ n →
-    RowStands 4 W x (2 * n) (parted W (rowsUnlifted F wrap32 W p lo (n - firstSet H lo))) →
-    ((i : ℕ) → i < count hi H → i ≤ n → n ≤ i + 1 → RowStands 4 W x (2 * i + 1) (parted W (rowsUnlifted F wrap32 W p hi i))) →
-    RowStands 4 W (evenLimited k (W .length) H (2 * n) x) (2 * n) (parted W (backLimited k W H p (2 * n - firstSet H lo)))
+    RowStands 4 W x (2 * n) (deinterleaved W (rowsUnlifted F wrap32 W p lo (n - firstSet H lo))) →
+    ((i : ℕ) → i < count hi H → i ≤ n → n ≤ i + 1 → RowStands 4 W x (2 * i + 1) (deinterleaved W (rowsUnlifted F wrap32 W p hi i))) →
+    RowStands 4 W (evenLimited k (W .length) H (2 * n) x) (2 * n) (deinterleaved W (backLimited k W H p (2 * n - firstSet H lo)))
 unfolding evenLimited filterOf
 even-row k W H p n x l b low high h i t =
     limited-is k W (2 * n) _ _ (even-made 0 W H p n x l b low high) h i t
@@ -145,9 +145,9 @@ even-row k W H p n x l b low high h i t =
 
 -- ---- an odd row
 odd-row : (k : ℕ) (W H : Side) (p : Band → Grid) (n i : ℕ) (x : ℕ → ℤ) → Near 1 H n i →
-    RowStands 4 W x (2 * i + 1) (parted W (rowsUnlifted F wrap32 W p hi i)) →
-    ((j : ℕ) → firstSet H lo ≤ j → j ≤ n → n < j + 2 * 1 → RowStands 4 W x (2 * j) (parted W (backLimited k W H p (2 * j - firstSet H lo)))) →
-    RowStands 4 W (oddLimited k (W .length) H (2 * i + 1) x) (2 * i + 1) (parted W (backLimited k W H p (2 * i + 1 - firstSet H lo)))
+    RowStands 4 W x (2 * i + 1) (deinterleaved W (rowsUnlifted F wrap32 W p hi i)) →
+    ((j : ℕ) → firstSet H lo ≤ j → j ≤ n → n < j + 2 * 1 → RowStands 4 W x (2 * j) (deinterleaved W (backLimited k W H p (2 * j - firstSet H lo)))) →
+    RowStands 4 W (oddLimited k (W .length) H (2 * i + 1) x) (2 * i + 1) (deinterleaved W (backLimited k W H p (2 * i + 1 - firstSet H lo)))
 unfolding oddLimited oddOf
 odd-row k W H p n i x g high evens h t q =
     let u = left-in 1 (omega arith) H n i g in
@@ -162,10 +162,10 @@ odd-row k W H p n i x g high evens h t q =
     (λ c _. odd-value k W H p i c (g .1) (g .0) (near.left-in lo H i (g .1) (g .0) .0) (near.right-in lo H i (g .1) (g .0) .0)) h t q
 
 -- an only row at an odd coordinate is halved, as the strict level has it
-lone-row : (k : ℕ) (W H : Side) (p : Band → Grid) (i c : ℕ) → H .length ≤ 1 → loneHigh H ≡ true →
+single-row : (k : ℕ) (W H : Side) (p : Band → Grid) (i c : ℕ) → H .length ≤ 1 → singleHigh H ≡ true →
     shrZ (rowsUnlifted F wrap32 W p hi i c) 2 ≡ backLimited k W H p (2 * i + 1 - firstSet H lo) c
 unfolding backLimited
-lone-row k W H p i c g e = rw e (columns-laws 0 .lone-is k W H p i c g e)
+single-row k W H p i c g e = rw e (columns-laws 0 .single-is k W H p i c g e)
 
 pub tolerant-columns : ColumnLaws tolerantColumns
 unfolding filterOf evenLimited oddLimited
@@ -177,7 +177,7 @@ tolerant-columns = record {
   only-odd = λ k w H q x. only-then (odd-only 0 w H q x) (only-limited k w q (oddOf 0 w H q x));
   even-is = even-row;
   odd-is = odd-row;
-  lone-is = lone-row;
+  single-is = single-row;
 }
 
 pub tolerant-laws : ReaderLawsBy (filterOf 0) tolerantBack tolerantStands
@@ -186,5 +186,5 @@ tolerant-laws = level-laws tolerantColumns tolerant-columns
 
 -- at the origin its way back is that of crate tolerance
 pub at-origin : (k : ℕ) (W : Side) (h : ℕ) (p : Band → Grid) → tolerantBack .back k W (side 0 h) p ≡ levelBackLimited (filterOf 0) wrap32 k W (side 0 h) p
-unfolding tolerantBack backLimited loneHigh
+unfolding tolerantBack backLimited singleHigh
 at-origin k W h p = refl

@@ -7,8 +7,8 @@ use native.Mathlib.Omega.{arith}
 use lib.IntN.{ℤ}
 use lib.Dec.{T}
 use borrow.Author.Tests.{eq-eqb, lt-ltb, le-ltb, lt-leb, le-leb}
-use Rattle.lifting.specs.Grid.{Side, loneHigh}
-use Rattle.lifting.proofs.LoneLaws.{lone-odd}
+use Rattle.lifting.specs.Grid.{Side, singleHigh}
+use Rattle.lifting.proofs.SingleLaws.{single-odd}
 use Rattle.filters.specs.Filters.{filterOf}
 use Rattle.level.specs.Tried.{Tried, failed, passed, outcome, bind}
 use Rattle.level.specs.Stretch as stretch
@@ -17,13 +17,13 @@ use Rattle.level.proofs.WorkLaws.{told-no, told-yes, bind-failed, bind-passed, 
 use Rattle.synthesis.specs.Columns.{Columns, columnsOf}
 use Rattle.synthesis.specs.Work.{setUnlifted, evenDone, rowFits, admitted, pairMade, ownEven}
 use Rattle.synthesis.specs.Work.{firstMade, pairOf, pairBefore, pairsMade, earlierMade, mostMade}
-use Rattle.synthesis.specs.Work.{ownMade, loneMade, lastMade, restMade, rowsMade, setMade, setWorked}
+use Rattle.synthesis.specs.Work.{ownMade, singleMade, lastMade, restMade, rowsMade, setMade, setWorked}
 
 -- an odd row that is the last but not an only one has others
-pub others : (H : Side) (n : ℕ) → 2 * n + 1 < H .start % 2 + H .length → loneHigh H ≡ false → 1 < H .length
+pub others : (H : Side) (n : ℕ) → 2 * n + 1 < H .start % 2 + H .length → singleHigh H ≡ false → 1 < H .length
 others H n b f = elim (ℕ-discrete (H .start % 2) 1) [
   | yes o ↦ elim (ℕ-discrete (H .length) 1) [
-    | yes m ↦ absurd (true-false (sym (eq-eqb (H .length) 1 m) ∙ sym (lone-odd H o) ∙ f))
+    | yes m ↦ absurd (true-false (sym (eq-eqb (H .length) 1 m) ∙ sym (single-odd H o) ∙ f))
     | no m ↦ omega (arith, m)
   ]
   | no o ↦ omega (arith, o)
@@ -75,11 +75,11 @@ module _ (C : Columns) where
     unfolding lastMade endOf
     last-none b = rw (le-ltb (2 * n + 1) (H .start % 2 + H .length) b) refl
 
-    pub last-lone : 2 * n + 1 < H .start % 2 + H .length → loneHigh H ≡ true → loneMade C k w (2 * n + 1) x ≡ lastMade C k w H n x
+    pub last-single : 2 * n + 1 < H .start % 2 + H .length → singleHigh H ≡ true → singleMade C k w (2 * n + 1) x ≡ lastMade C k w H n x
     unfolding lastMade endOf
-    last-lone b f = rw (lt-ltb (2 * n + 1) (H .start % 2 + H .length) b, f) refl
+    last-single b f = rw (lt-ltb (2 * n + 1) (H .start % 2 + H .length) b, f) refl
 
-    pub last-made : (ok : Bool) (z : ℕ → ℤ) → 2 * n + 1 < H .start % 2 + H .length → loneHigh H ≡ false → z ≡ C .odd k w H (2 * n + 1) x →
+    pub last-made : (ok : Bool) (z : ℕ → ℤ) → 2 * n + 1 < H .start % 2 + H .length → singleHigh H ≡ false → z ≡ C .odd k w H (2 * n + 1) x →
         ok ≡ rowFits C k w (2 * n + 1) z → outcome ok z ≡ lastMade C k w H n x
     unfolding lastMade endOf
     last-made ok z b f ez eo =

@@ -3,10 +3,10 @@ use mathlib.Core.Bool.{Bool}
 use Prim.Native.Nat.{ℕ, zero, suc, _+_, _-_, _*_, _<_}
 use lib.IntN.{ℤ}
 use lib.Dec.{ltb, leb}
-use Rattle.lifting.specs.Grid.{Side, loneHigh}
+use Rattle.lifting.specs.Grid.{Side, singleHigh}
 use Rattle.level.specs.Stretch.{endOf}
 use Rattle.level.proofs.KeptLaws.{kept-none}
-use Rattle.level.proofs.WorkedPast.{Keeps, admits, either, after, bound, stays, rows-past, lone-past, taken-past}
+use Rattle.level.proofs.WorkedPast.{Keeps, admits, either, after, bound, stays, rows-past, single-past, taken-past}
 use Rattle.synthesis.specs.Columns.{Columns}
 use Rattle.synthesis.specs.Work.{evenDone, pairMade, ownEven, firstMade, pairOf, pairBefore, pairsMade, earlierMade, mostMade, lastMade, restMade}
 use Rattle.synthesis.specs.Work.{rowsMade, setMade, setWorked}
@@ -51,8 +51,8 @@ module _ (C : Columns) (L : ColumnLaws C) (some : 0 < C .filter .rows) (k : ℕ)
   unfolding lastMade
   last-past n x =
       either room x _ _
-      (either room x _ _ (lone-past some W H (C .fits) k (2 * n + 1) x)
-      (admits room m (C .fits) k w (2 * n + 1) x (C .odd k w H (2 * n + 1) x) (odd-kept C L k w H (2 * n + 1) x)) (loneHigh H))
+      (either room x _ _ (single-past some W H (C .fits) k (2 * n + 1) x)
+      (admits room m (C .fits) k w (2 * n + 1) x (C .odd k w H (2 * n + 1) x) (odd-kept C L k w H (2 * n + 1) x)) (singleHigh H))
       (stays some W H x) (ltb (2 * n + 1) (endOf H))
 
   rest-past : (n : ℕ) (x : ℕ → ℤ) → Keeps room x (restMade C k w H n x)

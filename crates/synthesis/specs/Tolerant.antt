@@ -5,7 +5,7 @@ use lib.IntN.{ℤ}
 use lib.Dec.{ltb, leb}
 use Rattle.numbers.specs.Signal.{pick, spliced}
 use Rattle.numbers.specs.Word.{wrap32}
-use Rattle.lifting.specs.Grid.{Side, loneHigh}
+use Rattle.lifting.specs.Grid.{Side, singleHigh}
 use Rattle.wavelet.specs.Bands.{Grid, Band, levelBack}
 use Rattle.tolerance.specs.Limits.{limited}
 use Rattle.tolerance.specs.Back.{levelBackLimited}
@@ -27,9 +27,9 @@ evenLimited k w H q x = rowLimited k w q (evenOf 0 w H q x)
 unfoldable pub oddLimited : ℕ → ℕ → Side → ℕ → (ℕ → ℤ) → ℕ → ℤ
 oddLimited k w H q x = rowLimited k w q (oddOf 0 w H q x)
 
--- Its rows start at 0: a lone row at an odd coordinate, which is halved and not limited, never comes.
+-- Its rows start at 0: a single row at an odd coordinate, which is halved and not limited, never comes.
 unfoldable pub backLimited : ℕ → Side → Side → (Band → Grid) → Grid
-backLimited k W H p = pick (loneHigh H) (levelBack (filterOf 0) wrap32 W H p) (levelBackLimited (filterOf 0) wrap32 k W H p)
+backLimited k W H p = pick (singleHigh H) (levelBack (filterOf 0) wrap32 W H p) (levelBackLimited (filterOf 0) wrap32 k W H p)
 
 -- no value is refused
 abbrev pub tolerantColumns : Columns

@@ -9,7 +9,7 @@ use Prim.Native.Nat.{ℕ, zero, suc, _+_, _-_, _*_}
 use lib.IntN.{ℤ}
 use lib.Dec.{ltb, leb}
 use Rattle.numbers.specs.Signal.{pick, both}
-use Rattle.lifting.specs.Grid.{Side, loneHigh}
+use Rattle.lifting.specs.Grid.{Side, singleHigh}
 use Rattle.level.specs.Tried.{Tried, passed, bind}
 use Rattle.level.specs.Stretch as stretch
 use Rattle.level.specs.Stretch.{endOf, hasLow, Admission}
@@ -62,14 +62,14 @@ module _ (C : Columns) where
   ownMade = pairsMade (C .filter .ahead - 1)
 
   -- an only row, at an odd coordinate,
-  abbrev pub loneMade : ℕ → ℕ → ℕ → (ℕ → ℤ) → Tried
-  loneMade = stretch.loneMade kept admitted
+  abbrev pub singleMade : ℕ → ℕ → ℕ → (ℕ → ℤ) → Tried
+  singleMade = stretch.singleMade kept admitted
 
   -- and the row at 2n + 1, if there is one:
   unfoldable pub lastMade : ℕ → ℕ → Side → ℕ → (ℕ → ℤ) → Tried
   lastMade k w H n x =
       pick (ltb (2 * n + 1) (endOf H))
-      (pick (loneHigh H) (loneMade k w (2 * n + 1) x) (admitted k w (2 * n + 1) (C .odd k w H (2 * n + 1) x)))
+      (pick (singleHigh H) (singleMade k w (2 * n + 1) x) (admitted k w (2 * n + 1) (C .odd k w H (2 * n + 1) x)))
       (passed x)
 
   -- if no row comes after the set's own

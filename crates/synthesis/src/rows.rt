@@ -7,9 +7,9 @@ use areas::lines;
 use areas::ranges;
 use level::sets;
 use lifting::line;
-use lifting::lone;
 use lifting::pairs;
 use lifting::rows;
+use lifting::single;
 use nine_seven::line as ccsds_line;
 use nine_seven::rows as ccsds_rows;
 use wavelet::sizes;
@@ -26,7 +26,7 @@ ghost use Rattle.level.specs.Tried.{outcome};
 ghost use Rattle.level.specs.Rebuilding.{Kept};
 ghost use Rattle.level.specs.Stretch.{rowPlace, lineTried, lowRowTaken};
 ghost use Rattle.synthesis.specs.Columns.{alongOf, evenOf, oddOf, columnsOf};
-ghost use Rattle.synthesis.specs.Work.{rowFits, loneMade, evenDone, mostMade};
+ghost use Rattle.synthesis.specs.Work.{rowFits, singleMade, evenDone, mostMade};
 
 // ---- the filter's own steps
 
@@ -147,14 +147,14 @@ pub fn admit_row(stretch: &[i32], filter: usize, k: usize, w: usize, q: usize) -
 }
 
 // An only row made, at an odd coordinate: each of its numbers halved, if all are even.
-pub fn make_lone(stretch: &mut [i32], filter: usize, k: usize, w: usize, q: usize) -> bool
+pub fn make_single(stretch: &mut [i32], filter: usize, k: usize, w: usize, q: usize) -> bool
     requires { ⌜ (w ≤ 2 ^ 16) × (filterOf filter .rows * w ≤ length (now stretch)) × (k ≤ filterOf filter .levels) ⌝ }
-    ensures { λ ok. ⌜ outcome ok (at (now (stretch .exit))) ≡ loneMade (columnsOf filter) k w q (at (now (stretch .entry))) ⌝ }
+    ensures { λ ok. ⌜ outcome ok (at (now (stretch .exit))) ≡ singleMade (columnsOf filter) k w q (at (now (stretch .entry))) ⌝ }
     ensures { λ _. ⌜ Kept (filterOf filter .rows * w) (at (now (stretch .entry))) (at (now (stretch .exit))) ⌝ }
 {
     let a = row_place(filter, w, q);
     let e = a + w;
-    if !lone::halve_even(&mut stretch[a..e]) {
+    if !single::halve_even(&mut stretch[a..e]) {
         return false;
     }
     admit_row(stretch, filter, k, w, q)
@@ -177,5 +177,5 @@ pub fn take_low_row(
     let low = sizes::low_count(x, w);
     let from = filters::rows_kept(filter) * w + row_place(filter, low, sets::low_row(y, n));
     let to = row_place(filter, w, 2 * n);
-    lines::weave_down(stretch, sizes::next_start(x), from, to, low);
+    lines::interleave_down(stretch, sizes::next_start(x), from, to, low);
 }

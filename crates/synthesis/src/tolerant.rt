@@ -92,7 +92,7 @@ fn make_set(stretch: &mut [i32], k: usize, w: usize, h: usize, n: usize) -> bool
     true
 }
 
-// Set n of level k + 1 worked out. No number is refused: a lone number at an odd coordinate never comes.
+// Set n of level k + 1 worked out. No number is refused: a single number at an odd coordinate never comes.
 pub fn work_set(stretch: &mut [i32], last: bool, k: usize, w: usize, h: usize, n: usize) -> bool
     requires { ⌜ (w ≤ 2 ^ 16) × (filterOf 0 .rows * w + filterOf 0 .rows * pick last 0 (count lo (side 0 w)) ≤ length (now stretch)) × (n < 2 ^ 32)
         × (h < 2 ^ 32) × (k ≤ filterOf 0 .levels) × (2 * n < h) ⌝ }

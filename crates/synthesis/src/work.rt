@@ -1,7 +1,7 @@
 // A set worked out in its level's stretch of the line store. Set n has the rows at 2n and 2n + 1; at the look-ahead a it makes those at 2(n − a) + 1 and
 // 2(n − a) + 2, the last set all that is left. The module is private: only this crate, which meets what is required, can call it.
 use crate::rows;
-use lifting::lone;
+use lifting::single;
 ghost use mathlib.Core.Path.{_≡_};
 ghost use Prim.Native.Nat.{_+_, _-_, _*_, _%_, _<_, _≤_, _^_};
 ghost use lib.ListN.{length};
@@ -233,8 +233,8 @@ fn make_last(
     if y % 2 + h <= 2 * n + 1 {
         return true;
     }
-    if lone::is_lone(h, y) {
-        return rows::make_lone(stretch, filter, k, w, 2 * n + 1);
+    if single::is_single(h, y) {
+        return rows::make_single(stretch, filter, k, w, 2 * n + 1);
     }
     rows::undo_odd(stretch, filter, w, h, y, 2 * n + 1);
     rows::admit_row(stretch, filter, k, w, 2 * n + 1)

@@ -90,12 +90,36 @@ feed-stays s t q e = stays-by (s .levels) (last.feedReply s q) (levels.feedReply
     without : last.feedReply s q ≡ gives t → Stays s t
     without e =
         let g : last.movedTo s (s .drawn) 4 ≡ t = last-given (eqb q 0) (last.movedTo s (s .drawn) 4) t q e in
-        rw (← g) (record { width = refl; height = refl; levels = refl; x = refl; y = refl; filter = refl; stop = refl; spare = refl; admission = refl; ended = refl })
+        rw (← g) (record {
+          width = refl;
+          height = refl;
+          levels = refl;
+          x = refl;
+          y = refl;
+          filter = refl;
+          stop = refl;
+          spare = refl;
+          admission = refl;
+          ended
+              = refl;
+        })
 
     with-levels : levels.feedReply s q ≡ gives t → Stays s t
     with-levels e =
         let g : fedReader s ≡ t = given (eqb q 0) (eqb q 14) (fedReader s) t (endedReader s) q e in
-        rw (← g) (record { width = refl; height = refl; levels = refl; x = refl; y = refl; filter = refl; stop = refl; spare = refl; admission = refl; ended = refl })
+        rw (← g) (record {
+          width = refl;
+          height = refl;
+          levels = refl;
+          x = refl;
+          y = refl;
+          filter = refl;
+          stop = refl;
+          spare = refl;
+          admission = refl;
+          ended
+              = refl;
+        })
 
 row-is : (b : Bool) (n m : ℕ) (r t : Reader) → pick b (aRow n r) nothing ≡ aRow m t → r ≡ t
 row-is true n m r t e = cc
@@ -110,13 +134,37 @@ draw-stays s t n q e = handed-by (s .levels) n (last.drawReply s q) (levels.draw
         let to = last.movedTo s (suc (s .drawn)) 0 in
         let g = last-given (eqb q 0) (pick (last.drawDue s) (aRow (s .width) to) nothing) (aRow n t) q e in
         let h : to ≡ t = row-is (last.drawDue s) (s .width) n to t g in
-        rw (← h) (record { width = refl; height = refl; levels = refl; x = refl; y = refl; filter = refl; stop = refl; spare = refl; admission = refl; ended = refl })
+        rw (← h) (record {
+          width = refl;
+          height = refl;
+          levels = refl;
+          x = refl;
+          y = refl;
+          filter = refl;
+          stop = refl;
+          spare = refl;
+          admission = refl;
+          ended
+              = refl;
+        })
 
     with-levels : levels.drawReply s q ≡ gives (aRow n t) → Stays s t
     with-levels e =
         let g = given (eqb q 0) (eqb q 14) (pick (drawDue s) (aRow (s .width) (drawnReader s)) nothing) (aRow n t) (endedReader s) q e in
         let h : drawnReader s ≡ t = row-is (drawDue s) (s .width) n (drawnReader s) t g in
-        rw (← h) (record { width = refl; height = refl; levels = refl; x = refl; y = refl; filter = refl; stop = refl; spare = refl; admission = refl; ended = refl })
+        rw (← h) (record {
+          width = refl;
+          height = refl;
+          levels = refl;
+          x = refl;
+          y = refl;
+          filter = refl;
+          stop = refl;
+          spare = refl;
+          admission = refl;
+          ended
+              = refl;
+        })
 
 -- r is what the call answered
 module _ (s : List ℕ) (size : length s ≡ 16) (n : ℕ) (x : ℕ → ℤ) where

@@ -50,16 +50,16 @@ module _ {s l m : List ℕ} {a r : ℕ} (p : Wrote s a r l m) where
   front-size : length (take a l ++ s) ≡ r
   front-size = length-append (take a l) s ∙ ap (λ k. k + length s) (length-take-le a l (omega (arith, p .place, p .room))) ∙ sym (p .place)
 
-  parted : m ≡ (take a l ++ s) ++ drop r l
-  parted = p .text ∙ sym (append-assoc (take a l) s (drop r l))
+  in-parts : m ≡ (take a l ++ s) ++ drop r l
+  in-parts = p .text ∙ sym (append-assoc (take a l) s (drop r l))
 
   pub wrote-size : length m ≡ length l
   wrote-size = ap length (p .text) ∙ simp (length-append, length-take, length-drop) (omega (arith, p .place, p .room))
 
   pub wrote-on : {t n : List ℕ} {q : ℕ} → Wrote t r q m n → Wrote (s ++ t) a q l n
   wrote-on {t} {n} {q} w =
-      let front : take r m ≡ take a l ++ s = ap (take r) parted ∙ take-at (take a l ++ s) (drop r l) r front-size in
-      let behind : drop r m ≡ drop r l = ap (drop r) parted ∙ drop-at (take a l ++ s) (drop r l) r front-size in
+      let front : take r m ≡ take a l ++ s = ap (take r) in-parts ∙ take-at (take a l ++ s) (drop r l) r front-size in
+      let behind : drop r m ≡ drop r l = ap (drop r) in-parts ∙ drop-at (take a l ++ s) (drop r l) r front-size in
       let back : drop q m ≡ drop q l =
       ap (λ k. drop k m) (w .place) ∙ sym (drop-drop (length t) r m) ∙ ap (drop (length t)) behind ∙ drop-drop (length t) r l
       ∙ ap (λ k. drop k l) (sym (w .place)) in
@@ -116,7 +116,7 @@ put-at {s} {l} {m} {a} {n} {r} e p = let b : r ≡ a = omega (arith, p .place) i
 
 -- a text at the front of an area
 pub wrote-front : {s l m : List ℕ} {r : ℕ} → Wrote s 0 r l m → take r m ≡ s
-wrote-front {s} {l} {m} {r} w = ap (take r) (parted w) ∙ take-at (take 0 l ++ s) (drop r l) r (front-size w)
+wrote-front {s} {l} {m} {r} w = ap (take r) (in-parts w) ∙ take-at (take 0 l ++ s) (drop r l) r (front-size w)
 
 -- a text that fits behind another
 module _ {s t l m n : List ℕ} {a p r : ℕ} (w : Wrote s a p l m) (x : Puts t p r m n) (h : p + length t ≤ length l) where

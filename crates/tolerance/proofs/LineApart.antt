@@ -45,8 +45,8 @@ pub odd-apart : (h e : ℕ) (x y a b c d : ℤ) → Apart h x y → Apart e a c 
 odd-apart h e x y a b c d p q r = more-apart h e x y (halfSum a b) (halfSum c d) p (half-apart e a b c d q r)
 
 -- ---- a line
-lone-apart : (h : ℕ) (x y : ℤ) → Apart h x y → Apart h (shrZ x 2) (shrZ y 2)
-lone-apart h = each _ λ p q. each _ λ r s. simp lin (omega arith)
+single-apart : (h : ℕ) (x y : ℤ) → Apart h x y → Apart h (shrZ x 2) (shrZ y 2)
+single-apart h = each _ λ p q. each _ λ r s. simp lin (omega arith)
 
 -- the lines that have the values c′ and c, the first with `fix` done to each sum
 module _ (S : Side) (fix : ℤ → ℤ) (c′ c : Half → ℕ → ℤ) (s h : ℕ)
@@ -82,7 +82,7 @@ module _ (S : Side) (fix : ℤ → ℤ) (c′ c : Half → ℕ → ℤ) (s h : �
             let e = odd-by whole S g c n b in
             rw (odd-by fix S g c′ n b) (fixed hi n b _ _ (rw e near))
         | no g ↦
-            let near = lone-apart h (c′ hi n) (c hi n) (highs n b) in
+            let near = single-apart h (c′ hi n) (c hi n) (highs n b) in
             rw (odd-one S (omega arith) fix c′ n, odd-one S (omega arith) whole c n) (omega arith)
       ]
 

@@ -9,7 +9,7 @@ use Rattle.wavelet.specs.Plane.{planeBands}
 use Rattle.tolerance.specs.Limits.{limited}
 
 -- One level: rows, then columns. What is kept of a sum of the columns is limited, so that an even row is limited before the odd rows that it rebuilds; only
--- low-low values and heights are, not the numbers between rows and columns. A lone row is no sum, and is limited at the end. The rows are low-low values of
+-- low-low values and heights are, not the numbers between rows and columns. A single row is no sum, and is limited at the end. The rows are low-low values of
 -- level k (k = 0: heights).
 unfoldable pub levelBackLimited : Filter → (ℤ → ℤ) → ℕ → Side → Side → (Band → Grid) → Grid
 levelBackLimited F keep k W H p r c =

@@ -18,7 +18,7 @@ use Rattle.lifting.specs.Line.{Half}
 use Rattle.lifting.specs.Grid.{Side, count}
 use Rattle.lifting.specs.Filter.{Filter}
 use Rattle.lifting.proofs.FilterLaws.{words, FilterLaws, gain-below, growth-some}
-use Rattle.lifting.proofs.LoneLaws.{lone-high}
+use Rattle.lifting.proofs.SingleLaws.{single-high}
 use Rattle.wavelet.specs.Limits.{maxSample, range}
 use Rattle.wavelet.specs.Bands.{Grid, Band, LL, HL, LH, HH, across, down, columnsLifted, subband}
 use Rattle.wavelet.specs.Maps.{IsMap}
@@ -111,10 +111,10 @@ module _ (F : Filter) (laws : FilterLaws F) where
   pub word-doubles : (M : ℕ) (W H : Side) (g : Grid) → G * M < 2 ^ 31 → OnCells (Within M) W H g → Doubles F words W H g
   word-doubles M W H g small w = record {
     columns = λ e c v.
-        let t = lone-high H e in
+        let t = single-high H e in
         abs-fits (pos 2 *ℤ g 0 c) (2 * M) (omega (arith, gain-double M, gain-below F laws M)) (double-within M (g 0 c) (w 0 c (omega arith) v));
     rows = λ e h r p.
-        let t = lone-high W e in
+        let t = single-high W e in
         let a : natAbs (columnsLifted F wrap32 H g h r 0) ≤ gain M =
         rw (columns-exact M W H g small w h r 0 p (omega arith)) (columns-range M W H g w h r 0 p (omega arith)) in
         abs-fits (pos 2 *ℤ columnsLifted F wrap32 H g h r 0) (2 * gain M) (omega (arith, gain-below F laws M))

@@ -25,10 +25,10 @@ use Rattle.numbers.specs.Word.{wrap32, whole}
 use Rattle.numbers.proofs.Sweep.{both}
 use Rattle.numbers.proofs.TestLaws.{every-each, each-every, every-same}
 use Rattle.lifting.specs.Line.{Half, lo, hi}
-use Rattle.lifting.specs.Grid.{Side, side, place, count, loneHigh, hasLine}
+use Rattle.lifting.specs.Grid.{Side, side, place, count, singleHigh, hasLine}
 use Rattle.lifting.specs.Filter.{Filter, lineBackBy}
 use Rattle.lifting.proofs.FilterLaws.{Keeping, words, wholes, FilterLaws}
-use Rattle.lifting.proofs.LoneLaws.{has-reads}
+use Rattle.lifting.proofs.SingleLaws.{has-reads}
 use Rattle.wavelet.specs.Bands.{Grid, Band, LL, HL, LH, HH, across, down, bandOf, columnsLifted, subband, rowsUnlifted, levelBack, rowsHave, columnsHave}
 use Rattle.wavelet.specs.Bands.{levelHas}
 use Rattle.wavelet.proofs.BandPlaces.{band-of}
@@ -207,10 +207,10 @@ module _ (F : Filter) (W H : Side) (p : Band → Grid) where
         ),
   )
 
--- ---- what is doubled stays good: the samples of a lone row, and what the lifted columns leave of a lone column
+-- ---- what is doubled stays good: the samples of a single row, and what the lifted columns leave of a single column
 pub record Doubles (F : Filter) {keep : ℤ → ℤ} (K : Keeping keep) (W H : Side) (g : Grid) : Type 0 where
-  pub columns : loneHigh H ≡ true → (c : ℕ) → c < W .length → K .Good (pos 2 *ℤ g 0 c)
-  pub rows : loneHigh W ≡ true → (h : Half) (r : ℕ) → r < count h H → K .Good (pos 2 *ℤ columnsLifted F keep H g h r 0)
+  pub columns : singleHigh H ≡ true → (c : ℕ) → c < W .length → K .Good (pos 2 *ℤ g 0 c)
+  pub rows : singleHigh W ≡ true → (h : Half) (r : ℕ) → r < count h H → K .Good (pos 2 *ℤ columnsLifted F keep H g h r 0)
 
 -- ---- the same of all levels
 -- at each level what is doubled stays good

@@ -7,7 +7,7 @@ use Rattle.lifting.specs.Line.{Half, lo, hi}
 use Rattle.lifting.specs.Grid.{Side, side, count}
 use Rattle.wavelet.specs.Levels.{next, sideAt}
 
--- ---- a side parted
+-- ---- a side deinterleaved
 pub count-le : (h : Half) (S : Side) → count h S ≤ S .length
 unfolding count
 count-le lo S = omega arith

@@ -1,5 +1,5 @@
--- After as many halvings as its numbers have binary digits a side starts at 0 or 1 and has one coordinate or none. After another it stays: a lone coordinate 1
--- is odd, and gone. Assumes nothing.
+-- After as many halvings as its numbers have binary digits a side starts at 0 or 1 and has one coordinate or none. After another it stays: a single coordinate
+-- 1 is odd, and gone. Assumes nothing.
 use mathlib.Core.Path.{_≡_, sym, ap, ap₂, _∙_}
 use Prim.Native.Nat.{ℕ, zero, suc, _+_, _-_, _^_, min, _≤_, _<_}
 use native.Mathlib.Nat.{pow-suc}

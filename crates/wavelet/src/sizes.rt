@@ -30,8 +30,8 @@ pub fn next_start(start: usize) -> usize
     start - start / 2
 }
 
-// The lesser of a number of halvings and 65. After 64 a side starts at 0 or 1 and has one coordinate or none; a lone 1 is gone after another, and then the side
-// stays.
+// The lesser of a number of halvings and 65. After 64 a side starts at 0 or 1 and has one coordinate or none; a single 1 is gone after another, and then the
+// side stays.
 fn turns(level: usize) -> usize
     ensures { λ r. ⌜ r ≡ min level 65 ⌝ }
 {

@@ -187,17 +187,17 @@ module _ (φ : ℕ) where
         go (suc l) h = let q : suc l - 1 ≡ l = omega arith in rw q (unfold arrive arrived in simp e)
 
   -- ---- the same, as what `arrive` leaves
-  pub sets-off : (l s m : ℕ) (c : Bool) → c ≡ both (ltb 0 l) (completes A s m) → not c ≡ false → (0 < l) × (completes A s m ≡ true)
-  sets-off l s m c e h = let p = sweep.both (ltb 0 l) (completes A s m) (sym e ∙ not-false c h) in (ltb-true 0 l (p .0), p .1)
+  pub makes-set : (l s m : ℕ) (c : Bool) → c ≡ both (ltb 0 l) (completes A s m) → not c ≡ false → (0 < l) × (completes A s m ≡ true)
+  makes-set l s m c e h = let p = sweep.both (ltb 0 l) (completes A s m) (sym e ∙ not-false c h) in (ltb-true 0 l (p .0), p .1)
 
   module _ (l : ℕ) (W : Side) (s m n : ℕ) (x x₁ : Memory) (i : ℕ) (c : Bool) (ec : c ≡ both (ltb 0 l) (completes A s m)) (sure : not c ≡ false)
       (en : n ≡ (s % 2 + m) / 2 - A) (e₁ : x₁ ≡ K .make W s n x) where
     hl : 0 < l
-    hl = sets-off l s m c ec sure .0
+    hl = makes-set l s m c ec sure .0
 
     came : arrive K l W s m x ≡ settled (passOn K (l - 1) W s) n x₁ (skip W (side s (m + 1)) n (most (l - 1)))
     came =
-        arrive-set l W s m x hl (sets-off l s m c ec sure .1)
+        arrive-set l W s m x hl (makes-set l s m c ec sure .1)
         ∙ ap (λ (k : ℕ). settled (passOn K (l - 1) W s) k (K .make W s k x) (skip W (side s (m + 1)) k (most (l - 1)))) (sym en)
         ∙ ap (λ (y : Memory). settled (passOn K (l - 1) W s) n y (skip W (side s (m + 1)) n (most (l - 1)))) (sym e₁)
 

@@ -19,7 +19,7 @@ use Rattle.lifting.specs.Grid.{Side, side, count}
 use Rattle.wavelet.proofs.SideLaws.{count-lo}
 use Rattle.filters.specs.Filters.{filterOf}
 use Rattle.level.specs.Level.{Memory}
-use Rattle.level.specs.Cells as four
+use Rattle.level.specs.Cells as cells
 use Rattle.level.specs.Stretch as stretch
 use Rattle.analysis.specs.Forward.{kindOf, heightsPut}
 use Rattle.analysis.proofs.ForwardLaws.{height-more, height-none}
@@ -106,7 +106,7 @@ module _ (a e o n : ℕ) (m₀ : List ℤ) where
 -- ---- where the numbers of a row stand, f being the number of the filter: in halves, the even coordinates first
 cell-is : (f : ℕ) (W : Side) (q c : ℕ) →
     kindOf f .cell W 0 q c ≡ q % filterOf f .rows * W .length + pick (eqb ((W .start % 2 + c) % 2) 0) (c / 2) (count lo W + c / 2)
-unfolding filterOf four.spot stretch.rowPlace
+unfolding filterOf cells.spot stretch.rowPlace
 cell-is zero W q c = let e : 0 % 2 + q ≡ q = omega arith in rw e refl
 cell-is (suc f) W q c = let e : 0 % 2 + q ≡ q = omega arith in rw e refl
 

@@ -36,7 +36,7 @@ pub fn arrive(
     requires { ⌜ Room filter l (side x w) m (length (now store)) ⌝ }
     ensures { λ r. ⌜ Left filter l (side x w) (arrive (kindOf filter) l (side x w) y m (at (now (store .entry)))) r (at (now (store .exit))) ⌝ }
 {
-    if !counts::sets_off(filter, l, y, m) {
+    if !counts::makes_set(filter, l, y, m) {
         return waits::nothing();
     }
     let n = (y % 2 + m) / 2 - filters::look_ahead(filter);

@@ -57,7 +57,8 @@ loop-again c =
       b .2,
       b .1,
       ap (seek (a .s) _ _) (spot-of _ _ (b .0))
-          ∙ seek-drawn (a .s) (l .drawn) (spot (l .q .level) (l .q .set) (l .q .band)) (t .if1 .taken) (omega (arith, no .if2 .left, n .next-up .ensures .level))
+          ∙ seek-drawn (a .s) (l .drawn) (spot (l .q .level) (l .q .set) (l .q .band)) (t .if1 .taken)
+          (omega (arith, no .if2 .left, n .next-up .ensures .level))
           ∙ l .inv .3,
     )
 

@@ -1,4 +1,4 @@
--- `forward::deliver` meets its contract: the row is parted into its place, past the numbers that are read. Assumes nothing.
+-- `forward::deliver` meets its contract: the row is deinterleaved into its place, past the numbers that are read. Assumes nothing.
 use mathlib.Core.Path.{_≡_, sym, ap, ap₂, _∙_}
 use Prim.Native.Nat.{ℕ, _+_, _*_, _≤_}
 use native.Mathlib.Omega.{arith}
@@ -9,7 +9,7 @@ use Rattle.wavelet.proofs.SideLaws.{count-le}
 use Rattle.filters.specs.Filters.{filterOf}
 use borrow.Author.Needs.{needs}
 use Rattle.level.specs.Stretch.{rowPlace}
-use Rattle.level.proofs.PartedLaws.{part-fits}
+use Rattle.level.proofs.DeinterleavedLaws.{part-fits}
 use Rattle.analysis.proofs.SlotLaws.{in-rows}
 use Rattle.analysis.proofs.SetLaws.{in-room}
 use Rattle.analysis.proofs.StretchLaws.{next-in, delivered-as}

@@ -11,7 +11,7 @@ use Rattle.areas.specs.Areas.{heightsAt, height16, wholes}
 use Rattle.areas.proofs.AreaLaws.{front-rest, went, turned}
 use Rattle.areas.proofs.HeightLaws.{start-heights, finish-heights}
 use Rattle.areas.proofs.PartLaws.{Halves, halves-front}
-use Rattle.areas.proofs.WeaveLaws.{laid, lay-turn, lay-last, finish-drawn}
+use Rattle.areas.proofs.InterleaveLaws.{laid, lay-turn, lay-last, finish-drawn}
 use Rattle.areas.proofs.height_rows.draw_heights.Statement.{statement}
 use Rattle.areas.proofs.height_rows.draw_heights.Tie as tie
 

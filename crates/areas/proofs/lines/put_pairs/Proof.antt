@@ -7,7 +7,7 @@ use Rattle.numbers.specs.Signal.{at}
 use Rattle.numbers.proofs.Words.{read-back}
 use Rattle.numbers.proofs.Sweep.{Swept, start, finish}
 use Rattle.areas.proofs.AreaLaws.{front-rest}
-use Rattle.areas.proofs.WeaveLaws.{turns, pair-turn, pair-last}
+use Rattle.areas.proofs.InterleaveLaws.{turns, pair-turn, pair-last}
 use Rattle.areas.proofs.lines.put_pairs.Statement.{statement}
 use Rattle.areas.proofs.lines.put_pairs.Tie as tie
 

@@ -7,7 +7,7 @@ use Rattle.numbers.specs.Signal.{at}
 use Rattle.numbers.proofs.Words.{read-back}
 use Rattle.numbers.proofs.Sweep.{Swept, start}
 use Rattle.areas.proofs.AreaLaws.{front-at}
-use Rattle.areas.proofs.WeaveLaws.{turns, pair-turn}
+use Rattle.areas.proofs.InterleaveLaws.{turns, pair-turn}
 use Rattle.areas.proofs.place.eight_at.Statement.{statement}
 use Rattle.areas.proofs.place.eight_at.Tie as tie
 

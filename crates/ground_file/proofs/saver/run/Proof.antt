@@ -56,8 +56,11 @@ loop-again c =
     let ro = ws .before .before in
     let t = ro .before in
     let l = t .before .loop in
-    let e = ws .write-some .ensures in
-    (running-by _ _ _ _ _ _ _ _ (l .inv .0) (t .loop-test .taken) _ (ro .row-of .ensures) _ (l .inv .1) (e .0 .0) _ (e .0 .1) _ _ (e .1) (c .stop-of2 .ensures), l .inv .1)
+    let e = ws .write-some .ensures in (
+      running-by _ _ _ _ _ _ _ _ (l .inv .0) (t .loop-test .taken) _ (ro .row-of .ensures) _ (l .inv .1) (e .0 .0) _ (e .0 .1) _ _ (e .1)
+          (c .stop-of2 .ensures),
+      l .inv .1,
+    )
 
 same-length : tie.Need-same-length Inv-loop μ-loop
 same-length c = c .before .before .loop .inv .0 .size

@@ -65,8 +65,14 @@ returns c =
     let st = cp .before .before .before in
     let pp = st .before .before in
     let s = pp .before .before .before in
-    let a = s .args in
-    ((c .with .ensures ∙ partly-is (a .s) (a .row .now) _ _ _ (a .at) (a .out .now) _ _ (pp .put-piece .ensures) (st .start-of .ensures) (cp .copy .ensures .0) (t .if1 .taken), at-is (a .s) (a .row .now) _ _ _ (a .at) (a .out .now) _ _ (pp .put-piece .ensures) (st .start-of .ensures) (cp .copy .ensures .0)), area-is (a .s) (a .row .now) _ _ _ (a .at) (a .out .now) _ _ (pp .put-piece .ensures) (st .start-of .ensures) (cp .copy .ensures .0) _ (cp .copy .ensures .1))
+    let a = s .args in (
+      (
+        c .with .ensures ∙ partly-is (a .s) (a .row .now) _ _ _ (a .at) (a .out .now) _ _ (pp .put-piece .ensures) (st .start-of .ensures) (cp .copy .ensures .0)
+            (t .if1 .taken),
+        at-is (a .s) (a .row .now) _ _ _ (a .at) (a .out .now) _ _ (pp .put-piece .ensures) (st .start-of .ensures) (cp .copy .ensures .0),
+      ),
+      area-is (a .s) (a .row .now) _ _ _ (a .at) (a .out .now) _ _ (pp .put-piece .ensures) (st .start-of .ensures) (cp .copy .ensures .0) _ (cp .copy .ensures .1),
+    )
 
 slice-aggregate-sum-of : tie.Need-slice-aggregate-sum-of
 slice-aggregate-sum-of c = search needs
@@ -100,8 +106,13 @@ returns-2 c =
     let pp = st .before .before in
     let s = pp .before .before .before in
     let a = s .args in (
-      (whole-is (a .s) (a .row .now) _ _ _ (a .at) (a .out .now) _ _ (pp .put-piece .ensures) (st .start-of .ensures) (cp .copy .ensures .0) (t .if1 .left) _ _ (u .sum-of .ensures) (c .go-on .ensures), at-is (a .s) (a .row .now) _ _ _ (a .at) (a .out .now) _ _ (pp .put-piece .ensures) (st .start-of .ensures) (cp .copy .ensures .0)),
-      area-is (a .s) (a .row .now) _ _ _ (a .at) (a .out .now) _ _ (pp .put-piece .ensures) (st .start-of .ensures) (cp .copy .ensures .0) _ (cp .copy .ensures .1),
+      (
+        whole-is (a .s) (a .row .now) _ _ _ (a .at) (a .out .now) _ _ (pp .put-piece .ensures) (st .start-of .ensures) (cp .copy .ensures .0) (t .if1 .left) _ _
+            (u .sum-of .ensures) (c .go-on .ensures),
+        at-is (a .s) (a .row .now) _ _ _ (a .at) (a .out .now) _ _ (pp .put-piece .ensures) (st .start-of .ensures) (cp .copy .ensures .0),
+      ),
+      area-is (a .s) (a .row .now) _ _ _ (a .at) (a .out .now) _ _ (pp .put-piece .ensures) (st .start-of .ensures) (cp .copy .ensures .0) _
+          (cp .copy .ensures .1),
     )
 
 pub write-some-spec : {M : Type 1} → statement M

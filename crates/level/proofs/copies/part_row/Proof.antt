@@ -8,7 +8,7 @@ use Rattle.numbers.proofs.Words.{read-back}
 use Rattle.numbers.proofs.Stores.{at-stored}
 use Rattle.lifting.specs.Line.{lo}
 use Rattle.lifting.specs.Grid.{side, count}
-use Rattle.level.proofs.PartedLaws.{FirstAt, first-at, parted-even, parted-odd}
+use Rattle.level.proofs.DeinterleavedLaws.{FirstAt, first-at, deinterleaved-even, deinterleaved-odd}
 use borrow.Author.Needs.{needs}
 use Rattle.level.proofs.copies.part_row.Statement.{statement}
 use Rattle.level.proofs.copies.part_row.Tie as tie
@@ -91,7 +91,8 @@ returns c =
     let a = p .before .before .args in
     let f = fits p in
     let u = c .before .before .before in
-    parted-odd (a .from) (a .to) (a .start) (a .v) _ _ (place-is p) _ _ _ _ (p .before .low-count .ensures) refl refl refl _ _ (omega arith) (omega arith)
+    deinterleaved-odd (a .from) (a .to) (a .start) (a .v) _ _ (place-is p) _ _ _ _ (p .before .low-count .ensures) refl refl refl _ _ (omega arith)
+    (omega arith)
     (u .separate .ensures)
     (rw (read-back _ (c .store2 .given)) (at-stored (u .separate .last .0) _ _ (omega arith)))
 
@@ -102,7 +103,7 @@ returns-2 : tie.Need-returns-2
 returns-2 c =
     let p = c .before .before .before .before in
     let a = p .before .before .args in
-    parted-even (a .from) (a .to) (a .start) (a .v) _ _ (place-is p) _ _ _ _ (p .before .low-count .ensures) refl refl refl _ (omega arith)
+    deinterleaved-even (a .from) (a .to) (a .start) (a .v) _ _ (place-is p) _ _ _ _ (p .before .low-count .ensures) refl refl refl _ (omega arith)
     (c .before .before .separate .ensures)
 
 pub part-row-spec : {M : Type 1} → statement M

@@ -1,4 +1,4 @@
--- `moves::part_row` meets its contract: the row is parted where there is room past it. Assumes nothing.
+-- `moves::part_row` meets its contract: the row is deinterleaved where there is room past it. Assumes nothing.
 use mathlib.Core.Path.{sym, _∙_}
 use borrow.Author.Tests.{leb-true}
 use Rattle.numbers.proofs.Sweep.{both}

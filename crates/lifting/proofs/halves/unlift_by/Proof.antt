@@ -8,7 +8,7 @@ use borrow.Author.Tests.{le-leb, lt-leb}
 use Rattle.numbers.specs.Signal.{at}
 use Rattle.lifting.specs.Grid.{side}
 use Rattle.lifting.specs.GridHalves.{highsLaid}
-use Rattle.lifting.proofs.LoneLaws.{has-more}
+use Rattle.lifting.proofs.SingleLaws.{has-more}
 use Rattle.lifting.proofs.LiftLaws.{unlifted-front}
 use Rattle.lifting.proofs.halves.unlift_by.Statement.{statement}
 use Rattle.lifting.proofs.halves.unlift_by.Tie as tie
@@ -19,18 +19,18 @@ returns c =
     let bad = lt-leb (length (a .row .now)) (length (a .out .now)) (omega arith) in
     (simp bad, simp bad)
 
-unlift-lone-requires : tie.Need-unlift-lone-requires
-unlift-lone-requires c κs = omega arith
+unlift-single-requires : tie.Need-unlift-single-requires
+unlift-single-requires c κs = omega arith
 
 same-length : tie.Need-same-length
-same-length c = c .before .unlift-lone .kept .1 .1 .0
+same-length c = c .before .unlift-single .kept .1 .1 .0
 
 returns-2 : tie.Need-returns-2
 returns-2 c =
     let a = c .before .before .before .before .before .args in
-    let lone = c .before .unlift-lone in
+    let single = c .before .unlift-single in
     let ok = le-leb (length (a .row .now)) (length (a .out .now)) (omega arith) in
-    (simp ok (lone .ensures .0), simp ok (lone .ensures .1))
+    (simp ok (single .ensures .0), simp ok (single .ensures .1))
 
 sub-unlift-row : tie.Need-sub-unlift-row
 sub-unlift-row c = search needs
@@ -66,7 +66,7 @@ unlift-by-spec =
     tie.close
     (tie.spec
     returns
-    unlift-lone-requires
+    unlift-single-requires
     same-length
     returns-2
     sub-unlift-row

@@ -4,7 +4,7 @@ use lib.ListN.{length}
 use borrow.Author.Tests.{le-leb, lt-leb}
 use Rattle.numbers.specs.Signal.{at}
 use Rattle.lifting.specs.Grid.{side}
-use Rattle.lifting.proofs.LoneLaws.{has-more}
+use Rattle.lifting.proofs.SingleLaws.{has-more}
 use Rattle.lifting.proofs.line.backward.Statement.{statement}
 use Rattle.lifting.proofs.line.backward.Tie as tie
 
@@ -14,18 +14,18 @@ returns c =
     let bad = lt-leb (length (a .coefficients .now)) (length (a .out .now)) (omega arith) in
     (simp bad, simp bad)
 
-put-lone-requires : tie.Need-put-lone-requires
-put-lone-requires c κs = omega arith
+put-single-requires : tie.Need-put-single-requires
+put-single-requires c κs = omega arith
 
 same-length : tie.Need-same-length
-same-length c = c .before .put-lone .kept .1 .1 .0
+same-length c = c .before .put-single .kept .1 .1 .0
 
 returns-2 : tie.Need-returns-2
 returns-2 c =
     let a = c .before .before .before .before .before .args in
-    let lone = c .before .put-lone in
+    let single = c .before .put-single in
     let ok = le-leb (length (a .coefficients .now)) (length (a .out .now)) (omega arith) in
-    (simp ok (lone .ensures .0), simp ok (lone .ensures .1))
+    (simp ok (single .ensures .0), simp ok (single .ensures .1))
 
 lows-requires : tie.Need-lows-requires
 lows-requires c κs = tt
@@ -50,7 +50,7 @@ backward-spec =
     tie.close
     (tie.spec
     returns
-    put-lone-requires
+    put-single-requires
     same-length
     returns-2
     lows-requires

@@ -7,14 +7,14 @@ use Rattle.lifting.proofs.PassLaws.{lows-beside, highs-beside, lifted-b
 use Rattle.lifting.proofs.line.lift.Statement.{statement}
 use Rattle.lifting.proofs.line.lift.Tie as tie
 
-lift-lone-requires : tie.Need-lift-lone-requires
-lift-lone-requires c κs = c .before .if1 .taken
+lift-single-requires : tie.Need-lift-single-requires
+lift-single-requires c κs = c .before .if1 .taken
 
 same-length : tie.Need-same-length
-same-length c = c .before .lift-lone .kept .0
+same-length c = c .before .lift-single .kept .0
 
 returns : tie.Need-returns
-returns c = c .before .lift-lone .ensures
+returns c = c .before .lift-single .ensures
 
 lows-requires : tie.Need-lows-requires
 lows-requires c κs = tt
@@ -51,7 +51,7 @@ pub lift-spec : {M : Type 1} → statement M
 lift-spec =
     tie.close
     (tie.spec
-    lift-lone-requires
+    lift-single-requires
     same-length
     returns
     lows-requires

@@ -5,18 +5,18 @@ use lib.ListN.{length}
 use Rattle.numbers.specs.Signal.{at}
 use Rattle.lifting.specs.Grid.{side}
 use Rattle.lifting.proofs.PassLaws.{lows-beside, highs-beside, unlifted-by}
-use Rattle.lifting.proofs.LoneLaws.{has-more}
+use Rattle.lifting.proofs.SingleLaws.{has-more}
 use Rattle.lifting.proofs.line.unlift.Statement.{statement}
 use Rattle.lifting.proofs.line.unlift.Tie as tie
 
-unlift-lone-requires : tie.Need-unlift-lone-requires
-unlift-lone-requires c κs = c .before .if1 .taken
+unlift-single-requires : tie.Need-unlift-single-requires
+unlift-single-requires c κs = c .before .if1 .taken
 
 same-length : tie.Need-same-length
-same-length c = c .before .unlift-lone .kept .0
+same-length c = c .before .unlift-single .kept .0
 
 returns : tie.Need-returns
-returns c = c .before .unlift-lone .ensures
+returns c = c .before .unlift-single .ensures
 
 lows-requires : tie.Need-lows-requires
 lows-requires c κs = tt
@@ -56,7 +56,7 @@ pub unlift-spec : {M : Type 1} → statement M
 unlift-spec =
     tie.close
     (tie.spec
-    unlift-lone-requires
+    unlift-single-requires
     same-length
     returns
     lows-requires

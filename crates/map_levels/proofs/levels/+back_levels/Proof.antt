@@ -32,7 +32,7 @@ use Rattle.wavelet.proofs.sizes.low_count.Reads as low-count-reads
 use Rattle.wavelet.proofs.sizes.next_start.Reads as next-start-reads
 use Rattle.map_levels.proofs.levels.goes_on.Reads as goes-on-reads
 use Rattle.map_levels.proofs.levels.back_by.Reads as back-by-reads
-use Rattle.map_levels.proofs.levels.weave_low.Reads as weave-low-reads
+use Rattle.map_levels.proofs.levels.interleave_low.Reads as interleave-low-reads
 use Rattle.map_levels.proofs.levels.+back_levels.{statement}
 use Rattle.map_levels.proofs.levels.+back_levels.Tie.{close}
 
@@ -59,8 +59,8 @@ claims t = (
   next-start-reads.Learnt,
   back-levels-below t,
   back-levels.Post,
-  weave-low-reads.Asked,
-  weave-low-reads.Learnt,
+  interleave-low-reads.Asked,
+  interleave-low-reads.Learnt,
 )
 
 back-levels-low-count-requires : (t : ℕ) → back-levels-lts.Need-low-count-requires (claims t) (back-levels-at t) back-levels.Post
@@ -157,9 +157,9 @@ module _ (t : ℕ) (c : back-levels-lts.After-work3 (claims t) (back-levels-at t
   abbrev called : back-levels-lts.After-work2 (claims t) (back-levels-at t) back-levels.Post
   called = c .before .before .before .before
 
-  same₂ : length (putMid (a t (then t called)) (n t (then t called) - a t (then t called)) (work₁ t called) (c .before .weave-low .last .0))
+  same₂ : length (putMid (a t (then t called)) (n t (then t called) - a t (then t called)) (work₁ t called) (c .before .interleave-low .last .0))
       ≡ n t (then t called)
-  same₂ = put-same _ _ (work₁ t called) (c .before .weave-low .last .0) (fit₁ t called) (c .before .weave-low .kept .0) ∙ same₁ t called
+  same₂ = put-same _ _ (work₁ t called) (c .before .interleave-low .last .0) (fit₁ t called) (c .before .interleave-low .kept .0) ∙ same₁ t called
 
 back-levels-next-start-requires : (t : ℕ) → back-levels-lts.Need-next-start-requires (claims t) (back-levels-at t) back-levels.Post
 back-levels-next-start-requires t c κs = tt
@@ -222,26 +222,26 @@ back-levels-returns-2 t c =
     (put-area _ _ (work t here) (part t called) (fit t here) (called .before .back-levels .kept .1 .0))
     (not-true _ (c .if2 .taken))
 
-back-levels-mul-weave-low : (t : ℕ) → back-levels-lts.Need-mul-weave-low (claims t) (back-levels-at t) back-levels.Post
-back-levels-mul-weave-low t c = omega (arith, room t (then t (c .before)), same₁ t (c .before))
+back-levels-mul-interleave-low : (t : ℕ) → back-levels-lts.Need-mul-interleave-low (claims t) (back-levels-at t) back-levels.Post
+back-levels-mul-interleave-low t c = omega (arith, room t (then t (c .before)), same₁ t (c .before))
 
-back-levels-sub-weave-low : (t : ℕ) → back-levels-lts.Need-sub-weave-low (claims t) (back-levels-at t) back-levels.Post
-back-levels-sub-weave-low t c = omega (arith, room t (then t (c .before)), same₁ t (c .before))
+back-levels-sub-interleave-low : (t : ℕ) → back-levels-lts.Need-sub-interleave-low (claims t) (back-levels-at t) back-levels.Post
+back-levels-sub-interleave-low t c = omega (arith, room t (then t (c .before)), same₁ t (c .before))
 
-back-levels-part-weave-low-start : (t : ℕ) → back-levels-lts.Need-part-weave-low-start (claims t) (back-levels-at t) back-levels.Post
-back-levels-part-weave-low-start t c = omega (arith, room t (then t (c .before)), same₁ t (c .before))
+back-levels-part-interleave-low-start : (t : ℕ) → back-levels-lts.Need-part-interleave-low-start (claims t) (back-levels-at t) back-levels.Post
+back-levels-part-interleave-low-start t c = omega (arith, room t (then t (c .before)), same₁ t (c .before))
 
-back-levels-part-weave-low-end : (t : ℕ) → back-levels-lts.Need-part-weave-low-end (claims t) (back-levels-at t) back-levels.Post
-back-levels-part-weave-low-end t c = omega (arith, room t (then t (c .before)), same₁ t (c .before))
+back-levels-part-interleave-low-end : (t : ℕ) → back-levels-lts.Need-part-interleave-low-end (claims t) (back-levels-at t) back-levels.Post
+back-levels-part-interleave-low-end t c = omega (arith, room t (then t (c .before)), same₁ t (c .before))
 
-back-levels-mul-weave-low-2 : (t : ℕ) → back-levels-lts.Need-mul-weave-low-2 (claims t) (back-levels-at t) back-levels.Post
-back-levels-mul-weave-low-2 t c = omega (arith, stride-small _ _ _ (begun t (then t (c .before .before)) .pre .1 .2))
+back-levels-mul-interleave-low-2 : (t : ℕ) → back-levels-lts.Need-mul-interleave-low-2 (claims t) (back-levels-at t) back-levels.Post
+back-levels-mul-interleave-low-2 t c = omega (arith, stride-small _ _ _ (begun t (then t (c .before .before)) .pre .1 .2))
 
-back-levels-add-weave-low : (t : ℕ) → back-levels-lts.Need-add-weave-low (claims t) (back-levels-at t) back-levels.Post
-back-levels-add-weave-low t c = omega (arith, levels-small, levels-most (begun t (then t (c .before .before)) .args .filter))
+back-levels-add-interleave-low : (t : ℕ) → back-levels-lts.Need-add-interleave-low (claims t) (back-levels-at t) back-levels.Post
+back-levels-add-interleave-low t c = omega (arith, levels-small, levels-most (begun t (then t (c .before .before)) .args .filter))
 
-back-levels-weave-low-requires : (t : ℕ) → back-levels-lts.Need-weave-low-requires (claims t) (back-levels-at t) back-levels.Post
-back-levels-weave-low-requires t c κs =
+back-levels-interleave-low-requires : (t : ℕ) → back-levels-lts.Need-interleave-low-requires (claims t) (back-levels-at t) back-levels.Post
+back-levels-interleave-low-requires t c κs =
     let called = c .before .before in
     let here = then t called in
     let start = begun t here in
@@ -268,9 +268,9 @@ back-levels-returns-3 t c =
     (at-mid (a t here) (n t here - a t here) (work t here)) (called .before .back-levels .ensures)
     (put-area _ _ (work t here) (part t called) (fit t here) (called .before .back-levels .kept .1 .0))
     (not-false _ (tested .before .before .before .if2 .left)) _ _ _ _ (at-mid (a t here) (n t here - a t here) (work₁ t called))
-    (put-again _ _ (work t here) (part t called) (fit t here) (called .before .back-levels .kept .1 .0)) (tested .before .weave-low .ensures .0)
-    (tested .before .weave-low .ensures .1)
-    (put-area _ _ (work₁ t called) (tested .before .weave-low .last .0) (fit₁ t called) (tested .before .weave-low .kept .0))
+    (put-again _ _ (work t here) (part t called) (fit t here) (called .before .back-levels .kept .1 .0)) (tested .before .interleave-low .ensures .0)
+    (tested .before .interleave-low .ensures .1)
+    (put-area _ _ (work₁ t called) (tested .before .interleave-low .last .0) (fit₁ t called) (tested .before .interleave-low .kept .0))
     (not-true _ (c .if3 .taken))
 
 back-levels-back-by-requires-2 : (t : ℕ) → back-levels-lts.Need-back-by-requires-2 (claims t) (back-levels-at t) back-levels.Post
@@ -296,9 +296,9 @@ back-levels-returns-4 t c =
     (at-mid (a t here) (n t here - a t here) (work t here)) (called .before .back-levels .ensures)
     (put-area _ _ (work t here) (part t called) (fit t here) (called .before .back-levels .kept .1 .0))
     (not-false _ (tested .before .before .before .if2 .left)) _ _ _ _ (at-mid (a t here) (n t here - a t here) (work₁ t called))
-    (put-again _ _ (work t here) (part t called) (fit t here) (called .before .back-levels .kept .1 .0)) (tested .before .weave-low .ensures .0)
-    (tested .before .weave-low .ensures .1)
-    (put-area _ _ (work₁ t called) (tested .before .weave-low .last .0) (fit₁ t called) (tested .before .weave-low .kept .0))
+    (put-again _ _ (work t here) (part t called) (fit t here) (called .before .back-levels .kept .1 .0)) (tested .before .interleave-low .ensures .0)
+    (tested .before .interleave-low .ensures .1)
+    (put-area _ _ (work₁ t called) (tested .before .interleave-low .last .0) (fit₁ t called) (tested .before .interleave-low .kept .0))
     _ _ (not-false _ (good .if3 .left)) (back .back-by2 .ensures)
 
 pub +back-levels-spec : {M : Type 1} → statement M
@@ -324,13 +324,13 @@ pub +back-levels-spec : {M : Type 1} → statement M
     (back-levels-back-levels-requires t)
     (back-levels-same-length-2 t)
     (back-levels-returns-2 t)
-    (back-levels-mul-weave-low t)
-    (back-levels-sub-weave-low t)
-    (back-levels-part-weave-low-start t)
-    (back-levels-part-weave-low-end t)
-    (back-levels-mul-weave-low-2 t)
-    (back-levels-add-weave-low t)
-    (back-levels-weave-low-requires t)
+    (back-levels-mul-interleave-low t)
+    (back-levels-sub-interleave-low t)
+    (back-levels-part-interleave-low-start t)
+    (back-levels-part-interleave-low-end t)
+    (back-levels-mul-interleave-low-2 t)
+    (back-levels-add-interleave-low t)
+    (back-levels-interleave-low-requires t)
     (back-levels-same-length-3 t)
     (back-levels-returns-3 t)
     (back-levels-back-by-requires-2 t)

@@ -25,8 +25,8 @@ fetch-row-requires c κs =
     let pre = even .before .pre in
     (pre, pre .work .some, sym (even .rows-even .ensures) ∙ not-false _ (left .if1 .left))
 
-unlift-lone-requires : tie.Need-unlift-lone-requires
-unlift-lone-requires c κs =
+unlift-single-requires : tie.Need-unlift-single-requires
+unlift-single-requires c κs =
     let fetched = c .before .before in
     let pre = fetched .before .before .before .before .before .pre in
     omega (arith, fetched .fetch-row .kept .1 .0, row-room _ _ _ _ 0 (pre .work) (pre .work .some))
@@ -36,8 +36,8 @@ same-length c = search needs
 
 returns-2 : tie.Need-returns-2
 returns-2 c =
-    let lone = c .before in
-    let fetched = lone .before .before .before in
+    let single = c .before in
+    let fetched = single .before .before .before in
     let one = fetched .before .before in
     let left = one .before in
     let even = left .before in
@@ -45,7 +45,7 @@ returns-2 c =
     let a = start .args in
     let h : a .height ≡ 1 = omega (arith, start .pre .work .some) in
     made-one _ _ (side (a .x) (a .width)) (side (a .y) (a .height)) _ _ _ (start .pre .work) _ (even .rows-even .ensures) (not-false _ (left .if1 .left)) _ _ _
-    (one .if2 .taken) (fetched .fetch-row .ensures) (lone .unlift-lone .ensures .0 ∙ rw h refl) (lone .unlift-lone .ensures .1 ∙ rw h refl)
+    (one .if2 .taken) (fetched .fetch-row .ensures) (single .unlift-single .ensures .0 ∙ rw h refl) (single .unlift-single .ensures .1 ∙ rw h refl)
 
 rows-back-requires : tie.Need-rows-back-requires
 rows-back-requires c κs =
@@ -73,7 +73,7 @@ level-back-spec =
     rows-even-requires
     returns
     fetch-row-requires
-    unlift-lone-requires
+    unlift-single-requires
     same-length
     returns-2
     rows-back-requires

@@ -4,7 +4,7 @@ use native.Mathlib.Omega.{arith}
 use lib.ListN.{length}
 use Rattle.lifting.specs.Grid.{side}
 use Rattle.lifting.proofs.PassLaws.{lows-beside, highs-beside}
-use Rattle.map_levels.proofs.ShortSums.{lone-lifted, short-lifted}
+use Rattle.map_levels.proofs.ShortSums.{single-lifted, short-lifted}
 use Rattle.map_levels.proofs.short.lift.Statement.{statement}
 use Rattle.map_levels.proofs.short.lift.Tie as tie
 
@@ -17,7 +17,7 @@ same-length c = c .before .lift .kept .0
 returns : tie.Need-returns
 returns c =
     let a = c .before .before .before .before .args in
-    lone-lifted (side (a .start) (length (a .line .now))) _ _ (c .before .before .before .if1 .taken) (c .before .lift .ensures)
+    single-lifted (side (a .start) (length (a .line .now))) _ _ (c .before .before .before .if1 .taken) (c .before .lift .ensures)
 
 low-count-requires : tie.Need-low-count-requires
 low-count-requires c κs = tt

@@ -9,7 +9,7 @@ use borrow.Author.Tests.{le-leb, lt-leb}
 use Rattle.numbers.specs.Signal.{at, pick, both}
 use Rattle.lifting.specs.Grid.{side}
 use Rattle.lifting.specs.GridHalves.{hasLineIn}
-use Rattle.lifting.proofs.LoneLaws.{has-more}
+use Rattle.lifting.proofs.SingleLaws.{has-more}
 use Rattle.nine_seven.proofs.LiftLaws.{backward-short}
 use borrow.Author.Needs.{needs}
 use Rattle.nine_seven.proofs.line.backward.Statement.{statement}

@@ -1,4 +1,4 @@
--- `nine_seven::line::forward` meets its contract: the line is parted into halves, and lifted there. Assumes nothing.
+-- `nine_seven::line::forward` meets its contract: the line is deinterleaved into halves, and lifted there. Assumes nothing.
 use native.Mathlib.Omega.{arith}
 use lib.ListN.{length}
 use borrow.Author.Tests.{le-leb, lt-leb}
@@ -36,13 +36,13 @@ same-length c = search needs
 
 returns-2 : tie.Need-returns-2
 returns-2 c =
-    let parted = c .before .before .before .before in
-    let a = parted .before .before .before .args in
+    let deinterleaved = c .before .before .before .before in
+    let a = deinterleaved .before .before .before .args in
     let x = a .line .now in
     let N = length x in
     let ok = le-leb N (length (a .out .now)) (omega arith) in
-    let size = parted .part-line .kept .1 .0 in
-    let from = parted .part-line .ensures .1 in (
+    let size = deinterleaved .part-line .kept .1 .0 in
+    let from = deinterleaved .part-line .ensures .1 in (
       simp ok,
       simp ok
           (forward-front (side (a .start) N) (N - 0) (at x) (at (a .out .now)) _ (c .before .lift .last .0) (omega arith) (omega arith)

@@ -9,7 +9,7 @@ use Rattle.lifting.specs.Grid.{side}
 use Rattle.lifting.specs.GridHalves.{hasLineIn}
 use Rattle.lifting.proofs.GridLaws.{some, beside-lows, beside-highs}
 use Rattle.nine_seven.proofs.LiftLaws.{unlifted-short, unlifted-is}
-use Rattle.lifting.proofs.LoneLaws.{has-more}
+use Rattle.lifting.proofs.SingleLaws.{has-more}
 use Rattle.nine_seven.proofs.line.unlift.Statement.{statement}
 use Rattle.nine_seven.proofs.line.unlift.Tie as tie
 

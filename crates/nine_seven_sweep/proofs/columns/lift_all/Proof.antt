@@ -7,8 +7,8 @@ use lib.IntN.{pos, _*ℤ_}
 use borrow.Author.Tests.{not-true, not-false}
 use Rattle.numbers.specs.Word.{wrap32}
 use Rattle.lifting.specs.Grid.{side}
-use Rattle.nine_seven_sweep.proofs.LoneLaws.{mapped-part}
-use Rattle.nine_seven_sweep.proofs.ShortColumns.{lone-lifted, short-lifted}
+use Rattle.nine_seven_sweep.proofs.SingleLaws.{mapped-part}
+use Rattle.nine_seven_sweep.proofs.ShortColumns.{single-lifted, short-lifted}
 use Rattle.nine_seven_sweep.proofs.columns.lift_all.Statement.{statement}
 use Rattle.nine_seven_sweep.proofs.columns.lift_all.Tie as tie
 
@@ -21,16 +21,16 @@ same-length c = c .before .lift-rows .kept .0
 returns : tie.Need-returns
 returns c = c .before .lift-rows .ensures
 
-is-lone-requires : tie.Need-is-lone-requires
-is-lone-requires c κs = tt
+is-single-requires : tie.Need-is-single-requires
+is-single-requires c κs = tt
 
 returns-2 : tie.Need-returns-2
 returns-2 c =
-    let lone = c .before in
-    let start = lone .before .before in
+    let single = c .before in
+    let start = single .before .before in
     let a = start .args in
     short-lifted (a .stride) (a .width) (side (a .y) (a .height)) _ (start .pre .some) (start .pre .wide)
-    (sym (lone .is-lone .ensures) ∙ not-true _ (c .if2 .taken))
+    (sym (single .is-single .ensures) ∙ not-true _ (c .if2 .taken))
     (omega arith)
 
 sub-double-all : tie.Need-sub-double-all
@@ -52,14 +52,14 @@ returns-3 : tie.Need-returns-3
 returns-3 c =
     let called = c .before .double-all in
     let left = c .before .before .before in
-    let lone = left .before in
-    let start = lone .before .before in
+    let single = left .before in
+    let start = single .before .before in
     let a = start .args in
     mapped-part (a .width) (a .width - 0) (a .area .now) (omega arith) (omega (arith, start .pre .room)) (λ v. wrap32 (pos 2 *ℤ v)) (called .last .0)
     (called .kept .0)
     (called .ensures)
-    ∙ lone-lifted (a .stride) (a .width) (side (a .y) (a .height)) _ (start .pre .some) (start .pre .wide)
-    (sym (lone .is-lone .ensures) ∙ not-false _ (left .if2 .left))
+    ∙ single-lifted (a .stride) (a .width) (side (a .y) (a .height)) _ (start .pre .some) (start .pre .wide)
+    (sym (single .is-single .ensures) ∙ not-false _ (left .if2 .left))
 
 pub lift-all-spec : {M : Type 1} → statement M
 lift-all-spec =
@@ -68,7 +68,7 @@ lift-all-spec =
     lift-rows-requires
     same-length
     returns
-    is-lone-requires
+    is-single-requires
     returns-2
     sub-double-all
     part-double-all-start

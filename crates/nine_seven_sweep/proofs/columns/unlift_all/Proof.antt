@@ -6,8 +6,8 @@ use native.Mathlib.Omega.{arith}
 use lib.Signed.{shrZ}
 use borrow.Author.Tests.{not-true, not-false}
 use Rattle.lifting.specs.Grid.{side}
-use Rattle.nine_seven_sweep.proofs.LoneLaws.{mapped-part}
-use Rattle.nine_seven_sweep.proofs.ShortColumns.{lone-back, short-back}
+use Rattle.nine_seven_sweep.proofs.SingleLaws.{mapped-part}
+use Rattle.nine_seven_sweep.proofs.ShortColumns.{single-back, short-back}
 use Rattle.nine_seven_sweep.proofs.columns.unlift_all.Statement.{statement}
 use Rattle.nine_seven_sweep.proofs.columns.unlift_all.Tie as tie
 
@@ -20,16 +20,16 @@ same-length c = c .before .unlift-rows .kept .0
 returns : tie.Need-returns
 returns c = c .before .unlift-rows .ensures
 
-is-lone-requires : tie.Need-is-lone-requires
-is-lone-requires c κs = tt
+is-single-requires : tie.Need-is-single-requires
+is-single-requires c κs = tt
 
 returns-2 : tie.Need-returns-2
 returns-2 c =
-    let lone = c .before in
-    let start = lone .before .before in
+    let single = c .before in
+    let start = single .before .before in
     let a = start .args in
     short-back (a .stride) (a .width) (side (a .y) (a .height)) _ (start .pre .some) (start .pre .wide)
-    (sym (lone .is-lone .ensures) ∙ not-true _ (c .if2 .taken))
+    (sym (single .is-single .ensures) ∙ not-true _ (c .if2 .taken))
     (omega arith)
 
 sub-halve-all : tie.Need-sub-halve-all
@@ -51,13 +51,13 @@ returns-3 : tie.Need-returns-3
 returns-3 c =
     let called = c .before .halve-all in
     let left = c .before .before .before in
-    let lone = left .before in
-    let start = lone .before .before in
+    let single = left .before in
+    let start = single .before .before in
     let a = start .args in
     mapped-part (a .width) (a .width - 0) (a .area .now) (omega arith) (omega (arith, start .pre .room)) (λ v. shrZ v 2) (called .last .0) (called .kept .0)
     (called .ensures .1)
-    ∙ lone-back (a .stride) (a .width) (side (a .y) (a .height)) _ (start .pre .some) (start .pre .wide)
-    (sym (lone .is-lone .ensures) ∙ not-false _ (left .if2 .left))
+    ∙ single-back (a .stride) (a .width) (side (a .y) (a .height)) _ (start .pre .some) (start .pre .wide)
+    (sym (single .is-single .ensures) ∙ not-false _ (left .if2 .left))
 
 pub unlift-all-spec : {M : Type 1} → statement M
 unlift-all-spec =
@@ -66,7 +66,7 @@ unlift-all-spec =
     unlift-rows-requires
     same-length
     returns
-    is-lone-requires
+    is-single-requires
     returns-2
     sub-halve-all
     part-halve-all-start

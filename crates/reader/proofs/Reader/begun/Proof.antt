@@ -4,25 +4,25 @@ use Prim.Native.Nat.{_-_}
 use native.Mathlib.Omega.{arith}
 use Rattle.lifting.specs.Grid.{side}
 use Rattle.reader.specs.declared.Reader.{Reader}
-use Rattle.reader.proofs.EnterLaws.{dive-level}
+use Rattle.reader.proofs.EnterLaws.{descend-level}
 use Rattle.reader.proofs.CallLaws.{enter-is, fresh-at}
 use Rattle.reader.proofs.Reader.begun.Statement.{statement}
 use Rattle.reader.proofs.Reader.begun.Tie as tie
 
-dive-from-requires : tie.Need-dive-from-requires
-dive-from-requires c κs = let p = c .pre in (omega arith, p .1, p .0 .0, p .0 .2, omega arith)
+descend-from-requires : tie.Need-descend-from-requires
+descend-from-requires c κs = let p = c .pre in (omega arith, p .1, p .0 .0, p .0 .2, omega arith)
 
 moved-requires : tie.Need-moved-requires
 moved-requires c κs =
     let start = c .before in
     let a = start .args in
-    let deep = dive-level (a .filter) (a .levels - 0) 0 (side (a .x) (a .width)) (side (a .y) (a .height)) 0 0 in
-    (start .pre .0, omega (arith, deep, c .dive-from .ensures .level, start .pre .1))
+    let deep = descend-level (a .filter) (a .levels - 0) 0 (side (a .x) (a .width)) (side (a .y) (a .height)) 0 0 in
+    (start .pre .0, omega (arith, deep, c .descend-from .ensures .level, start .pre .1))
 
 returns : tie.Need-returns
 returns c =
-    let dive = c .before in
-    let a = dive .before .args in
+    let descend = c .before in
+    let a = descend .before .args in
     let s : Reader = record {
       width = a .width;
       height = a .height;
@@ -39,7 +39,7 @@ returns c =
       spare = a .spare;
       admission = a .admission;
     } in
-    fresh-at s _ (dive .dive-from .result) (enter-is _ _ _ _ 0 _ (dive .dive-from .ensures)) (c .moved .ensures)
+    fresh-at s _ (descend .descend-from .result) (enter-is _ _ _ _ 0 _ (descend .descend-from .ensures)) (c .moved .ensures)
 
 pub begun-spec : {M : Type 1} → statement M
-begun-spec = tie.close (tie.spec dive-from-requires moved-requires returns)
+begun-spec = tie.close (tie.spec descend-from-requires moved-requires returns)

@@ -10,7 +10,8 @@ use Rattle.level.proofs.WorkLaws.{told-no, told-yes}
 use Rattle.filters.specs.Figures.{storeBy}
 use Rattle.reader.specs.State.{columns, needs}
 use Rattle.reader.proofs.QuestionLaws.{counts-in, store-in, due-in}
-use Rattle.reader.proofs.CallLaws.{store-14, draw-1, draw-early, draw-none, draw-12, draw-last, draw-no, draw-nothing, draw-yes, draw-end, fits-yes, fits-no}
+use Rattle.reader.proofs.CallLaws.{store-14, draw-1, draw-early, draw-none, draw-12, draw-last, draw-no, draw-nothing, draw-yes, draw-end, fits-yes}
+use Rattle.reader.proofs.CallLaws.{fits-no}
 use Rattle.reader.proofs.CallLaws.{zero-kept}
 use Rattle.reader.proofs.Keeps.{draw-also}
 use Rattle.reader.proofs.Reader.draw_row.Statement.{statement}
@@ -44,7 +45,8 @@ returns-2 c =
     (λ e. store-14 (a .self) n m (at (a .store .now)) (at (a .store .now)) (sym q ∙ e)))
 
 draw-due-requires : tie.Need-draw-due-requires
-draw-due-requires c κs = store-in _ _ (sym (c .before .before .before .counts-fit .ensures) ∙ not-false _ (c .before .before .if1 .left)) (sym (c .before .store-question .ensures) ∙ c .if2 .left) .0
+draw-due-requires c κs = store-in _ _ (sym (c .before .before .before .counts-fit .ensures) ∙ not-false _ (c .before .before .if1 .left))
+    (sym (c .before .store-question .ensures) ∙ c .if2 .left) .0
 
 returns-3 : tie.Need-returns-3
 returns-3 c =
@@ -71,7 +73,8 @@ settle-all-requires : tie.Need-settle-all-requires
 settle-all-requires c κs =
     let due = c .before .before .before in
     let ok = due .before .before in
-    let one = store-in _ _ (sym (ok .before .before .before .counts-fit .ensures) ∙ not-false _ (ok .before .before .if1 .left)) (sym (ok .before .store-question .ensures) ∙ ok .if2 .left) in
+    let one = store-in _ _ (sym (ok .before .before .before .counts-fit .ensures) ∙ not-false _ (ok .before .before .if1 .left))
+    (sym (ok .before .store-question .ensures) ∙ ok .if2 .left) in
     (one .0, sym (due-in _ (sym (due .before .draw-due .ensures) ∙ not-false _ (due .if3 .left)) .1), one .1)
 
 hand-out-requires : tie.Need-hand-out-requires
@@ -80,7 +83,8 @@ hand-out-requires c κs =
     let wide = call .before .before in
     let due = wide .before .before in
     let ok = due .before .before in
-    let one = store-in _ _ (sym (ok .before .before .before .counts-fit .ensures) ∙ not-false _ (ok .before .before .if1 .left)) (sym (ok .before .store-question .ensures) ∙ ok .if2 .left) in
+    let one = store-in _ _ (sym (ok .before .before .before .counts-fit .ensures) ∙ not-false _ (ok .before .before .if1 .left))
+    (sym (ok .before .store-question .ensures) ∙ ok .if2 .left) in
     let draws = due-in _ (sym (due .before .draw-due .ensures) ∙ not-false _ (due .if3 .left)) in
     (one .0, draws .0, le-trans (one .1) (le-of-eq (sym (call .settle-all .kept .1 .0))), wide .if4 .left)
 
@@ -115,7 +119,8 @@ over-requires : tie.Need-over-requires
 over-requires c κs =
     let call = c .before .before .before in
     let ok = call .before .before .before .before .before .before in
-    let one = store-in _ _ (sym (ok .before .before .before .counts-fit .ensures) ∙ not-false _ (ok .before .before .if1 .left)) (sym (ok .before .store-question .ensures) ∙ ok .if2 .left) in
+    let one = store-in _ _ (sym (ok .before .before .before .counts-fit .ensures) ∙ not-false _ (ok .before .before .if1 .left))
+    (sym (ok .before .store-question .ensures) ∙ ok .if2 .left) in
     (one .0, le-trans (one .3) (le-of-eq (sym (call .settle-all .kept .1 .0))))
 
 same-length-3 : tie.Need-same-length-3

@@ -47,12 +47,16 @@ returns-2 c =
     feed-also (a .self) n m x v (feed-no (a .self) _ _ _ _ asked (c .if2 .taken) (λ e. store-14 (a .self) n m v x (sym q ∙ e)))
 
 next-of-requires : tie.Need-next-of-requires
-next-of-requires c κs = store-in _ _ (sym (c .before .before .before .counts-fit .ensures) ∙ not-false _ (c .before .before .if1 .left)) (sym (c .before .store-question .ensures) ∙ c .if2 .left) .0
+next-of-requires c κs = store-in _ _ (sym (c .before .before .before .counts-fit .ensures) ∙ not-false _ (c .before .before .if1 .left))
+    (sym (c .before .store-question .ensures) ∙ c .if2 .left) .0
 
 row-question-requires : tie.Need-row-question-requires
 row-question-requires c κs =
-    let ok = c .before in
-    (store-in _ _ (sym (ok .before .before .before .counts-fit .ensures) ∙ not-false _ (ok .before .before .if1 .left)) (sym (ok .before .store-question .ensures) ∙ ok .if2 .left) .0, c .next-of .ensures)
+    let ok = c .before in (
+      store-in _ _ (sym (ok .before .before .before .counts-fit .ensures) ∙ not-false _ (ok .before .before .if1 .left))
+          (sym (ok .before .store-question .ensures) ∙ ok .if2 .left) .0,
+      c .next-of .ensures,
+    )
 
 returns-3 : tie.Need-returns-3
 returns-3 c =
@@ -72,7 +76,8 @@ completes-requires : tie.Need-completes-requires
 completes-requires c κs =
     let next = c .before .before in
     let ok = next .before in
-    let one = store-in _ _ (sym (ok .before .before .before .counts-fit .ensures) ∙ not-false _ (ok .before .before .if1 .left)) (sym (ok .before .store-question .ensures) ∙ ok .if2 .left) in
+    let one = store-in _ _ (sym (ok .before .before .before .counts-fit .ensures) ∙ not-false _ (ok .before .before .if1 .left))
+    (sym (ok .before .store-question .ensures) ∙ ok .if2 .left) in
     let two = row-asked _ _ _ (sym (c .before .row-question .ensures) ∙ c .if3 .left) in
     (one .0, next .next-of .ensures, omega (arith, next .next-of .ensures .spot .level, two .0))
 
@@ -82,7 +87,8 @@ feed-row-requires c κs =
     let asked = last .before in
     let next = asked .before .before in
     let ok = next .before in
-    let one = store-in _ _ (sym (ok .before .before .before .counts-fit .ensures) ∙ not-false _ (ok .before .before .if1 .left)) (sym (ok .before .store-question .ensures) ∙ ok .if2 .left) in
+    let one = store-in _ _ (sym (ok .before .before .before .counts-fit .ensures) ∙ not-false _ (ok .before .before .if1 .left))
+    (sym (ok .before .store-question .ensures) ∙ ok .if2 .left) in
     let two = row-asked _ _ _ (sym (asked .before .row-question .ensures) ∙ asked .if3 .left) in
     (one .0, next .next-of .ensures, omega (arith, next .next-of .ensures .spot .level, two .0), last .completes .ensures, one .1, two .1)
 
@@ -91,7 +97,8 @@ spot-fed-requires c κs =
     let last = c .before .before .before .before in
     let asked = last .before in
     let next = asked .before .before in
-    let one = store-in _ _ (sym (next .before .before .before .before .counts-fit .ensures) ∙ not-false _ (next .before .before .before .if1 .left)) (sym (next .before .before .store-question .ensures) ∙ next .before .if2 .left) in
+    let one = store-in _ _ (sym (next .before .before .before .before .counts-fit .ensures) ∙ not-false _ (next .before .before .before .if1 .left))
+    (sym (next .before .before .store-question .ensures) ∙ next .before .if2 .left) in
     let two = row-asked _ _ _ (sym (asked .before .row-question .ensures) ∙ asked .if3 .left) in
     (one .0, next .next-of .ensures, omega (arith, next .next-of .ensures .spot .level, two .0), last .completes .ensures)
 
@@ -102,7 +109,8 @@ moved-requires c κs =
     let next = asked .before .before in
     let ok = next .before in
     let s = ok .before .before .before .before .args .self in
-    let one = store-in s _ (sym (ok .before .before .before .counts-fit .ensures) ∙ not-false _ (ok .before .before .if1 .left)) (sym (ok .before .store-question .ensures) ∙ ok .if2 .left) in
+    let one = store-in s _ (sym (ok .before .before .before .counts-fit .ensures) ∙ not-false _ (ok .before .before .if1 .left))
+    (sym (ok .before .store-question .ensures) ∙ ok .if2 .left) in
     let deep = fed-level (s .filter) (columns s) (rows s) (s .levels) (state.next s .level) (state.next s .set) (state.next s .band)
     (omega (arith, near s .within, one .0 .at)) in
     (counts-small s (one .0), omega (arith, deep, c .spot-fed .ensures .level, one .0 .few))
@@ -134,7 +142,8 @@ over-requires c κs =
     let call = c .before .before .before in
     let asked = call .before .before .before in
     let ok = asked .before .before .before in
-    let one = store-in _ _ (sym (ok .before .before .before .counts-fit .ensures) ∙ not-false _ (ok .before .before .if1 .left)) (sym (ok .before .store-question .ensures) ∙ ok .if2 .left) in
+    let one = store-in _ _ (sym (ok .before .before .before .counts-fit .ensures) ∙ not-false _ (ok .before .before .if1 .left))
+    (sym (ok .before .store-question .ensures) ∙ ok .if2 .left) in
     (one .0, le-trans (one .3) (le-of-eq (sym (call .feed-row .kept .1 .0))))
 
 same-length-2 : tie.Need-same-length-2

@@ -55,15 +55,15 @@ add-d c =
     let start = c .before .before .before .before .before .before .before .before .before .before in
     omega (arith, row-counts (start .args .self) (start .pre .0) (start .pre .1) .1)
 
-dive-from-requires : tie.Need-dive-from-requires
-dive-from-requires c κs =
+descend-from-requires : tie.Need-descend-from-requires
+descend-from-requires c κs =
     let start = c .before .before .before .before .before .before .before .before .before .before in
     row-after (start .args .self) (start .pre .0) (start .pre .1) _ (omega arith)
 
 moved-requires : tie.Need-moved-requires
 moved-requires c κs =
     let start = c .before .before .before .before .before .before .before .before .before .before .before in
-    row-moves (start .args .self) (start .pre .0) (start .pre .1) _ (c .dive-from .result) (omega arith) (c .dive-from .ensures)
+    row-moves (start .args .self) (start .pre .0) (start .pre .1) _ (c .descend-from .result) (omega arith) (c .descend-from .ensures)
 
 same-length : tie.Need-same-length
 same-length c = c .before .before .before .before .before .draw-row .kept .1 .1 .1 .0
@@ -77,7 +77,7 @@ returns c =
     let a = start .args in
     let s = a .self in
     let p = start .pre in (
-      drawn-reader s (c .moved .result) _ (enter .dive-from .result) refl (enter-is _ _ _ _ _ _ (enter .dive-from .ensures)) (c .moved .ensures),
+      drawn-reader s (c .moved .result) _ (enter .descend-from .result) refl (enter-is _ _ _ _ _ _ (enter .descend-from .ensures)) (c .moved .ensures),
       row-handed s (p .0) (p .1) (place .row-place .result) (a .store .now) _ _ (p .2) (place .row-place .ensures .0)
           (place .row-place .ensures .1) (drawing .draw-row .ensures),
     )
@@ -95,7 +95,7 @@ hand-out-spec =
     part-draw-row-end
     draw-row-requires
     add-d
-    dive-from-requires
+    descend-from-requires
     moved-requires
     same-length
     returns)

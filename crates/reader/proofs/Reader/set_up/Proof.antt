@@ -17,7 +17,7 @@ use Rattle.filters.proofs.FigureLaws.{levels-most}
 use Rattle.areas.proofs.AreaLaws.{did}
 use Rattle.reader.proofs.StoreLaws.{length-is}
 use Rattle.reader.proofs.QuestionLaws.{up-in}
-use Rattle.reader.proofs.EnterLaws.{dive-level}
+use Rattle.reader.proofs.EnterLaws.{descend-level}
 use Rattle.reader.proofs.CallLaws.{set-up-no, set-up-yes, fresh-at, enter-is}
 use Rattle.reader.proofs.Keeps.{set-up-also}
 use Rattle.reader.proofs.Reader.set_up.Statement.{statement}

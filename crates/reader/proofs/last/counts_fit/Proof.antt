@@ -168,7 +168,8 @@ returns-12 c =
     laws.last-11 _ (sym (A .before .is-filter .ensures) ∙ not-false _ (A .if1 .left))
     (levels-asked _ _ _ _ _ (B .before .before .most-levels .ensures) (B .before .is-within .ensures) (not-false _ (B .if2 .left)))
     (le-leb _ maxWidth (C .if3 .left)) (le-leb _ maxHeight (D .if4 .left)) (le-leb _ maxOrigin (E .if5 .left)) (le-leb _ maxOrigin (F .if6 .left))
-    (le-leb _ _ (G .if7 .left)) (eq-eqb _ 0 (H .if8 .left)) (le-leb _ 4 (I .if9 .left)) (eq-eqb _ 0 (J .if10 .left)) (le-leb _ _ (K .if11 .left)) (lt-leb _ _ (c .if12 .taken))
+    (le-leb _ _ (G .if7 .left)) (eq-eqb _ 0 (H .if8 .left)) (le-leb _ 4 (I .if9 .left)) (eq-eqb _ 0 (J .if10 .left)) (le-leb _ _ (K .if11 .left))
+    (lt-leb _ _ (c .if12 .taken))
 
 returns-13 : tie.Need-returns-13
 unfolding maxWidth maxHeight maxOrigin maxSpare
@@ -188,7 +189,8 @@ returns-13 c =
     laws.last-all _ (sym (A .before .is-filter .ensures) ∙ not-false _ (A .if1 .left))
     (levels-asked _ _ _ _ _ (B .before .before .most-levels .ensures) (B .before .is-within .ensures) (not-false _ (B .if2 .left)))
     (le-leb _ maxWidth (C .if3 .left)) (le-leb _ maxHeight (D .if4 .left)) (le-leb _ maxOrigin (E .if5 .left)) (le-leb _ maxOrigin (F .if6 .left))
-    (le-leb _ _ (G .if7 .left)) (eq-eqb _ 0 (H .if8 .left)) (le-leb _ 4 (I .if9 .left)) (eq-eqb _ 0 (J .if10 .left)) (le-leb _ _ (K .if11 .left)) (le-leb _ _ (L .if12 .left))
+    (le-leb _ _ (G .if7 .left)) (eq-eqb _ 0 (H .if8 .left)) (le-leb _ 4 (I .if9 .left)) (eq-eqb _ 0 (J .if10 .left)) (le-leb _ _ (K .if11 .left))
+    (le-leb _ _ (L .if12 .left))
 
 pub counts-fit-spec : {M : Type 1} → statement M
 counts-fit-spec =

@@ -22,17 +22,17 @@ returns c =
     shown-none (a .stop) (t .if1 .taken) _ _ _ _
     (did _ _ _ _ (le-leb (length (a .row .now)) (length (a .out .now)) (start .pre)) (call .draw-heights .ensures .1))
 
-weave-limited-requires : tie.Need-weave-limited-requires
-weave-limited-requires c κs = c .before .before .before .pre
+interleave-limited-requires : tie.Need-interleave-limited-requires
+interleave-limited-requires c κs = c .before .before .before .pre
 
 same-length-2 : tie.Need-same-length-2
-same-length-2 c = c .before .before .weave-limited .kept .1 .1 .0
+same-length-2 c = c .before .before .interleave-limited .kept .1 .1 .0
 
 returns-2 : tie.Need-returns-2
 returns-2 c =
     let call = c .before .before in
     let t = call .before .before in
-    shown-some (t .before .before .args .stop) (t .if1 .left) _ _ _ _ (call .weave-limited .ensures)
+    shown-some (t .before .before .args .stop) (t .if1 .left) _ _ _ _ (call .interleave-limited .ensures)
 
 pub draw-row-spec : {M : Type 1} → statement M
-draw-row-spec = tie.close (tie.spec draw-heights-requires same-length returns weave-limited-requires same-length-2 returns-2)
+draw-row-spec = tie.close (tie.spec draw-heights-requires same-length returns interleave-limited-requires same-length-2 returns-2)

@@ -70,7 +70,8 @@ returns-2 c =
     let room = store-in (filterOf (s .filter) .rows) (columns s) (p .level - 1 + 1) (s .levels) (omega (arith, near .0, start .pre .0 .at)) in
     let own = fed-kept (s .filter) (columns s) (rows s) (p .level - 1) n (p .band) _ _ in
     let fed = kept-is _ _ _ _ (kept-more _ _ _ _ room own) (put .put-row .ensures) in (
-      finish-not (s .admission) (s .filter) (s .stop) (columns s) (rows s) (s .levels) (p .level - 1) n (p .band) _ _ (start .pre .3) (not-true _ (c .if2 .taken))
+      finish-not (s .admission) (s .filter) (s .stop) (columns s) (rows s) (s .levels) (p .level - 1) n (p .band) _ _ (start .pre .3)
+          (not-true _ (c .if2 .taken))
           ∙ ap (λ y. finished (s .admission) (s .filter) (s .stop) (columns s) (rows s) (s .levels) (p .level - 1) n (p .band) y) (put .put-row .ensures)
           ∙ feed-on s p due _ _ _ n (omega arith) (start .pre .1 .set (start .pre .2)) settled,
       kept-both _ _ _ _ (call .settle .ensures .1) fed,
@@ -96,7 +97,8 @@ same-length-3 : tie.Need-same-length-3
 same-length-3 c =
     let done = c .before in
     let put = done .before .before .before .before in
-    done .work-at .kept .1 .1 .1 .1 .1 .1 .1 .1 .1 .0 ∙ put .put-row .kept .1 .1 .1 .1 .1 .1 .0 ∙ put .before .before .before .before .before .settle .kept .1 .0
+    done .work-at .kept .1 .1 .1 .1 .1 .1 .1 .1 .1 .0 ∙ put .put-row .kept .1 .1 .1 .1 .1 .1 .0
+    ∙ put .before .before .before .before .before .settle .kept .1 .0
 
 returns-3 : tie.Need-returns-3
 returns-3 c =
@@ -116,7 +118,8 @@ returns-3 c =
     let own = fed-kept (s .filter) (columns s) (rows s) (p .level - 1) n (p .band) _ _ in
     let fed = kept-is _ _ _ _ (kept-more _ _ _ _ room own) (put .put-row .ensures) in (
       done .work-at .ensures .0
-          ∙ finish-set (s .admission) (s .filter) (s .stop) (columns s) (rows s) (s .levels) (p .level - 1) n (p .band) _ _ (start .pre .3) (not-false _ (set .if2 .left))
+          ∙ finish-set (s .admission) (s .filter) (s .stop) (columns s) (rows s) (s .levels) (p .level - 1) n (p .band) _ _ (start .pre .3)
+          (not-false _ (set .if2 .left))
           ∙ ap (λ y. finished (s .admission) (s .filter) (s .stop) (columns s) (rows s) (s .levels) (p .level - 1) n (p .band) y) (put .put-row .ensures)
           ∙ feed-on s p due _ _ _ n (omega arith) (start .pre .1 .set (start .pre .2)) settled,
       kept-both _ _ _ _ (kept-both _ _ _ _ (call .settle .ensures .1) fed) (done .work-at .ensures .1),

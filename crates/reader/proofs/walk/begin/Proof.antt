@@ -26,11 +26,11 @@ next-start-requires-2 c κs = tt
 low-count-requires-2 : tie.Need-low-count-requires-2
 low-count-requires-2 c κs = tt
 
-sub-dive-from : tie.Need-sub-dive-from
-sub-dive-from c = omega arith
+sub-descend-from : tie.Need-sub-descend-from
+sub-descend-from c = omega arith
 
-dive-from-requires : tie.Need-dive-from-requires
-dive-from-requires c κs =
+descend-from-requires : tie.Need-descend-from-requires
+descend-from-requires c κs =
     let h = c .before in
     let w = h .before .before in
     let start = w .before .before .before .before in
@@ -47,7 +47,7 @@ returns-2 c =
     let a = some .before .before .args in
     let l = a .l in
     is-spot _ _
-    (spot-of _ _ (c .dive-from .ensures)
+    (spot-of _ _ (c .descend-from .ensures)
     ∙ begin-on (a .filter) (side (l .x) (l .width)) (side (l .y) (l .height)) _ _ (a .n) _ _ _ _ _ _ (omega arith) (x .next-start .ensures (l .width))
     (w .low-count .ensures) (y .next-start2 .ensures (l .height)) (h .low-count2 .ensures) (omega arith))
 
@@ -60,6 +60,6 @@ begin-spec =
     low-count-requires
     next-start-requires-2
     low-count-requires-2
-    sub-dive-from
-    dive-from-requires
+    sub-descend-from
+    descend-from-requires
     returns-2)

@@ -17,7 +17,8 @@ add-level : tie.Need-add-level
 add-level c =
     let a = c .args in
     let p = c .pre in
-    work-places (a .admission) (a .filter) (a .base) (side (a .x) (a .width)) (side (a .y) (a .height)) (a .levels) (a .drawn) (a .k) (a .l) (a .store .now) (p .3)
+    work-places (a .admission) (a .filter) (a .base) (side (a .x) (a .width)) (side (a .y) (a .height)) (a .levels) (a .drawn) (a .k) (a .l) (a .store .now)
+    (p .3)
     (p .0 .0, p .0 .2) (p .1) (p .2) (p .4) .3
 
 is-there-requires : tie.Need-is-there-requires
@@ -29,7 +30,8 @@ returns c =
     let start = asked .before in
     let a = start .args in
     let none = sym (asked .is-there .ensures (a .l .x)) ∙ not-true _ (c .if1 .taken) in (
-      work-none (a .admission) (a .filter) (a .base) (side (a .x) (a .width)) (side (a .y) (a .height)) (a .levels) (a .drawn) (a .k) (a .l) _ (start .pre .3) none,
+      work-none (a .admission) (a .filter) (a .base) (side (a .x) (a .width)) (side (a .y) (a .height)) (a .levels) (a .drawn) (a .k) (a .l) _
+          (start .pre .3) none,
       kept-none
           _ _,
     )
@@ -39,7 +41,8 @@ mul-work-by c =
     let start = c .before .before in
     let a = start .args in
     let p = start .pre in
-    work-places (a .admission) (a .filter) (a .base) (side (a .x) (a .width)) (side (a .y) (a .height)) (a .levels) (a .drawn) (a .k) (a .l) (a .store .now) (p .3)
+    work-places (a .admission) (a .filter) (a .base) (side (a .x) (a .width)) (side (a .y) (a .height)) (a .levels) (a .drawn) (a .k) (a .l) (a .store .now)
+    (p .3)
     (p .0 .0, p .0 .2) (p .1) (p .2) (p .4) .0
 
 sub-work-by : tie.Need-sub-work-by
@@ -47,7 +50,8 @@ sub-work-by c =
     let start = c .before .before in
     let a = start .args in
     let p = start .pre in
-    work-places (a .admission) (a .filter) (a .base) (side (a .x) (a .width)) (side (a .y) (a .height)) (a .levels) (a .drawn) (a .k) (a .l) (a .store .now) (p .3)
+    work-places (a .admission) (a .filter) (a .base) (side (a .x) (a .width)) (side (a .y) (a .height)) (a .levels) (a .drawn) (a .k) (a .l) (a .store .now)
+    (p .3)
     (p .0 .0, p .0 .2) (p .1) (p .2) (p .4) .1
 
 part-work-by-start : tie.Need-part-work-by-start
@@ -55,7 +59,8 @@ part-work-by-start c =
     let start = c .before .before in
     let a = start .args in
     let p = start .pre in
-    work-places (a .admission) (a .filter) (a .base) (side (a .x) (a .width)) (side (a .y) (a .height)) (a .levels) (a .drawn) (a .k) (a .l) (a .store .now) (p .3)
+    work-places (a .admission) (a .filter) (a .base) (side (a .x) (a .width)) (side (a .y) (a .height)) (a .levels) (a .drawn) (a .k) (a .l) (a .store .now)
+    (p .3)
     (p .0 .0, p .0 .2) (p .1) (p .2) (p .4) .1
 
 part-work-by-end : tie.Need-part-work-by-end
@@ -66,7 +71,8 @@ add-work-by c =
     let start = c .before .before .before in
     let a = start .args in
     let p = start .pre in
-    work-places (a .admission) (a .filter) (a .base) (side (a .x) (a .width)) (side (a .y) (a .height)) (a .levels) (a .drawn) (a .k) (a .l) (a .store .now) (p .3)
+    work-places (a .admission) (a .filter) (a .base) (side (a .x) (a .width)) (side (a .y) (a .height)) (a .levels) (a .drawn) (a .k) (a .l) (a .store .now)
+    (p .3)
     (p .0 .0, p .0 .2) (p .1) (p .2) (p .4) .2
 
 work-by-requires : tie.Need-work-by-requires
@@ -98,7 +104,8 @@ returns-2 c =
     let W = side (a .x) (a .width) in
     let H = side (a .y) (a .height) in
     let there = sym (on .before .is-there .ensures (l .x)) ∙ not-false _ (on .if1 .left) in (
-      work-done (a .admission) (a .filter) (a .base) W H (a .levels) (a .drawn) (a .k) l s (p .3) (p .0 .0, p .0 .2) (p .1) (p .2) (p .4) (call .work-by .last .0)
+      work-done (a .admission) (a .filter) (a .base) W H (a .levels) (a .drawn) (a .k) l s (p .3) (p .0 .0, p .0 .2) (p .1) (p .2) (p .4)
+          (call .work-by .last .0)
           (call .work-by .result) there (call .work-by .kept .0) (call .work-by .ensures .0),
       part-kept (a .filter) W H (a .drawn) (a .k) (a .levels) l (p .3) s (call .work-by .last .0) (p .2) (p .4) (call .work-by .kept .0)
           (call .work-by .ensures .1),

@@ -6,22 +6,22 @@ use Rattle.reader_order.proofs.WalkLaws.{is-spot, spot-of, enter-is}
 use Rattle.reader_order.proofs.walk.begin_row.Statement.{statement}
 use Rattle.reader_order.proofs.walk.begin_row.Tie as tie
 
-cast-dive-from : tie.Need-cast-dive-from
-cast-dive-from c = search needs
+cast-descend-from : tie.Need-cast-descend-from
+cast-descend-from c = search needs
 
 cast-t5 : tie.Need-cast-t5
 cast-t5 c = search needs
 
-cast-dive-from-2 : tie.Need-cast-dive-from-2
-cast-dive-from-2 c = search needs
+cast-descend-from-2 : tie.Need-cast-descend-from-2
+cast-descend-from-2 c = search needs
 
-dive-from-requires : tie.Need-dive-from-requires
-dive-from-requires c κs = search needs
+descend-from-requires : tie.Need-descend-from-requires
+descend-from-requires c κs = search needs
 
 returns : tie.Need-returns
 returns c =
-    let e = c .dive-from .ensures in
+    let e = c .descend-from .ensures in
     (is-spot _ _ (spot-of _ _ (e .0) ∙ enter-is _ _ _ _ _), e .1, e .2)
 
 pub begin-row-spec : {M : Type 1} → statement M
-begin-row-spec = tie.close (tie.spec cast-dive-from cast-t5 cast-dive-from-2 dive-from-requires returns)
+begin-row-spec = tie.close (tie.spec cast-descend-from cast-t5 cast-descend-from-2 descend-from-requires returns)

@@ -22,11 +22,11 @@ returns c =
     let e = y .before .before in
     (is-spot _ _ (begin-alone _ _ _ _ (e .args .k) (e .args .n) _ (y .start-at .ensures (e .args .s .height)) (c .if1 .taken)), omega arith, omega arith)
 
-cast-dive-from : tie.Need-cast-dive-from
-cast-dive-from c = search needs
+cast-descend-from : tie.Need-cast-descend-from
+cast-descend-from c = search needs
 
-add-dive-from : tie.Need-add-dive-from
-add-dive-from c = search needs
+add-descend-from : tie.Need-add-descend-from
+add-descend-from c = search needs
 
 add-sides-at : tie.Need-add-sides-at
 add-sides-at c = search needs
@@ -34,8 +34,8 @@ add-sides-at c = search needs
 sides-at-requires : tie.Need-sides-at-requires
 sides-at-requires c κs = tt
 
-dive-from-requires : tie.Need-dive-from-requires
-dive-from-requires c κs =
+descend-from-requires : tie.Need-descend-from-requires
+descend-from-requires c κs =
     let e = c .before .before .before .before .before in
     let m = small-at (e .args .s) _ (c .sides-at .result) (c .sides-at .ensures) (e .pre .0) in
     (omega arith, e .pre .0 .3, m .1, e .pre .2, omega arith)
@@ -46,7 +46,7 @@ returns-2 c =
     let on = v .before .before in
     let y = on .before in
     let e = y .before .before in
-    let d = c .dive-from .ensures in (
+    let d = c .descend-from .ensures in (
       is-spot _ _
           (spot-of _ _ (d .0)
           ∙ begin-on _ _ _ _ (e .args .k) (e .args .n) _ (y .start-at .ensures (e .args .s .height)) (omega arith)
@@ -64,9 +64,9 @@ begin-set-spec =
     start-at-requires
     add-t8
     returns
-    cast-dive-from
-    add-dive-from
+    cast-descend-from
+    add-descend-from
     add-sides-at
     sides-at-requires
-    dive-from-requires
+    descend-from-requires
     returns-2)

@@ -1,4 +1,4 @@
--- `synthesis::rows::take_low_row` meets its contract: the row woven down. Assumes nothing.
+-- `synthesis::rows::take_low_row` meets its contract: the row interleaved down. Assumes nothing.
 use mathlib.Core.Path.{_≡_, _∙_, ap, ap₂}
 use Prim.Native.Nat.{ℕ, _+_, _-_, _*_, _%_, _≤_}
 use native.Mathlib.Nat.{mul-le-mul-left}
@@ -52,11 +52,11 @@ row-place-requires-2 c κs = omega arith
 next-start-requires : tie.Need-next-start-requires
 next-start-requires c κs = tt
 
-weave-down-requires : tie.Need-weave-down-requires
-weave-down-requires c κs = tt
+interleave-down-requires : tie.Need-interleave-down-requires
+interleave-down-requires c κs = tt
 
 same-length : tie.Need-same-length
-same-length c = c .before .weave-down .kept .0
+same-length c = c .before .interleave-down .kept .0
 
 returns : tie.Need-returns
 unfolding next
@@ -79,7 +79,7 @@ returns c =
     let place = kept .rows-kept .result * a .w + from .row-place .result in
     let room = apart-in (length (a .stretch .now)) place (to .row-place2 .result) l
     (omega (arith, e, rows, to .row-place2 .ensures .1)) (omega (arith, e, rows, lows, from .row-place .ensures .1, start .pre .1)) in
-    did _ _ _ _ room (call .weave-down .ensures .1)
+    did _ _ _ _ room (call .interleave-down .ensures .1)
     ∙ low-taken m (side (a .x) (a .w)) (side (a .y) (a .h)) (a .n) _ _ _ _ _ _ e (across .next-start .ensures (a .w))
     (low-row (a .y) (a .n) _ (omega arith) (down .low-row .ensures))
     (ap₂ (λ (i j : ℕ). i + j) rows (from .row-place .ensures .0)) (to .row-place2 .ensures .0)
@@ -97,6 +97,6 @@ take-low-row-spec =
     mul-row-place
     row-place-requires-2
     next-start-requires
-    weave-down-requires
+    interleave-down-requires
     same-length
     returns)

@@ -4,7 +4,7 @@ use Prim.Native.Nat.{_+_, _*_}
 use native.Mathlib.Omega.{arith}
 use Rattle.lifting.specs.Grid.{side}
 use Rattle.level.proofs.KeptLaws.{kept-none, kept-is}
-use Rattle.synthesis.proofs.WorkLaws.{last-none, last-lone, last-made, others}
+use Rattle.synthesis.proofs.WorkLaws.{last-none, last-single, last-made, others}
 use Rattle.synthesis.proofs.KeptLaws.{odd-kept}
 use Rattle.synthesis.specs.Columns.{columnsOf}
 use Rattle.synthesis.proofs.FilterColumns.{columns-laws}
@@ -23,31 +23,31 @@ add-if1-2 c = omega arith
 returns : tie.Need-returns
 returns c = let a = c .before .args in (last-none (columnsOf (a .filter)) (a .k) (a .w) (side (a .y) (a .h)) (a .n) _ (c .if1 .taken), kept-none _ _)
 
-is-lone-requires : tie.Need-is-lone-requires
-is-lone-requires c κs = tt
+is-single-requires : tie.Need-is-single-requires
+is-single-requires c κs = tt
 
-mul-make-lone : tie.Need-mul-make-lone
-mul-make-lone c = omega arith
+mul-make-single : tie.Need-mul-make-single
+mul-make-single c = omega arith
 
-add-make-lone : tie.Need-add-make-lone
-add-make-lone c = omega arith
+add-make-single : tie.Need-add-make-single
+add-make-single c = omega arith
 
-make-lone-requires : tie.Need-make-lone-requires
-make-lone-requires c κs = omega arith
+make-single-requires : tie.Need-make-single-requires
+make-single-requires c κs = omega arith
 
 same-length : tie.Need-same-length
-same-length c = c .before .make-lone .kept .0
+same-length c = c .before .make-single .kept .0
 
 returns-2 : tie.Need-returns-2
 returns-2 c =
     let call = c .before in
-    let lone = call .before .before in
-    let test = lone .before in
+    let single = call .before .before in
+    let test = single .before in
     let last = test .before in
     let a = last .before .args in (
-      call .make-lone .ensures .0
-          ∙ last-lone (columnsOf (a .filter)) (a .k) (a .w) (side (a .y) (a .h)) (a .n) _ (omega arith) (sym (test .is-lone .ensures) ∙ lone .if2 .taken),
-      call .make-lone .ensures .1,
+      call .make-single .ensures .0
+          ∙ last-single (columnsOf (a .filter)) (a .k) (a .w) (side (a .y) (a .h)) (a .n) _ (omega arith) (sym (test .is-single .ensures) ∙ single .if2 .taken),
+      call .make-single .ensures .1,
     )
 
 mul-undo-odd : tie.Need-mul-undo-odd
@@ -62,7 +62,7 @@ undo-odd-requires c κs =
     let test = more .before in
     let last = test .before in
     let a = last .before .args in
-    omega (arith, others (side (a .y) (a .h)) (a .n) (omega arith) (sym (test .is-lone .ensures) ∙ more .if2 .left))
+    omega (arith, others (side (a .y) (a .h)) (a .n) (omega arith) (sym (test .is-single .ensures) ∙ more .if2 .left))
 
 mul-admit-row : tie.Need-mul-admit-row
 mul-admit-row c = omega arith
@@ -83,7 +83,7 @@ returns-3 c =
     let test = more .before in
     let last = test .before in
     let a = last .before .args in (
-      last-made (columnsOf (a .filter)) (a .k) (a .w) (side (a .y) (a .h)) (a .n) _ _ _ (omega arith) (sym (test .is-lone .ensures) ∙ more .if2 .left)
+      last-made (columnsOf (a .filter)) (a .k) (a .w) (side (a .y) (a .h)) (a .n) _ _ _ (omega arith) (sym (test .is-single .ensures) ∙ more .if2 .left)
           (undo .undo-odd .ensures)
           (c .admit-row .ensures),
       kept-is _ _ _ _ (odd-kept (columnsOf (a .filter)) (columns-laws (a .filter)) (a .k) (a .w) (side (a .y) (a .h)) (2 * a .n + 1) _)
@@ -98,10 +98,10 @@ make-last-spec =
     mul-if1
     add-if1-2
     returns
-    is-lone-requires
-    mul-make-lone
-    add-make-lone
-    make-lone-requires
+    is-single-requires
+    mul-make-single
+    add-make-single
+    make-single-requires
     same-length
     returns-2
     mul-undo-odd

@@ -1,4 +1,4 @@
--- `synthesis::work::take_low` meets its contract: nothing, or the row woven down. Assumes nothing.
+-- `synthesis::work::take_low` meets its contract: nothing, or the row interleaved down. Assumes nothing.
 use native.Mathlib.Omega.{arith}
 use Rattle.lifting.specs.Grid.{side}
 use Rattle.wavelet.specs.Order.{firstSet}

@@ -18,7 +18,7 @@ use Rattle.filters.proofs.FigureLaws.{row-few}
 use Rattle.analysis.proofs.ForwardLaws.{level-done, next-done}
 use Rattle.progress.specs.Counts.{skip}
 use Rattle.progress.proofs.CountLaws.{completes-set, next-is, start-is}
-use Rattle.writer.proofs.CascadeLaws.{room-below, left-still, goes, arrive-still, sets-off, came-waits, came-last, came-goes}
+use Rattle.writer.proofs.CascadeLaws.{room-below, left-still, goes, arrive-still, makes-set, came-waits, came-last, came-goes}
 use Rattle.writer.proofs.cascade.arrive.Reads as arrive
 use Rattle.writer.proofs.cascade.arrive.Kinds as arrive-kinds
 use Rattle.writer.proofs.cascade.+arrive.Lts-arrive as arrive-lts
@@ -30,7 +30,7 @@ use Rattle.analysis.proofs.forward.make.Reads as make-reads
 use Rattle.progress.proofs.counts.goes_on.Reads as goes-on-reads
 use Rattle.progress.proofs.counts.most.Reads as most-reads
 use Rattle.progress.proofs.counts.next_band.Reads as next-band-reads
-use Rattle.progress.proofs.counts.sets_off.Reads as sets-off-reads
+use Rattle.progress.proofs.counts.makes_set.Reads as makes-set-reads
 use Rattle.progress.proofs.waits.nothing.Reads as nothing-reads
 use Rattle.progress.proofs.waits.seen_from.Reads as seen-from-reads
 use Rattle.writer.proofs.cascade.stretch.Reads as stretch-reads
@@ -50,8 +50,8 @@ arrive-below t = and 1 arrive-kinds.ps (falls 1 arrive-kinds.ps _<_ μ-arrive t)
 -- what is known of the calls, those of `arrive` itself at fewer levels
 abbrev claims : ℕ → arrive-lts.Claims
 claims t = (
-  sets-off-reads.Asked,
-  sets-off-reads.Learnt,
+  makes-set-reads.Asked,
+  makes-set-reads.Learnt,
   nothing-reads.Asked,
   nothing-reads.Learnt,
   look-ahead-reads.Asked,
@@ -78,8 +78,8 @@ claims t = (
   seen-from-reads.Learnt,
 )
 
-arrive-sets-off-requires : (t : ℕ) → arrive-lts.Need-sets-off-requires (claims t) (arrive-at t) arrive.Post
-arrive-sets-off-requires t c κs = tt
+arrive-makes-set-requires : (t : ℕ) → arrive-lts.Need-makes-set-requires (claims t) (arrive-at t) arrive.Post
+arrive-makes-set-requires t c κs = tt
 
 arrive-nothing-requires : (t : ℕ) → arrive-lts.Need-nothing-requires (claims t) (arrive-at t) arrive.Post
 arrive-nothing-requires t c κs = tt
@@ -89,7 +89,7 @@ arrive-returns t c =
     let off = c .before .before in
     let a = off .before .args in
     left-still (a .filter) (a .l) (side (a .x) (a .w)) _ _ _ (c .nothing .ensures)
-    (arrive-still (a .filter) (a .l) (side (a .x) (a .w)) (a .y) (a .m) _ (sym (off .sets-off .ensures) ∙ not-true _ (c .before .if1 .taken)))
+    (arrive-still (a .filter) (a .l) (side (a .x) (a .w)) (a .y) (a .m) _ (sym (off .makes-set .ensures) ∙ not-true _ (c .before .if1 .taken)))
 
 arrive-add-n : (t : ℕ) → arrive-lts.Need-add-n (claims t) (arrive-at t) arrive.Post
 arrive-add-n t c = omega arith
@@ -101,7 +101,7 @@ arrive-sub-n : (t : ℕ) → arrive-lts.Need-sub-n (claims t) (arrive-at t) arri
 arrive-sub-n t c =
     let sure = c .before in
     let a = sure .before .before .args in
-    let off = sets-off (a .filter) (a .l) (a .y) (a .m) _ (sure .before .sets-off .ensures) (sure .if1 .left) in
+    let off = makes-set (a .filter) (a .l) (a .y) (a .m) _ (sure .before .makes-set .ensures) (sure .if1 .left) in
     omega (arith, c .look-ahead .ensures, completes-set (filterOf (a .filter) .ahead) (a .y) (a .m) (off .1))
 
 arrive-make-requires : (t : ℕ) → arrive-lts.Need-make-requires (claims t) (arrive-at t) arrive.Post
@@ -114,7 +114,7 @@ arrive-sub-most : (t : ℕ) → arrive-lts.Need-sub-most (claims t) (arrive-at t
 arrive-sub-most t c =
     let sure = c .before .before .before .before in
     let a = sure .before .before .args in
-    omega (arith, sets-off (a .filter) (a .l) (a .y) (a .m) _ (sure .before .sets-off .ensures) (sure .if1 .left) .0)
+    omega (arith, makes-set (a .filter) (a .l) (a .y) (a .m) _ (sure .before .makes-set .ensures) (sure .if1 .left) .0)
 
 arrive-most-requires : (t : ℕ) → arrive-lts.Need-most-requires (claims t) (arrive-at t) arrive.Post
 arrive-most-requires t c κs = tt
@@ -134,9 +134,9 @@ arrive-returns-2 t c =
     let start = sure .before .before in
     let a = start .args in
     let n = (a .y % 2 + a .m) / 2 - ah .look-ahead .result in
-    let off = sets-off (a .filter) (a .l) (a .y) (a .m) _ (sure .before .sets-off .ensures) (sure .if1 .left) in
+    let off = makes-set (a .filter) (a .l) (a .y) (a .m) _ (sure .before .makes-set .ensures) (sure .if1 .left) in
     let room = store-back (filterOf (a .filter) .rows) (side (a .x) (a .w)) (a .l) (off .0) in
-    came-waits (a .filter) (a .l) (side (a .x) (a .w)) (a .y) (a .m) n _ _ _ _ (sure .before .sets-off .ensures) (sure .if1 .left)
+    came-waits (a .filter) (a .l) (side (a .x) (a .w)) (a .y) (a .m) n _ _ _ _ (sure .before .makes-set .ensures) (sure .if1 .left)
     (ap (λ (i : ℕ). (a .y % 2 + a .m) / 2 - i) (ah .look-ahead .ensures))
     (level-done (a .filter) (length (a .store .now)) (side (a .x) (a .w)) _ _ _ (omega (arith, start .pre)) (made .make .ensures .1))
     (band .next-band .ensures ∙ ap (skip (side (a .x) (a .w)) (side (a .y) (a .m + 1)) n) (band .before .most .ensures)) (omega arith)
@@ -145,7 +145,7 @@ arrive-sub-goes-on : (t : ℕ) → arrive-lts.Need-sub-goes-on (claims t) (arriv
 arrive-sub-goes-on t c =
     let sure = c .before .before .before .before .before .before .before in
     let a = sure .before .before .args in
-    omega (arith, sets-off (a .filter) (a .l) (a .y) (a .m) _ (sure .before .sets-off .ensures) (sure .if1 .left) .0)
+    omega (arith, makes-set (a .filter) (a .l) (a .y) (a .m) _ (sure .before .makes-set .ensures) (sure .if1 .left) .0)
 
 arrive-goes-on-requires : (t : ℕ) → arrive-lts.Need-goes-on-requires (claims t) (arrive-at t) arrive.Post
 arrive-goes-on-requires t c κs = tt
@@ -166,9 +166,9 @@ arrive-returns-3 t c =
     let start = sure .before .before in
     let a = start .args in
     let n = (a .y % 2 + a .m) / 2 - ah .look-ahead .result in
-    let off = sets-off (a .filter) (a .l) (a .y) (a .m) _ (sure .before .sets-off .ensures) (sure .if1 .left) in
+    let off = makes-set (a .filter) (a .l) (a .y) (a .m) _ (sure .before .makes-set .ensures) (sure .if1 .left) in
     let room = store-back (filterOf (a .filter) .rows) (side (a .x) (a .w)) (a .l) (off .0) in
-    came-last (a .filter) (a .l) (side (a .x) (a .w)) (a .y) (a .m) n _ _ _ _ (sure .before .sets-off .ensures) (sure .if1 .left)
+    came-last (a .filter) (a .l) (side (a .x) (a .w)) (a .y) (a .m) n _ _ _ _ (sure .before .makes-set .ensures) (sure .if1 .left)
     (ap (λ (i : ℕ). (a .y % 2 + a .m) / 2 - i) (ah .look-ahead .ensures))
     (level-done (a .filter) (length (a .store .now)) (side (a .x) (a .w)) _ _ _ (omega (arith, start .pre)) (made .make .ensures .1))
     (band .next-band .ensures ∙ ap (skip (side (a .x) (a .w)) (side (a .y) (a .m + 1)) n) (band .before .most .ensures))
@@ -203,7 +203,7 @@ arrive-sub-arrive : (t : ℕ) → arrive-lts.Need-sub-arrive (claims t) (arrive-
 arrive-sub-arrive t c =
     let a = c .before .before .before .before .before .before .before .before .before .before .before .before .before .before .before .before .args in
     let sure = c .before .before .before .before .before .before .before .before .before .before .before .before .before .before in
-    let off = sets-off (a .filter) (a .l) (a .y) (a .m) _ (sure .before .sets-off .ensures) (sure .if1 .left) in
+    let off = makes-set (a .filter) (a .l) (a .y) (a .m) _ (sure .before .makes-set .ensures) (sure .if1 .left) in
     let e : c .stretch .result ≡ filterOf (a .filter) .rows * a .w = c .stretch .ensures in
     omega (arith, e, store-back (filterOf (a .filter) .rows) (side (a .x) (a .w)) (a .l) (off .0))
 
@@ -211,7 +211,7 @@ arrive-part-arrive-start : (t : ℕ) → arrive-lts.Need-part-arrive-start (clai
 arrive-part-arrive-start t c =
     let a = c .before .before .before .before .before .before .before .before .before .before .before .before .before .before .before .before .args in
     let sure = c .before .before .before .before .before .before .before .before .before .before .before .before .before .before in
-    let off = sets-off (a .filter) (a .l) (a .y) (a .m) _ (sure .before .sets-off .ensures) (sure .if1 .left) in
+    let off = makes-set (a .filter) (a .l) (a .y) (a .m) _ (sure .before .makes-set .ensures) (sure .if1 .left) in
     let e : c .stretch .result ≡ filterOf (a .filter) .rows * a .w = c .stretch .ensures in
     omega (arith, e, store-back (filterOf (a .filter) .rows) (side (a .x) (a .w)) (a .l) (off .0))
 
@@ -222,7 +222,7 @@ arrive-sub-arrive-2 : (t : ℕ) → arrive-lts.Need-sub-arrive-2 (claims t) (arr
 arrive-sub-arrive-2 t c =
     let sure = c .before .before .before .before .before .before .before .before .before .before .before .before .before .before .before in
     let a = sure .before .before .args in
-    omega (arith, sets-off (a .filter) (a .l) (a .y) (a .m) _ (sure .before .sets-off .ensures) (sure .if1 .left) .0)
+    omega (arith, makes-set (a .filter) (a .l) (a .y) (a .m) _ (sure .before .makes-set .ensures) (sure .if1 .left) .0)
 
 arrive-low-count-requires : (t : ℕ) → arrive-lts.Need-low-count-requires (claims t) (arrive-at t) arrive.Post
 arrive-low-count-requires t c κs = tt
@@ -236,7 +236,7 @@ arrive-arrive-requires t c κs =
     let start = st .before .before .before .before .before .before .before .before .before .before .before .before .before .before .before .before in
     let sure = st .before .before .before .before .before .before .before .before .before .before .before .before .before .before in
     let a = start .args in
-    let off = sets-off (a .filter) (a .l) (a .y) (a .m) _ (sure .before .sets-off .ensures) (sure .if1 .left) in (
+    let off = makes-set (a .filter) (a .l) (a .y) (a .m) _ (sure .before .makes-set .ensures) (sure .if1 .left) in (
       omega (arith, start .pre .0, off .0),
       room-below (a .filter) (a .l) (a .l - 1) (side (a .x) (a .w)) _ (a .m) _ (length (a .store .now)) (st .stretch .result) _ (omega (arith, off .0))
           (start .pre .1) (st .stretch .ensures) (next-is (a .x) (a .w) _ _ (c .next-start2 .ensures) (c .before .low-count .ensures))
@@ -265,13 +265,13 @@ arrive-returns-4 t c =
     let a = start .args in
     let l = sent .deliver .last .1 .0 in
     let n = (a .y % 2 + a .m) / 2 - ah .look-ahead .result in
-    let off = sets-off (a .filter) (a .l) (a .y) (a .m) _ (sure .before .sets-off .ensures) (sure .if1 .left) in
+    let off = makes-set (a .filter) (a .l) (a .y) (a .m) _ (sure .before .makes-set .ensures) (sure .if1 .left) in
     let room = store-back (filterOf (a .filter) .rows) (side (a .x) (a .w)) (a .l) (off .0) in
     let g = goes (a .l - 1) (a .y) n _ (on .before .goes-on .ensures) (on .if3 .left) in
     let q = store-back (filterOf (a .filter) .rows) (next (side (a .x) (a .w))) (a .l - 1) (g .0) in
     let h = next-length (side (a .x) (a .w)) in
     let j : st .stretch .result ≡ filterOf (a .filter) .rows * a .w = st .stretch .ensures in
-    came-goes (a .filter) (a .l) (side (a .x) (a .w)) (a .y) (a .m) n _ _ _ _ (sure .before .sets-off .ensures) (sure .if1 .left)
+    came-goes (a .filter) (a .l) (side (a .x) (a .w)) (a .y) (a .m) n _ _ _ _ (sure .before .makes-set .ensures) (sure .if1 .left)
     (ap (λ (i : ℕ). (a .y % 2 + a .m) / 2 - i) (ah .look-ahead .ensures))
     (level-done (a .filter) (length (a .store .now)) (side (a .x) (a .w)) _ _ _ (omega (arith, start .pre)) (made .make .ensures .1))
     (band .next-band .ensures ∙ ap (skip (side (a .x) (a .w)) (side (a .y) (a .m + 1)) n) (band .before .most .ensures))
@@ -294,7 +294,7 @@ pub +arrive-spec : {M : Type 1} → statement M
     (claims t)
     (arrive-at t)
     arrive.Post
-    (arrive-sets-off-requires t)
+    (arrive-makes-set-requires t)
     (arrive-nothing-requires t)
     (arrive-returns t)
     (arrive-add-n t)
