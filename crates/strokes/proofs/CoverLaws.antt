@@ -1,16 +1,17 @@
 -- The window of one direction holds all that the reach of the changed places depends on, at every level. Q is 2 to the power of the levels left. Assumes
 -- nothing.
-use mathlib.Core.Path.{_≡_}
+use mathlib.Core.Path.{_≡_, sym, ap, _∙_}
 use mathlib.Core.Logic.{_⊎_, inl, inr, ⊎-elim}
 use mathlib.Core.Bool.{true}
 use Prim.Native.Nat.{ℕ, _+_, _-_, _*_, _/_, _≤_, _<_}
 use native.Mathlib.Nat.{mul-assoc}
 use native.Mathlib.Omega.{arith}
 use borrow.Author.Tests.{leb-true}
+use Rattle.numbers.proofs.Sweep.{both as both-yes}
 use Rattle.lifting.specs.Line.{Half, lo, hi}
 use Rattle.lifting.specs.Grid.{side, count}
-use Rattle.strokes.specs.Reach.{Span, reached, lowSpan}
-use Rattle.strokes.specs.Local.{Cut, Cover}
+use Rattle.strokes.specs.Reach.{Span, changed, reached, lowSpan}
+use Rattle.strokes.specs.Local.{Cut, Sound, Cover}
 
 -- number n of a half, in a window: its number there, and that it is right
 pub record Held (u v t w : ℕ) (h : Half) (n : ℕ) : Type 0 where
@@ -72,3 +73,14 @@ module _ (u v N a t w : ℕ) (s : Span) (C : Cut u v N a t w) where
       let k = near hi n e in
       let m = mul-assoc 2 q (K .times) in
       leftly (2 * q) (λ l. rightly (2 * q) K (λ r. omega arith) (λ r. omega arith)) (λ l. rightly (2 * q) K (λ r. omega arith) (λ r. omega arith)) K
+
+  -- and where no level is left, what is changed
+  pub held-last : Cover u v 1 a w s → (i : ℕ) → i < N → changed s i ≡ true → (a ≤ i) × Sound u v w (i - a)
+  unfolding changed
+  held-last K i b e =
+      let c = C .even in
+      let j = C .inside in
+      let k = both-yes _ _ e in
+      let f = leb-true (s .first) i (k .0) in
+      let g = leb-true i (s .last) (k .1) in
+      leftly 1 (λ l. rightly 1 K (λ r. omega arith) (λ r. omega arith)) (λ l. rightly 1 K (λ r. omega arith) (λ r. omega arith)) K

@@ -3,13 +3,14 @@
 --     band-unreached   one level: a value of a band that is not reached in one of the two directions
 --     unreached        all levels, in the shape of `planeCell`
 -- Assumes nothing.
-use mathlib.Core.Path.{_≡_, refl, ap}
+use mathlib.Core.Path.{_≡_, refl, sym, ap, _∙_}
 use mathlib.Core.Bool.{Bool, true, false}
 use Prim.Native.Nat.{ℕ, zero, suc, _+_, _-_, _*_, _/_, _≤_, _<_}
 use native.Mathlib.Decide.{decLt}
 use native.Mathlib.Omega.{arith}
 use lib.IntN.{ℤ}
 use borrow.Author.Tests.{ltb-true, le-leb, lt-leb}
+use Rattle.numbers.proofs.Sweep.{both as both-yes}
 use Rattle.numbers.specs.Signal.{pick, both}
 use Rattle.lifting.specs.Line.{Half, lo, hi}
 use Rattle.lifting.specs.Grid.{Side, side, place, count}
@@ -38,6 +39,10 @@ one-no false b e f g = f refl
 
 -- ---- one direction
 module _ (s : Span) where
+  pub changed-in : (i : ℕ) → s .first ≤ i → i ≤ s .last → changed s i ≡ true
+  unfolding changed
+  changed-in i a b = simp (le-leb (s .first) i a, le-leb i (s .last) b)
+
   pub changed-before : (i : ℕ) → i < s .first → changed s i ≡ false
   unfolding changed
   changed-before i a = simp (lt-leb (s .first) i a)

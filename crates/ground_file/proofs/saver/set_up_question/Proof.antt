@@ -67,7 +67,8 @@ returns-4 c =
     let w1 = e1 .before in
     let a = w1 .before .before .args in
     asks-levels (a .s) (a .step) (sym (w1 .is-within .ensures) ∙ not-false _ (e1 .if1 .left)) (sym (w2 .is-within2 .ensures) ∙ not-false _ (e2 .if2 .left))
-    (sym (f3 .is-filter .ensures) ∙ not-false _ (e3 .if3 .left)) (sym (w4 .is-within3 .ensures ∙ ap (λ m. within 1 m (a .s .levels)) (w4 .before .most-levels .ensures)) ∙ not-true _ (c .if4 .taken))
+    (sym (f3 .is-filter .ensures) ∙ not-false _ (e3 .if3 .left))
+    (sym (w4 .is-within3 .ensures ∙ ap (λ m. within 1 m (a .s .levels)) (w4 .before .most-levels .ensures)) ∙ not-true _ (c .if4 .taken))
 
 is-within-requires-4 : tie.Need-is-within-requires-4
 is-within-requires-4 c κs = search needs
@@ -86,7 +87,9 @@ returns-5 c =
     let w1 = e1 .before in
     let a = w1 .before .before .args in
     asks-step (a .s) (a .step) (sym (w1 .is-within .ensures) ∙ not-false _ (e1 .if1 .left)) (sym (w2 .is-within2 .ensures) ∙ not-false _ (e2 .if2 .left))
-    (sym (f3 .is-filter .ensures) ∙ not-false _ (e3 .if3 .left)) (sym (w4 .is-within3 .ensures ∙ ap (λ m. within 1 m (a .s .levels)) (w4 .before .most-levels .ensures)) ∙ not-false _ (e4 .if4 .left)) (sym (w5 .is-within4 .ensures) ∙ not-true _ (c .if5 .taken))
+    (sym (f3 .is-filter .ensures) ∙ not-false _ (e3 .if3 .left))
+    (sym (w4 .is-within3 .ensures ∙ ap (λ m. within 1 m (a .s .levels)) (w4 .before .most-levels .ensures)) ∙ not-false _ (e4 .if4 .left))
+    (sym (w5 .is-within4 .ensures) ∙ not-true _ (c .if5 .taken))
 
 is-plain-requires : tie.Need-is-plain-requires
 is-plain-requires c κs = search needs
@@ -107,7 +110,9 @@ returns-6 c =
     let w1 = e1 .before in
     let a = w1 .before .before .args in
     asks-plain (a .s) (a .step) (sym (w1 .is-within .ensures) ∙ not-false _ (e1 .if1 .left)) (sym (w2 .is-within2 .ensures) ∙ not-false _ (e2 .if2 .left))
-    (sym (f3 .is-filter .ensures) ∙ not-false _ (e3 .if3 .left)) (sym (w4 .is-within3 .ensures ∙ ap (λ m. within 1 m (a .s .levels)) (w4 .before .most-levels .ensures)) ∙ not-false _ (e4 .if4 .left)) (sym (w5 .is-within4 .ensures) ∙ not-false _ (e5 .if5 .left)) (sym (p6 .is-plain .ensures) ∙ not-true _ (c .if6 .taken))
+    (sym (f3 .is-filter .ensures) ∙ not-false _ (e3 .if3 .left))
+    (sym (w4 .is-within3 .ensures ∙ ap (λ m. within 1 m (a .s .levels)) (w4 .before .most-levels .ensures)) ∙ not-false _ (e4 .if4 .left))
+    (sym (w5 .is-within4 .ensures) ∙ not-false _ (e5 .if5 .left)) (sym (p6 .is-plain .ensures) ∙ not-true _ (c .if6 .taken))
 
 returns-7 : tie.Need-returns-7
 unfolding maxWidth maxHeight maxStep
@@ -125,7 +130,9 @@ returns-7 c =
     let w1 = e1 .before in
     let a = w1 .before .before .args in
     asks-nothing (a .s) (a .step) (sym (w1 .is-within .ensures) ∙ not-false _ (e1 .if1 .left)) (sym (w2 .is-within2 .ensures) ∙ not-false _ (e2 .if2 .left))
-    (sym (f3 .is-filter .ensures) ∙ not-false _ (e3 .if3 .left)) (sym (w4 .is-within3 .ensures ∙ ap (λ m. within 1 m (a .s .levels)) (w4 .before .most-levels .ensures)) ∙ not-false _ (e4 .if4 .left)) (sym (w5 .is-within4 .ensures) ∙ not-false _ (e5 .if5 .left)) (sym (p6 .is-plain .ensures) ∙ not-false _ (c .if6 .left))
+    (sym (f3 .is-filter .ensures) ∙ not-false _ (e3 .if3 .left))
+    (sym (w4 .is-within3 .ensures ∙ ap (λ m. within 1 m (a .s .levels)) (w4 .before .most-levels .ensures)) ∙ not-false _ (e4 .if4 .left))
+    (sym (w5 .is-within4 .ensures) ∙ not-false _ (e5 .if5 .left)) (sym (p6 .is-plain .ensures) ∙ not-false _ (c .if6 .left))
 
 pub set-up-question-spec : {M : Type 1} → statement M
 set-up-question-spec =

@@ -67,11 +67,13 @@ returns c =
     let s = pp .before .before .before in
     let a = s .args in (
       (
-        c .with .ensures ∙ partly-is (a .s) (a .row .now) _ _ _ (a .at) (a .out .now) _ _ (pp .put-piece .ensures) (st .start-of .ensures) (cp .copy .ensures .0)
+        c .with .ensures ∙ partly-is (a .s) (a .row .now) _ _ _ (a .at) (a .out .now) _ _ (pp .put-piece .ensures) (st .start-of .ensures)
+            (cp .copy .ensures .0)
             (t .if1 .taken),
         at-is (a .s) (a .row .now) _ _ _ (a .at) (a .out .now) _ _ (pp .put-piece .ensures) (st .start-of .ensures) (cp .copy .ensures .0),
       ),
-      area-is (a .s) (a .row .now) _ _ _ (a .at) (a .out .now) _ _ (pp .put-piece .ensures) (st .start-of .ensures) (cp .copy .ensures .0) _ (cp .copy .ensures .1),
+      area-is (a .s) (a .row .now) _ _ _ (a .at) (a .out .now) _ _ (pp .put-piece .ensures) (st .start-of .ensures) (cp .copy .ensures .0) _
+          (cp .copy .ensures .1),
     )
 
 slice-aggregate-sum-of : tie.Need-slice-aggregate-sum-of
