@@ -6,6 +6,7 @@ mod copies;
 mod draws;
 mod gate;
 mod offers;
+mod run_steps;
 pub mod runs;
 mod spare;
 

@@ -1,12 +1,12 @@
 // Many rows at once: heights taken and band rows put, one after the other, by the calls' own steps. Questions 1, 5 and 9 are asked once, and the level of a set
 // is found once for all of its rows.
 use crate::Writer;
-use crate::after;
 use crate::copies;
 use crate::draws;
 use crate::draws::Spot;
 use crate::gate;
 use crate::offers;
+use crate::run_steps;
 use progress::counts;
 use progress::levels;
 use progress::levels::Level;
@@ -167,7 +167,7 @@ fn draw_set(s: Writer, store: &mut [i32], out: &mut [i32], names: &mut [u64], do
             writer: t,
         };
     }
-    let next = after::draw_and_move(t, q, store);
+    let next = run_steps::draw_and_move(t, q, store);
     Turn {
         on: true,
         done: one_more(d, spot.length),
@@ -200,7 +200,7 @@ fn take_row(s: Writer, store: &mut [i32], heights: &[u16], done: Counts) -> Turn
             rows: done.rows,
             numbers: done.numbers,
         },
-        writer: offers::stretch(s, store, &heights[a..e], 0, n),
+        writer: run_steps::stretch(s, store, &heights[a..e], 0, n),
     }
 }
 
