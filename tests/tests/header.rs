@@ -218,7 +218,10 @@ fn the_archive_needs_only_copies_and_keeps_no_variable() {
 fn the_rust_wrapper_declares_the_same_calls() {
     let block = text("bindings/rust/src/raw.rs");
     let block = block.split_once("extern \"C\" {").expect("the declarations").1.split_once("\n    }\n").expect("their end").0;
-    assert_eq!(functions(block, "pub fn ", rust_argument), header());
+    let (declared, header) = (functions(block, "pub fn ", rust_argument), header());
+    let missing: Vec<_> = header.keys().filter(|name| !declared.contains_key(*name)).collect();
+    assert!(missing.is_empty(), "raw.rs does not declare {missing:?}");
+    assert_eq!(declared, header);
 }
 
 /// Arguments that have another name in the source than in the header.

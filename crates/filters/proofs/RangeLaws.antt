@@ -1,6 +1,6 @@
 -- The ranges of the 9/7's levels. Assumes nothing.
 use mathlib.Core.Path.{_≡_}
-use Prim.Native.Nat.{ℕ, suc, _*_, _^_, _≤_, _<_, min}
+use Prim.Native.Nat.{ℕ, suc, _*_, _^_, _≤_, _<_}
 use native.Mathlib.Nat.{pow-suc, pow-le-pow-right, mul-le-mul-left}
 use native.Mathlib.Omega.{arith}
 use Rattle.wavelet.specs.Limits.{maxSample, range}
@@ -25,8 +25,3 @@ range-small k h = omega (arith, range-le k maxLevels h, range-last)
 pub levels-small : maxLevels < 2 ^ 32
 unfolding maxLevels
 levels-small = omega arith
-
--- the lesser of a level and the last is 0 for level 0 alone
-pub some-level : (k : ℕ) → min k maxLevels ≡ 0 → k ≡ 0
-unfolding maxLevels
-some-level k e = omega arith

@@ -14,9 +14,6 @@ use Rattle.lifting.specs.Line.{unpredicted}
 use Rattle.lifting.specs.Rows.{rowChanged}
 use Rattle.level.specs.Moves.{doubled}
 
-pub ap₃ : (f : ℤ → ℤ → ℤ → ℤ) {u v a a′ b b′ : ℤ} → u ≡ v → a ≡ a′ → b ≡ b′ → f u a b ≡ f v a′ b′
-ap₃ f p q r = λ i. f (p i) (q i) (r i)
-
 -- a row doubled: a number and the mean of itself and itself
 twice : (v : ℤ) → unpredicted wrap32 v v v ≡ wrap32 (pos 2 *ℤ v)
 twice v = unfold unpredicted in ap wrap32 (mean v)

@@ -1,14 +1,11 @@
 -- Where column i stands in a row in halves. Assumes nothing.
-use mathlib.Core.Path.{_≡_, sym, ap}
+use mathlib.Core.Path.{_≡_}
 use Prim.Native.Nat.{ℕ, _+_, _*_, _/_, _%_, _<_}
 use native.Mathlib.Decide.{ℕ-discrete}
 use native.Mathlib.Omega.{arith}
-use lib.IntN.{ℤ}
 use borrow.Author.Tests.{eq-eqb, ne-eqb}
 use Rattle.lifting.specs.Line.{Half, lo, hi}
-use Rattle.lifting.specs.Grid.{Side, place, count, joined}
-use Rattle.lifting.specs.GridHalves.{halvesOf}
-use Rattle.lifting.proofs.GridLaws.{half-even, half-odd}
+use Rattle.lifting.specs.Grid.{Side, place, count}
 use Rattle.wavelet.proofs.SideLaws.{count-lo}
 use Rattle.level.specs.Cells.{spot}
 use Rattle.level.specs.Stretch.{halfPlace}
@@ -41,14 +38,6 @@ spot-apart W i j p q h =
             | yes b ↦ omega (arith, spot-odd W i a, spot-even W j b, count-lo W, a)
             | no b ↦ omega (arith, spot-odd W i a, spot-odd W j b, a, b)
           ]
-    ]
-
-pub joined-spot : (W : Side) (z : ℕ → ℤ) (i : ℕ) → joined W (halvesOf W z) i ≡ z (spot W i)
-unfolding joined halvesOf
-joined-spot W z i =
-    elim (ℕ-discrete ((W .start % 2 + i) % 2) 0) [
-      | yes e ↦ rw (half-even (W .start + i) (omega arith)) (ap z (sym (spot-even W i e)))
-      | no e ↦ rw (half-odd (W .start + i) (omega (arith, e))) (ap z (sym (spot-odd W i e)))
     ]
 
 -- two columns on is one place on

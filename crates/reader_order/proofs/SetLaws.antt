@@ -18,7 +18,6 @@ use Rattle.level.specs.Sets.{opens}
 use Rattle.reader_steps.specs.Sets.{ahead, rowTo, firstRow}
 use Rattle.reader_steps.specs.Asked.{named}
 use Rattle.reader_steps.specs.Places.{hasCells}
-use Rattle.reader_steps.proofs.OpenedSets.{looks}
 use Rattle.reader_steps.proofs.CellLaws.{Empty, wide, high, empty-not, cells-yes}
 
 -- ---- the set of a row, as the code finds it
@@ -26,10 +25,6 @@ ahead-small : (f : ℕ) → ahead f ≤ 2 ^ 16
 unfolding filterOf
 ahead-small zero = omega arith
 ahead-small (suc f) = omega arith
-
--- of a number that is the look-ahead
-pub ahead-fits : (f n : ℕ) → n ≡ ahead f → (1 ≤ n) × (n ≤ 2 ^ 16)
-ahead-fits f n e = (omega (arith, looks f), omega (arith, ahead-small f))
 
 pub set-first : (f : ℕ) (S : Side) (r : ℕ) → S .start % 2 + r ≡ 0 → 0 ≡ setOf (ahead f) S r
 set-first f S r e =

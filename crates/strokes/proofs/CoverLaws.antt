@@ -10,8 +10,8 @@ use borrow.Author.Tests.{leb-true}
 use Rattle.numbers.proofs.Sweep.{both as both-yes}
 use Rattle.lifting.specs.Line.{Half, lo, hi}
 use Rattle.lifting.specs.Grid.{side, count}
-use Rattle.strokes.specs.Reach.{Span, changed, reached, lowSpan}
-use Rattle.strokes.specs.Local.{Cut, Sound, Cover}
+use Rattle.strokes.specs.Reach.{Span, reached, lowSpan}
+use Rattle.strokes.specs.Local.{Cut, Cover}
 
 -- number n of a half, in a window: its number there, and that it is right
 pub record Held (u v t w : ℕ) (h : Half) (n : ℕ) : Type 0 where
@@ -73,14 +73,3 @@ module _ (u v N a t w : ℕ) (s : Span) (C : Cut u v N a t w) where
       let k = near hi n e in
       let m = mul-assoc 2 q (K .times) in
       leftly (2 * q) (λ l. rightly (2 * q) K (λ r. omega arith) (λ r. omega arith)) (λ l. rightly (2 * q) K (λ r. omega arith) (λ r. omega arith)) K
-
-  -- and where no level is left, what is changed
-  pub held-last : Cover u v 1 a w s → (i : ℕ) → i < N → changed s i ≡ true → (a ≤ i) × Sound u v w (i - a)
-  unfolding changed
-  held-last K i b e =
-      let c = C .even in
-      let j = C .inside in
-      let k = both-yes _ _ e in
-      let f = leb-true (s .first) i (k .0) in
-      let g = leb-true i (s .last) (k .1) in
-      leftly 1 (λ l. rightly 1 K (λ r. omega arith) (λ r. omega arith)) (λ l. rightly 1 K (λ r. omega arith) (λ r. omega arith)) K

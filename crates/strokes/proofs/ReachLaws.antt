@@ -39,10 +39,6 @@ one-no false b e f g = f refl
 
 -- ---- one direction
 module _ (s : Span) where
-  pub changed-in : (i : ℕ) → s .first ≤ i → i ≤ s .last → changed s i ≡ true
-  unfolding changed
-  changed-in i a b = simp (le-leb (s .first) i a, le-leb i (s .last) b)
-
   pub changed-before : (i : ℕ) → i < s .first → changed s i ≡ false
   unfolding changed
   changed-before i a = simp (lt-leb (s .first) i a)

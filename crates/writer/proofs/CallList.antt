@@ -181,9 +181,6 @@ module _ (φ : ℕ) where
     pub whole-rows : length ts / W .length ≡ r
     whole-rows = ap (λ n. n / W .length) (a .counted) ∙ rows-of (W .length) r c (a .column-in)
 
-    pub begun-row : length ts % W .length ≡ c
-    begun-row = ap (λ n. n % W .length) (a .counted) ∙ column-of (W .length) r c (a .column-in)
-
     -- what waits, by the history: made and not drawn
     pub waiting-is : drop (length ds) (made A W top L r f) ≡ coming L W top f cl v i r
     waiting-is =

@@ -208,10 +208,6 @@ module _ (s : Writer) where
   unfolding openQuestion
   open-yes x h = asked-yes 8 7 (not (s .finished)) (eqb (s .level) 0) x h
 
-  pub open-level : openQuestion s ≡ 0 → s .level ≡ 0
-  unfolding openQuestion
-  open-level h = eqb-true _ _ (asked-all 8 7 (not (s .finished)) (eqb (s .level) 0) h .1)
-
 -- ---- the calls
 module _ (s : Writer) (n k : ℕ) where
   pub offer-state : (stateQuestion s n ≡ 0 → ⊥) → stateQuestion s n ≡ offerQuestion s n k

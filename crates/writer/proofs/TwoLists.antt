@@ -842,10 +842,6 @@ module _ (φ l : ℕ) (W : Side) (top : ℕ) (from : W .start ≤ maxOrigin) (lo
   not-waits zero e = refl
   not-waits (suc v) e = absurd (differ (sym e ∙ ap not (ne-eqb (suc v) 0 (λ k. omega arith))))
 
-  does-wait : (v : ℕ) → not (eqb v 0) ≡ true → 0 < v
-  does-wait zero e = absurd (differ (sym (ap not (eq-eqb 0 0 refl)) ∙ e))
-  does-wait (suc v) e = omega arith
-
   free-step : (n : ℕ) (run hs : List ℕ) (es fs : List Event) (a b : World) → Two hs es fs a b → waitsIn b ≡ false → Step (offer n run) hs es fs a b
   free-step n run hs es fs a b m k =
       subst₂ (λ s s′. Step (offer n run) hs es fs (world s (a .store)) (world s′ (b .store))) (sym (o .writer-is)) (sym (p .writer-is))
