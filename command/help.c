@@ -17,6 +17,8 @@ static const char overview[] =
     "  round STEP FILE OUT     what rounding saves, and by how much heights are off\n"
     "  convert FILE OUT        between PGM, PNG and RAW, every height as it is\n"
     "  tile FILE FOLDER        a map of any size cut into tiles, and back (--join)\n"
+    "  pack FILE OUT           the map as a ground file, exact or rounded\n"
+    "  info FILE               what the header of a ground file says\n"
     "  list LEVELS FILE.pgm    every band row as a line of numbers\n"
     "  rewrite FILE.pgm OUT    the map in one fixed form: equal maps, equal bytes\n"
     "\n"
@@ -24,9 +26,9 @@ static const char overview[] =
     "  terrain --version       the version of the library\n"
     "\n"
     "FILE is a height map: a binary PGM (P5) or a grey PNG, of 8 or 16 bits. check,\n"
-    "bands, near, far and round take at most 2,049 columns; list and rewrite, which\n"
-    "are proved programs, a PGM of at most 1,025 columns and 65,535 rows. `-` is\n"
-    "standard input, or standard output. A file is replaced when what takes its\n"
+    "bands, near, far, round and pack take at most 2,049 columns; list and rewrite,\n"
+    "which are proved programs, a PGM of at most 1,025 columns and 65,535 rows. `-`\n"
+    "is standard input, or standard output. A file is replaced when what takes its\n"
     "place is whole, and not before: it may be the input itself.\n"
     "\n";
 
@@ -154,6 +156,24 @@ static const struct {
      "\n"
      "  terrain tile --size 513x513 world.png tiles\n"
      "  terrain tile --join tiles world.pgm\n"},
+    {"pack",
+     "usage: terrain pack [--levels N] [--step N] FILE OUT\n"
+     "\n"
+     "Saves the map as a ground file (docs/FORMAT.md): its coefficients at 5 levels,\n"
+     "or N, packed, with the size in front and a checksum at the end. A step of 2 to\n"
+     "64 rounds them (see round): the file is smaller, and how far a height can be\n"
+     "off is told. How many bytes the file has is told. Nothing reads such a file\n"
+     "back yet, but for its header (see info): keep the map.\n"
+     "\n"
+     "  terrain pack map.pgm map.ground\n"
+     "  terrain pack --step 8 map.png small.ground\n"},
+    {"info",
+     "usage: terrain info FILE\n"
+     "\n"
+     "Says what the header of a ground file says: size, origin, filter, levels and\n"
+     "step. The bytes after the header are not read.\n"
+     "\n"
+     "  terrain info map.ground\n"},
     {"list",
      "usage: terrain list LEVELS FILE.pgm\n"
      "\n"

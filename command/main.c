@@ -9,6 +9,7 @@
 static const char *const check_options[] = {"--seed", NULL};
 static const char *const round_options[] = {"--levels", NULL};
 static const char *const convert_options[] = {"--from", "--to", "--size", NULL};
+static const char *const pack_options[] = {"--levels", "--step", NULL};
 static const char *const tile_options[] = {"--size", "!--join", NULL};
 
 static const Command commands[] = {
@@ -22,6 +23,8 @@ static const Command commands[] = {
     {"round", "[--levels N] STEP FILE OUT.png (or OUT.pgm)", 3, 3, round_options, rounding},
     {"convert", "[--from FORM] [--to FORM] [--size WxH] FILE OUT", 2, 2, convert_options, convert},
     {"tile", "[--size WxH] FILE FOLDER, or terrain tile --join FOLDER OUT.pgm", 2, 2, tile_options, tile},
+    {"pack", "[--levels N] [--step N] FILE OUT", 2, 2, pack_options, pack},
+    {"info", "FILE", 1, 1, NULL, info},
     {"list", "LEVELS FILE.pgm", 2, 2, NULL, list},
     {"rewrite", "FILE.pgm OUT.pgm", 2, 2, NULL, rewrite},
 };

@@ -57,6 +57,11 @@
 #define TERRAIN_READERS 16
 #define TERRAIN_NO_READER 16
 
+/* A ground file: how many numbers a saver has, how many bytes the header; the largest step of a rounded plane. */
+#define TERRAIN_SAVER_LENGTH 32
+#define TERRAIN_HEADER_LENGTH 24
+#define TERRAIN_MAX_STEP 64
+
 /* A compiler that can warns where a call's answer is not looked at. */
 #if defined(__cplusplus) && __cplusplus >= 201703L
 #define TERRAIN_CHECKED [[nodiscard]]
@@ -102,6 +107,16 @@ TERRAIN_INLINE terrain_shape terrain_shape_of(size_t width, size_t height, size_
     shape.width = width;
     shape.height = height;
     shape.levels = levels;
+    return shape;
+}
+
+/* The shape that a ground file's header says: the first six numbers of `terrain_file_header`. */
+TERRAIN_INLINE terrain_shape terrain_header_shape(const uint64_t header[7])
+{
+    terrain_shape shape = terrain_shape_of((size_t)header[0], (size_t)header[1], (size_t)header[2]);
+    shape.x = (uint16_t)header[3];
+    shape.y = (uint16_t)header[4];
+    shape.filter = (uint32_t)header[5];
     return shape;
 }
 
@@ -356,6 +371,30 @@ uint32_t terrain_turns_clear(uint64_t turns[4], size_t reader);
 TERRAIN_CHECKED
 uint32_t terrain_turns_give(uint64_t turns[4], size_t *reader);
 
+/* The ground file (FORMAT.md): a map's plane as the bytes of one file, which has its shape in it and a checksum at its end. A saver is the
+ * caller's array of thirty-two numbers; the plane stands in memory whole and is lent to each call. 1 as for the streams: the array is no saver. */
+
+/* A saver that has written nothing, of a plane of that shape. `step` is 1 for a map's own plane, and q for a plane that `terrain_round` has
+ * rounded by q. 2 (width), 3 (height), 18 (filter), 4 (levels), 20 (the step is not 1 to 64), 22 (a step above 1 of a map by the 9/7, or of
+ * one that does not start at 0). */
+TERRAIN_CHECKED
+uint32_t terrain_save_set_up(uint64_t state[32], terrain_shape shape, size_t step);
+
+/* The next bytes of the file, at the front of `out`, as many as there are and as `out` has room for, and how many in *written; the rest of
+ * `out` stays. Lend areas of any lengths, and the same plane, until *written is 0 of an area with room: then the file is complete.
+ * 1; 5 (the plane has fewer than width * height numbers). Before a row is begun: 7 (a coefficient is out of its level's range), 22 (one of
+ * HL, LH or HH is no multiple of the step): the call ends before that row and gives what it wrote, and if that is nothing it answers the
+ * number. Neither comes of a plane that `terrain_map_forward` has made, rounded by the step. */
+TERRAIN_CHECKED
+uint32_t terrain_save(uint64_t state[32], const int32_t *plane, size_t plane_len, uint8_t *out, size_t out_len, size_t *written);
+
+/* What the first 24 bytes of a ground file say: width, height, levels, x, y, filter and step in header[0] to header[6]; `terrain_header_shape`
+ * makes a shape of them, of which areas can be lent then. The bytes after the 24 are not read.
+ * 5 (fewer than 24 bytes), 22 (the first eight bytes, the version or the last two are no file's; a step above 1 with an origin or the 9/7),
+ * then 2, 3, 18, 4, 20 of what they say. Where a question says no, `header` stays. */
+TERRAIN_CHECKED
+uint32_t terrain_file_header(const uint8_t *bytes, size_t bytes_len, uint64_t header[7]);
+
 #ifdef __cplusplus
 }
 #endif
@@ -384,6 +423,7 @@ uint32_t terrain_turns_give(uint64_t turns[4], size_t *reader);
 #define TERRAIN_BAD_RECTANGLE 19
 #define TERRAIN_BAD_STEP 20
 #define TERRAIN_BAD_READER 21
+#define TERRAIN_NO_FILE 22
 
 /* What the question of that number says; STUDIOS.md says what to do about each. It is this header's own and not in the archive. */
 TERRAIN_INLINE const char *terrain_sentence(uint32_t number)
@@ -410,7 +450,8 @@ TERRAIN_INLINE const char *terrain_sentence(uint32_t number)
         "there is no such filter",                                                     /* 18 */
         "the rectangle is empty or leaves the map",                                    /* 19 */
         "the step is not 1 to 64",                                                     /* 20 */
-        "the reader's number is not 0 to 15"                                           /* 21 */
+        "the reader's number is not 0 to 15",                                          /* 21 */
+        "no file has this here"                                                        /* 22 */
     };
     const char *said = number < sizeof sentences / sizeof *sentences ? sentences[number] : NULL;
     return said ? said : "no question has this number";

@@ -13,6 +13,8 @@ _terrain()
         'round:what rounding saves, and by how much heights are off'
         'convert:between PGM, PNG and RAW'
         'tile:a map cut into tiles, and back'
+        'pack:the map as a ground file'
+        'info:what the header of a ground file says'
         'list:every band row as a line of numbers'
         'rewrite:the map in one fixed form'
         'help:more about a command'
@@ -25,6 +27,7 @@ _terrain()
     case $words[CURRENT - 1] in
     --from | --to) compadd -- pgm png png8 raw raw-big && return ;;
     --seed | --size) return ;;
+    --step) compadd -- 2 4 8 16 32 64 && return ;;
     --levels) compadd -- 1 2 3 4 5 && return ;;
     esac
     local -a options=(--help)
@@ -32,6 +35,7 @@ _terrain()
     check) options+=(--seed) ;;
     convert) options+=(--from --to --size) ;;
     tile) options+=(--size --join) ;;
+    pack) options+=(--levels --step) ;;
     round)
         options+=(--levels)
         if ((CURRENT == 3)); then compadd -- 2 4 8 16 32 64 $options && return; fi

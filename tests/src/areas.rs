@@ -24,6 +24,13 @@ impl Element for u16 {
     }
 }
 
+impl Element for u8 {
+    const MARK: u8 = 0x5e;
+    fn unset(i: usize) -> u8 {
+        0xc3u8.wrapping_sub((i as u8).wrapping_mul(3))
+    }
+}
+
 /// An area that is lent, with marks before and after it that no call may touch.
 pub struct Guarded<T = i32> {
     all: Vec<T>,

@@ -6,6 +6,7 @@ pub mod ccsds_back;
 pub mod ccsds_level;
 pub mod filter;
 pub mod grid;
+pub mod ground;
 pub mod test_exports;
 pub mod listing;
 pub mod maps;

@@ -164,7 +164,7 @@ fn the_questions() {
     let questions = questions.split_once("/* The questions: ").expect("the questions").1.split_once("\n\n").expect("their end").0;
     let named: Vec<u32> = questions.lines().filter_map(|l| l.strip_prefix("#define TERRAIN_")?.split_once(' ')?.1.parse().ok()).collect();
     assert!(named.windows(2).all(|pair| pair[0] < pair[1]), "{named:?}");
-    assert!((1..=21).all(|n| named.contains(&n)), "{named:?}");
+    assert!((1..=22).all(|n| named.contains(&n)), "{named:?}");
     let advice = text("docs/STUDIOS.md");
     assert!(named.iter().all(|n| advice.contains(&format!("\n| {n} | "))), "{named:?}");
     assert_eq!(names()["NO_MAP"], 14);

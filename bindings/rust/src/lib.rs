@@ -53,6 +53,7 @@ mod profile;
 mod question;
 pub mod raw;
 mod reader;
+mod saver;
 mod turns;
 mod writer;
 
@@ -65,6 +66,7 @@ pub use picture::{picture_head, picture_row};
 pub use profile::profile;
 pub use question::{Call, Question};
 pub use reader::{Reader, Want};
+pub use saver::{file_header, Saver};
 pub use turns::Turns;
 pub use writer::{Run, Writer};
 

@@ -29,6 +29,9 @@ pub enum Call {
     Mark,
     Clear,
     Turn,
+    SaveSetUp,
+    Save,
+    FileHeader,
 }
 
 /// Why a call was turned away: the first question that said no. Prints a sentence.
@@ -36,7 +39,7 @@ pub enum Call {
 pub struct Question {
     /// The call that was turned away.
     pub call: Call,
-    /// The question's number: 1 to 14 or 17 to 21.
+    /// The question's number: 1 to 14 or 17 to 22.
     pub number: u32,
 }
 
@@ -66,7 +69,8 @@ impl Question {
             (5, Call::MapForward | Call::MapBackward | Call::MapMend) => {
                 "heights, plane or work area is shorter than width times height"
             }
-            (5, Call::View | Call::Round) => "the plane is shorter than width times height",
+            (5, Call::View | Call::Round | Call::Save) => "the plane is shorter than width times height",
+            (5, Call::FileHeader) => "a file's header has 24 bytes",
             (5, Call::NearestChange) => "there are fewer than width times height heights",
             (5, _) => "the line store is too short",
             (6, Call::NearestChange) => "there is no such cell: LL has half as many rows and columns as the map, rounded up",
@@ -93,6 +97,9 @@ impl Question {
             (19, _) => "the rectangle is empty or leaves the map",
             (20, _) => "the step is not 1 to 64",
             (21, _) => "the reader's number is not 0 to 15",
+            (22, Call::SaveSetUp) => "no file has this here: a step above 1 is for the 5/3 at origin 0 alone",
+            (22, Call::FileHeader) => "no file has this here: these are not the first bytes of a ground file",
+            (22, _) => "no file has this here: a coefficient of HL, LH or HH is no multiple of the step",
             _ => "no question has this number",
         }
     }

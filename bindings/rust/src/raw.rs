@@ -8,6 +8,9 @@
 /// A writer or reader as the library keeps it. Any numbers may be lent: those that are no state of the call's kind are answered by 1.
 pub type State = [u64; 16];
 
+/// A saver as the library keeps it.
+pub type SaverState = [u64; 32];
+
 use crate::{Rectangle, Shape};
 
 mod c {
@@ -186,6 +189,16 @@ mod c {
         pub fn terrain_turns_mark(turns: *mut [u64; 4], reader: usize) -> u32;
         pub fn terrain_turns_clear(turns: *mut [u64; 4], reader: usize) -> u32;
         pub fn terrain_turns_give(turns: *mut [u64; 4], reader: *mut usize) -> u32;
+        pub fn terrain_save_set_up(state: *mut [u64; 32], shape: Shape, step: usize) -> u32;
+        pub fn terrain_save(
+            state: *mut [u64; 32],
+            plane: *const i32,
+            plane_len: usize,
+            out: *mut u8,
+            out_len: usize,
+            written: *mut usize,
+        ) -> u32;
+        pub fn terrain_file_header(bytes: *const u8, bytes_len: usize, header: *mut [u64; 7]) -> u32;
     }
 }
 
@@ -352,4 +365,16 @@ pub fn turns_clear(turns: &mut [u64; 4], reader: usize) -> u32 {
 
 pub fn turns_give(turns: &mut [u64; 4], reader: &mut usize) -> u32 {
     unsafe { c::terrain_turns_give(turns, reader) }
+}
+
+pub fn save_set_up(state: &mut SaverState, shape: Shape, step: usize) -> u32 {
+    unsafe { c::terrain_save_set_up(state, shape, step) }
+}
+
+pub fn save(state: &mut SaverState, plane: &[i32], out: &mut [u8], written: &mut usize) -> u32 {
+    unsafe { c::terrain_save(state, plane.as_ptr(), plane.len(), out.as_mut_ptr(), out.len(), written) }
+}
+
+pub fn file_header(bytes: &[u8], header: &mut [u64; 7]) -> u32 {
+    unsafe { c::terrain_file_header(bytes.as_ptr(), bytes.len(), header) }
 }

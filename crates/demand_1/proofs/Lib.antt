@@ -7,3 +7,4 @@ pub mod Maps
 pub mod Lines
 pub mod Rounding
 pub mod Tolerant
+pub mod Savers

@@ -6,3 +6,4 @@ pub mod Maps
 pub mod Lines
 pub mod Rounding
 pub mod Tolerant
+pub mod Savers

@@ -83,7 +83,7 @@ code-told HH LH e = absurd (omega arith)
 name-is : (x y : RowName) → x .level ≡ y .level → x .band ≡ y .band → x .row ≡ y .row → x ≡ y
 name-is x y p q r = λ i. record { level = p i; band = q i; row = r i }
 
-same-is : (x y : RowName) → sameName x y ≡ true → x ≡ y
+pub same-is : (x y : RowName) → sameName x y ≡ true → x ≡ y
 unfolding sameName
 same-is x y e =
     let p = both _ _ e in

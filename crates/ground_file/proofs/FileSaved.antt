@@ -2,11 +2,12 @@
 use mathlib.Core.Path.{_≡_, refl, sym, ap, ap₂, subst, _∙_}
 use mathlib.Core.Bool.{Bool, true, false}
 use mathlib.Core.List.{List, [], _∷_, _++_, append-assoc, append-nil}
+use mathlib.Core.Logic.{_⊎_, inl, inr, ⊎-elim}
 use Prim.Native.Nat.{ℕ, zero, suc, _+_, _-_, _*_, _/_, _%_, _^_, _≤_, _<_, min}
 use native.Mathlib.Nat.{div-le-self}
 use native.Mathlib.Omega.{arith}
 use native.Mathlib.Decide.{decLt}
-use lib.IntN.{ℤ, pos, negsuc, natAbs}
+use lib.IntN.{ℤ, pos, negsuc, natAbs, _*ℤ_}
 use lib.Signed.{mag, shrZ}
 use lib.Dec.{leb, ltb, eqb}
 use lib.ListN.{length, take, drop, getD, length-take, length-drop, length-append, take-append-drop}
@@ -20,11 +21,12 @@ use Rattle.wavelet.specs.declared.shape.Shape.{Shape}
 use Rattle.wavelet.specs.Shape.{columns, rows}
 use Rattle.wavelet.specs.Bands.{Band, LL, HL, LH, HH, code}
 use Rattle.wavelet.specs.Limits.{maxWidth, maxHeight, maxLevels, range}
-use Rattle.wavelet.specs.Order.{RowName, rowName, times}
+use Rattle.wavelet.specs.Order.{RowName, rowName, sameName, times}
 use Rattle.wavelet.specs.Questions.{within, sizeQuestion}
 use Rattle.wavelet.specs.View.{bandColumns, bandStart, Kept}
 use Rattle.wavelet.specs.ViewCall.{bandRowExists, viewQuestion, viewStart, viewLength, viewRow}
 use Rattle.wavelet.specs.ViewCall as view
+use Rattle.wavelet.proofs.LimitLaws.{width-small, height-small}
 use Rattle.wavelet.proofs.QuestionLaws.{within-yes}
 use Rattle.wavelet.proofs.ViewLaws.{named-at, question-row, viewed, view-in}
 use Rattle.wavelet.proofs.ViewAsks.{kept-exists}
@@ -40,15 +42,15 @@ use Rattle.reader_order.proofs.OrderTheorem.{Order, order}
 use Rattle.ground_file.specs.declared.saver.Saver.{Saver}
 use Rattle.ground_file.specs.declared.saver.Saved.{Saved}
 use Rattle.ground_file.specs.Groups.{zigzag, bytesOf, groupOf, groupsOf, rowBytes}
-use Rattle.ground_file.specs.File.{headerOf, stored, listed, numbersOf, rowsBytes, wanted, bodyOf, asNumber, prime, fileOf}
-use Rattle.ground_file.specs.Values.{kept}
+use Rattle.ground_file.specs.File.{headerOf, stored, listed, numbersOf, rowsBytes, wanted, bodyOf, asNumber, prime, fileOf, Fits}
+use Rattle.ground_file.specs.Values.{kept, isMultiple}
 use Rattle.ground_file.specs.Saving.{saverAt, startOf, rowOf, stepOf, pieceOf, atRow, onward, partly, fromOf, restOf, moved, begins, rowFits, rowDivides}
 use Rattle.ground_file.specs.Saving.{rowNumber}
 use Rattle.ground_file.specs.Saving.{Went, here, on, stopOf, setUpNumber, saveNumber, fresh, Ran, Saves, Calls, none, call}
 use Rattle.ground_file.proofs.Digits.{bytes-length}
-use Rattle.ground_file.proofs.FileLaws.{listed-length, listed-same, times-first, wanted-kept}
+use Rattle.ground_file.proofs.FileLaws.{listed-length, listed-same, same-is, times-first, wanted-kept, kept-wanted}
 use Rattle.ground_file.proofs.MapFiles.{by-one, range-small}
-use Rattle.ground_file.proofs.ValueLaws.{kept-is, rest-of}
+use Rattle.ground_file.proofs.ValueLaws.{kept-is, kept-small, multiple-of, number-append, number-rest}
 use Rattle.ground_file.proofs.SaverLaws.{start-in, rest-length, piece-head, piece-group, piece-sum, moved-part, moved-whole, on-head, on-group, on-sum}
 use Rattle.ground_file.proofs.SaverLaws.{group-more, group-last, stop-row}
 use Rattle.ground_file.proofs.SaverAsks.{Passed, passed, filter-few}
@@ -109,27 +111,13 @@ unfolding groupsOf
 no-groups r = refl
 
 -- ---- the checksum of two stretches
-number-append : (n : ℕ) (l m : List ℕ) → asNumber n (l ++ m) ≡ asNumber (asNumber n l) m
-unfolding asNumber
-number-append n [] m = refl
-number-append n (b ∷ l) m = number-append (256 * n + b) l m
-
-number-rest : (n : ℕ) (l : List ℕ) → asNumber (n % prime) l % prime ≡ asNumber n l % prime
-unfolding asNumber
-number-rest n [] = twice n
-  where
-    twice : (n : ℕ) → n % prime % prime ≡ n % prime
-    twice n = unfold prime in omega arith
-number-rest n (b ∷ l) =
-    sym (number-rest (256 * (n % prime) + b) l) ∙ ap (λ k. asNumber k l % prime) (rest-of n b) ∙ number-rest (256 * n + b) l
-
 abbrev check : ℕ → List ℕ → List ℕ
 check c l = bytesOf 4 (asNumber c l % prime)
 
 check-on : (c : ℕ) (l m : List ℕ) → check c (l ++ m) ≡ check (asNumber c l % prime) m
 check-on c l m = ap (bytesOf 4) (ap (λ n. n % prime) (number-append c l m) ∙ sym (number-rest (asNumber c l) m))
 
-drop-0 : (l : List ℕ) → drop 0 l ≡ l
+pub drop-0 : (l : List ℕ) → drop 0 l ≡ l
 drop-0 [] = refl
 drop-0 (x ∷ l) = refl
 
@@ -187,9 +175,29 @@ module _ (sh : Shape) (q : ℕ) (ok : setUpNumber sh q ≡ 0) (p : List ℤ) (lo
   abbrev saver : Place → ℕ → ℕ → ℕ → ℕ → Saver
   saver pl g m c f = saverAt sh q pl g m c f
 
+  -- what a file can hold of a row; and of every row that is wanted, but those of l
+  abbrev Good : RowName → Type 0
+  Good x = ((i : ℕ) → i < columnsOf x → zigzag (stored q (x .band) (P (startAt x + i))) < 2 ^ 28)
+      × ((i : ℕ) → i < columnsOf x → 0 < code (x .band) → P (startAt x + i) ≡ pos q *ℤ shrZ (P (startAt x + i)) q)
+
+  abbrev GoodBut : List RowName → Type 0
+  GoodBut l = (y : RowName) → 0 < times y (wanted sh) → (0 < times y l) ⊎ Good y
+
+  good-next : (x : RowName) (l : List RowName) → GoodBut (x ∷ l) → Good x → GoodBut l
+  unfolding times
+  good-next x l g h y w = ⊎-elim (λ z. go (sameName y x) refl z) (λ z. inr z) (g y w)
+    where
+      go : (t : Bool) → sameName y x ≡ t → 0 < pick t 1 0 + times y l → (0 < times y l) ⊎ Good y
+      go true e z = inr (subst Good (sym (same-is y x e)) h)
+      go false e z = inl (omega (arith, z))
+
   -- the row, as the view gives it
   abbrev row : Place → List ℤ
   row pl = viewRow p (columns sh) (rows sh) (sh .levels) (pl .level) (pl .band) (rowAt sh pl)
+
+  -- the row has passed 7 and 22
+  abbrev Asked : Place → Type 0
+  Asked pl = (rowFits (saver pl 0 0 0 1) (row pl) ≡ true) × (rowDivides (saver pl 0 0 0 1) (row pl) ≡ true)
 
   row-is : (pl : Place) (g m c f : ℕ) → rowOf (saver pl g m c f) p ≡ row pl
   unfolding rowOf
@@ -289,6 +297,22 @@ module _ (sh : Shape) (q : ℕ) (ok : setUpNumber sh q ≡ 0) (p : List ℤ) (lo
           (λ i h. number-is m c g i (omega arith))
           ∙ sym (part-listed 16 (16 * g) (columnsOf x) (λ i. zigzag (stored q (x .band) (P (startAt x + i))))))
 
+    module _ (asked : Asked pl) where
+      good-small : (i : ℕ) → i < columnsOf x → zigzag (stored q (x .band) (P (startAt x + i))) < 2 ^ 28
+      good-small i h =
+          let e = kept-stored (x .band) q (P (startAt x + i)) (subst (λ v. natAbs v < 2 ^ 27) (row-at i h) (small (asked .0) i h)) in
+          omega (arith, e, kept-small (pick (eqb (code (x .band)) 0) 1 q) (P (startAt x + i)))
+
+      good-multiple : (i : ℕ) → i < columnsOf x → 0 < code (x .band) → P (startAt x + i) ≡ pos q *ℤ shrZ (P (startAt x + i)) q
+      unfolding rowDivides stepOf
+      good-multiple i h b =
+          let e = every-each (length (row pl)) (λ j. isMultiple (stepOf (saver pl 0 0 0 1)) (at (row pl) j)) (asked .1) i (omega (arith, row-length, h)) in
+          let step : pick (eqb (pl .band) 0) 1 q ≡ q = ap (λ t. pick t 1 q) (ne-eqb (pl .band) 0 (λ z. omega (arith, code-is, b, z))) in
+          multiple-of q (P (startAt x + i)) (pass .step .0) (ap₂ isMultiple (sym step) (sym (row-at i h)) ∙ e)
+
+      good : Good x
+      good = (good-small, good-multiple)
+
   -- ---- the bytes left of the file where a saver is
   abbrev header : List ℕ
   header = headerOf sh q
@@ -307,10 +331,10 @@ module _ (sh : Shape) (q : ℕ) (ok : setUpNumber sh q ≡ 0) (p : List ℤ) (lo
     head : (m : ℕ) → m < length header
         → Held (saver nowhere 0 m 0 0) (drop m header ++ (rowsOf (wanted sh) ++ check 0 (header ++ rowsOf (wanted sh))))
     group : (pl : Place) (x : RowName) (l : List RowName) (g m c : ℕ) (t : List ℕ) → o .Left pl (x ∷ l) → Wanted x l → c < prime
-        → 16 * g < columnsOf x → m < length (groupAt x g) → (0 < g + m → rowFits (saver pl 0 0 0 1) (row pl) ≡ true)
+        → 16 * g < columnsOf x → m < length (groupAt x g) → (0 < g + m → Asked pl) → GoodBut (x ∷ l)
         → groupsFrom x (g + 1) ++ rowsOf l ≡ t → Held (saver pl g m c 1) (drop m (groupAt x g) ++ (t ++ check c (groupAt x g ++ t)))
-    sum : (pl : Place) (m c : ℕ) → m < 4 → c < prime → Held (saver pl 0 m c 2) (drop m (bytesOf 4 c))
-    over : (pl : Place) → Held (saver pl 0 0 0 3) []
+    sum : (pl : Place) (m c : ℕ) → m < 4 → c < prime → GoodBut [] → Held (saver pl 0 m c 2) (drop m (bytesOf 4 c))
+    over : (pl : Place) → GoodBut [] → Held (saver pl 0 0 0 3) []
 
   numbers-length : (x : RowName) → length (numbersOf sh q P x) ≡ columnsOf x
   unfolding numbersOf
@@ -358,29 +382,29 @@ module _ (sh : Shape) (q : ℕ) (ok : setUpNumber sh q ≡ 0) (p : List ℤ) (lo
 
   -- at group g, nothing of it written
   at-group : (pl : Place) (x : RowName) (l : List RowName) (g c : ℕ) → o .Left pl (x ∷ l) → Wanted x l → c < prime → 16 * g < columnsOf x
-      → (0 < g → rowFits (saver pl 0 0 0 1) (row pl) ≡ true) → (r : List ℕ) → r ≡ groupsFrom x g ++ rowsOf l → Held (saver pl g 0 c 1) (r ++ check c r)
-  at-group pl x l g c left w cs h asked r e =
+      → (0 < g → Asked pl) → GoodBut (x ∷ l) → (r : List ℕ) → r ≡ groupsFrom x g ++ rowsOf l → Held (saver pl g 0 c 1) (r ++ check c r)
+  at-group pl x l g c left w cs h asked but r e =
       let t : List ℕ = groupsFrom x (g + 1) ++ rowsOf l in
       let f : r ≡ groupAt x g ++ t = e ∙ ap (λ u. u ++ rowsOf l) (groups-first x g h) ∙ append-assoc (groupAt x g) (groupsFrom x (g + 1)) (rowsOf l) in
       let z : g + 0 ≡ g = omega arith in
       subst (Held (saver pl g 0 c 1))
       (ap (λ u. u ++ (t ++ check c (groupAt x g ++ t))) (drop-0 (groupAt x g)) ∙ sym (append-assoc (groupAt x g) t (check c (groupAt x g ++ t)))
       ∙ ap (λ u. u ++ check c u) (sym f))
-      (group pl x l g 0 c t left w cs h (group-some x g) (λ k. asked (omega arith)) refl)
+      (group pl x l g 0 c t left w cs h (group-some x g) (λ k. asked (omega arith)) but refl)
 
   no-rows : (c : ℕ) → rowsOf [] ++ check c (rowsOf []) ≡ bytesOf 4 (c % prime)
   unfolding rowsBytes asNumber
   no-rows c = refl
 
   -- at the rows from a place on
-  at-rows : (pl : Place) (l : List RowName) (c : ℕ) → o .Left pl l → ((y : RowName) → 0 < times y l → 0 < times y (wanted sh)) → c < prime
+  at-rows : (pl : Place) (l : List RowName) (c : ℕ) → o .Left pl l → ((y : RowName) → 0 < times y l → 0 < times y (wanted sh)) → c < prime → GoodBut l
       → Held (saver pl 0 0 c (pick (eqb (pl .level) 0) 2 1)) (rowsOf l ++ check c (rowsOf l))
-  at-rows pl [] c left w cs =
+  at-rows pl [] c left w cs but =
       rw (eq-eqb (pl .level) 0 (o .over pl left))
-      (subst (Held (saver pl 0 0 c 2)) (drop-0 (bytesOf 4 c) ∙ ap (bytesOf 4) (sym (own c cs)) ∙ sym (no-rows c)) (sum pl 0 c (omega arith) cs))
-  at-rows pl (x ∷ l) c left w cs =
+      (subst (Held (saver pl 0 0 c 2)) (drop-0 (bytesOf 4 c) ∙ ap (bytesOf 4) (sym (own c cs)) ∙ sym (no-rows c)) (sum pl 0 c (omega arith) cs but))
+  at-rows pl (x ∷ l) c left w cs but =
       rw (ne-eqb (pl .level) 0 (λ e. omega (arith, o .some pl x l left)))
-      (at-group pl x l 0 c left w cs (omega (arith, keeps pl x l left w .columns)) (λ k. absurd (omega arith)) (rowsOf (x ∷ l)) (row-first x l))
+      (at-group pl x l 0 c left w cs (omega (arith, keeps pl x l left w .columns)) (λ k. absurd (omega arith)) but (rowsOf (x ∷ l)) (row-first x l))
 
   rest-is : (s : Saver) (r : List ℤ) → restOf s r ≡ drop (fromOf s r) (pieceOf s r)
   unfolding restOf
@@ -424,25 +448,23 @@ module _ (sh : Shape) (q : ℕ) (ok : setUpNumber sh q ≡ 0) (p : List ℤ) (lo
         )
       ]
 
-  -- the row that is begun is in its range
-  number-ranged : (s : Saver) (r : List ℤ) → rowNumber s r ≡ 0 → begins s ≡ true → rowFits s r ≡ true
+  -- the row that is begun is in its range, and divides
+  number-passed : (s : Saver) (r : List ℤ) → rowNumber s r ≡ 0 → begins s ≡ true → (rowFits s r ≡ true) × (rowDivides s r ≡ true)
   unfolding rowNumber
-  number-ranged s r e b = go (begins s) b (rowFits s r) refl e
+  number-passed s r e b = go (begins s) b (rowFits s r) refl (rowDivides s r) refl e
     where
-      go : (t : Bool) → t ≡ true → (u : Bool) → rowFits s r ≡ u → _≡_ {A = ℕ} (pick t (pick u (pick (rowDivides s r) 0 22) 7) 0) 0 → rowFits s r ≡ true
-      go true z true y x = y
-      go true z false y x = absurd (omega arith)
-      go false z u y x = let d : _≡_ {A = ℕ} 0 1 = absurd-bool z in absurd (omega arith)
-        where
-          absurd-bool : false ≡ true → _≡_ {A = ℕ} 0 1
-          absurd-bool w = ap (λ b. pick b 1 0) w
+      go : (t : Bool) → t ≡ true → (u : Bool) → rowFits s r ≡ u → (v : Bool) → rowDivides s r ≡ v → _≡_ {A = ℕ} (pick t (pick u (pick v 0 22) 7) 0) 0
+          → (rowFits s r ≡ true) × (rowDivides s r ≡ true)
+      go true z true y true w x = (y, w)
+      go true z true y false w x = absurd (omega arith)
+      go true z false y v w x = absurd (omega arith)
+      go false z u y v w x = let d : _≡_ {A = ℕ} 0 1 = ap (λ b. pick b 1 0) z in absurd (omega arith)
 
-  ranged-here : (pl : Place) (g m c : ℕ) → (0 < g + m → rowFits (saver pl 0 0 0 1) (row pl) ≡ true) → rowNumber (saver pl g m c 1) (row pl) ≡ 0
-      → rowFits (saver pl 0 0 0 1) (row pl) ≡ true
-  unfolding rowFits begins
-  ranged-here pl zero zero c asked e = number-ranged (saver pl 0 0 c 1) (row pl) e refl
-  ranged-here pl zero (suc m) c asked e = asked (omega arith)
-  ranged-here pl (suc g) m c asked e = asked (omega arith)
+  asked-here : (pl : Place) (g m c : ℕ) → (0 < g + m → Asked pl) → rowNumber (saver pl g m c 1) (row pl) ≡ 0 → Asked pl
+  unfolding rowFits rowDivides stepOf begins
+  asked-here pl zero zero c asked e = number-passed (saver pl 0 0 c 1) (row pl) e refl
+  asked-here pl zero (suc m) c asked e = asked (omega arith)
+  asked-here pl (suc g) m c asked e = asked (omega arith)
 
   held-on : (s : Saver) (t : List ℕ) (m : ℕ) → Held s t → s .phase < 3 → rowNumber s (rowOf s p) ≡ 0 → m ≤ length (restOf s (rowOf s p)) → Steps s m t
   held-on _ _ m (head k h) ph free n =
@@ -452,17 +474,17 @@ module _ (sh : Shape) (q : ℕ) (ok : setUpNumber sh q ≡ 0) (p : List ℤ) (lo
       (subst (λ v. Held v (rowsOf (wanted sh) ++ check 0 (header ++ rowsOf (wanted sh))))
       (at-row-is s (firstPlace sh) (asNumber 0 header % prime) ∙ on-head s (length (rowOf s p)) (asNumber 0 header % prime) refl)
       (subst (Held _) (ap (λ u. rowsOf (wanted sh) ++ u) (sym (check-on 0 header (rowsOf (wanted sh)))))
-      (at-rows (firstPlace sh) (wanted sh) (asNumber 0 header % prime) (o .first) (λ y z. z) (remains _))))
-  held-on _ _ m (group pl x l g k c t left w cs in-row h asked e) ph free n =
+      (at-rows (firstPlace sh) (wanted sh) (asNumber 0 header % prime) (o .first) (λ y z. z) (remains _) (λ y z. inl z))))
+  held-on _ _ m (group pl x l g k c t left w cs in-row h asked but e) ph free n =
       let s : Saver = saver pl g k c 1 in
-      let ranged = ranged-here pl g k c asked (ap (rowNumber s) (sym (row-is pl g k c 1)) ∙ free) in
+      let done : Asked pl = asked-here pl g k c asked (ap (rowNumber s) (sym (row-is pl g k c 1)) ∙ free) in
       let c′ : ℕ = asNumber c (groupAt x g) % prime in
       stepped s (rowOf s p) (groupAt x g) (t ++ check c (groupAt x g ++ t)) m
-      (ap (pieceOf s) (row-is pl g k c 1) ∙ piece-is pl x l left w ranged g k c) h n
-      (λ z. group pl x l g (k + m) c t left w cs in-row z (λ y. ranged) e)
+      (ap (pieceOf s) (row-is pl g k c 1) ∙ piece-is pl x l left w (done .0) g k c) h n
+      (λ z. group pl x l g (k + m) c t left w cs in-row z (λ y. done) but e)
       (subst (λ v. Held v (t ++ check c (groupAt x g ++ t))) (ap (λ r. onward s (length r) c′) (sym (row-is pl g k c 1)))
       (subst (Held _) (ap (λ u. t ++ u) (sym (check-on c (groupAt x g) t)))
-      (elim (decLt (16 * (g + 1)) (columnsOf x)) [ yes z ↦ more z ranged c′ (remains _) | no z ↦ last (omega (arith, z)) c′ (remains _) ])))
+      (elim (decLt (16 * (g + 1)) (columnsOf x)) [ yes z ↦ more z done c′ (remains _) | no z ↦ last (omega (arith, z)) done c′ (remains _) ])))
     where
       s : Saver
       s = saver pl g k c 1
@@ -470,29 +492,29 @@ module _ (sh : Shape) (q : ℕ) (ok : setUpNumber sh q ≡ 0) (p : List ℤ) (lo
       width : length (row pl) ≡ columnsOf x
       width = row-length pl x l left w
 
-      more : 16 * (g + 1) < columnsOf x → rowFits (saver pl 0 0 0 1) (row pl) ≡ true → (c′ : ℕ) → c′ < prime
+      more : 16 * (g + 1) < columnsOf x → Asked pl → (c′ : ℕ) → c′ < prime
           → Held (onward s (length (row pl)) c′) (t ++ check c′ t)
-      more z ranged c′ small =
+      more z done c′ small =
           subst (λ v. Held v (t ++ check c′ t))
           (group-more s (length (row pl)) c′ (omega (arith, width, z)) ∙ on-group s (length (row pl)) c′ (λ y. omega arith) refl)
-          (at-group pl x l (g + 1) c′ left w small z (λ y. ranged) t (sym e))
+          (at-group pl x l (g + 1) c′ left w small z (λ y. done) but t (sym e))
 
-      last : columnsOf x ≤ 16 * (g + 1) → (c′ : ℕ) → c′ < prime → Held (onward s (length (row pl)) c′) (t ++ check c′ t)
-      last z c′ small =
+      last : columnsOf x ≤ 16 * (g + 1) → Asked pl → (c′ : ℕ) → c′ < prime → Held (onward s (length (row pl)) c′) (t ++ check c′ t)
+      last z done c′ small =
           let end : t ≡ rowsOf l = sym e ∙ ap (λ u. u ++ rowsOf l) (groups-none x (g + 1) z) in
           subst (λ v. Held v (t ++ check c′ t))
           (at-row-is s (nextPlace sh pl) c′ ∙ group-last s (length (row pl)) c′ (omega (arith, width, z))
           ∙ on-group s (length (row pl)) c′ (λ y. omega arith) refl)
           (subst (λ u. Held (saver (nextPlace sh pl) 0 0 c′ (pick (eqb (nextPlace sh pl .level) 0) 2 1)) (u ++ check c′ u)) (sym end)
-          (at-rows (nextPlace sh pl) l c′ (o .next pl x l left .2) (later x l w) small))
-  held-on _ _ m (sum pl k c h cs) ph free n =
+          (at-rows (nextPlace sh pl) l c′ (o .next pl x l left .2) (later x l w) small (good-next x l but (good pl x l left w done))))
+  held-on _ _ m (sum pl k c h cs but) ph free n =
       let s : Saver = saver pl 0 k c 2 in
       let r = stepped s (rowOf s p) (bytesOf 4 c) [] m (sym (piece-sum s (rowOf s p) (λ y. omega arith) (λ y. omega arith)))
       (omega (arith, h, bytes-length 4 c)) n
-      (λ z. subst (Held _) (sym (append-nil _)) (sum pl (k + m) c (omega (arith, z, bytes-length 4 c)) cs))
-      (subst (λ v. Held v []) (on-sum s (length (rowOf s p)) _ (λ y. omega arith) (λ y. omega arith)) (over pl)) in
+      (λ z. subst (Held _) (sym (append-nil _)) (sum pl (k + m) c (omega (arith, z, bytes-length 4 c)) cs but))
+      (subst (λ v. Held v []) (on-sum s (length (rowOf s p)) _ (λ y. omega arith) (λ y. omega arith)) (over pl but)) in
       (r .0, r .1, r .2 ∙ append-nil _)
-  held-on _ _ m (over pl) ph free n = absurd (omega arith)
+  held-on _ _ m (over pl but) ph free n = absurd (omega arith)
 
   -- ---- so the bytes written are the first of the file, and at the end all of it
   begun : Held (fresh sh q) (fileOf sh q P)
@@ -510,14 +532,35 @@ module _ (sh : Shape) (q : ℕ) (ok : setUpNumber sh q ≡ 0) (p : List ℤ) (lo
       let u = held-on s (r .0) m (r .1) ph free n in
       (u .0, u .1, append-assoc b (take m (restOf s (rowOf s p))) (u .0) ∙ ap (λ l. b ++ l) (u .2) ∙ r .2)
 
-  over-none : (s : Saver) (t : List ℕ) → Held s t → 3 ≤ s .phase → t ≡ []
+  over-none : (s : Saver) (t : List ℕ) → Held s t → 3 ≤ s .phase → (t ≡ []) × GoodBut []
   over-none _ _ (head k h) z = absurd (omega arith)
-  over-none _ _ (group pl x l g k c t left w cs in-row h asked e) z = absurd (omega arith)
-  over-none _ _ (sum pl k c h cs) z = absurd (omega arith)
-  over-none _ _ (over pl) z = refl
+  over-none _ _ (group pl x l g k c t left w cs in-row h asked but e) z = absurd (omega arith)
+  over-none _ _ (sum pl k c h cs but) z = absurd (omega arith)
+  over-none _ _ (over pl but) z = (refl, but)
 
   pub saved : (b : List ℕ) (s : Saver) → Went p (fresh sh q) b s → (t : List ℕ) × (b ++ t ≡ fileOf sh q P) × (3 ≤ s .phase → t ≡ [])
-  saved b s w = let r = went-held b s w in (r .0, r .2, over-none s (r .0) (r .1))
+  saved b s w = let r = went-held b s w in (r .0, r .2, λ h. over-none s (r .0) (r .1) h .0)
+
+  -- and where it is over, the plane has a file
+  pub saved-fits : (b : List ℕ) (s : Saver) → Went p (fresh sh q) b s → 3 ≤ s .phase → sh .x < 65536 → sh .y < 65536 → Fits sh q P
+  unfolding times
+  saved-fits b s w end hx hy =
+      record {
+        step = pass .step .0;
+        levels = pass .deep .0;
+        across = hx;
+        down = hy;
+        width = omega (arith, pass .wide .1, width-small);
+        height = omega (arith, pass .high .1, height-small);
+        small = λ k b r i h. goods k b r h .0 i;
+        multiple = λ k b r i h. goods k b r h .1 i;
+      }
+    where
+      but : GoodBut []
+      but = let r = went-held b s w in over-none s (r .0) (r .1) end .1
+
+      goods : (k : ℕ) (b : Band) (r : ℕ) → Kept (columns sh) (rows sh) (sh .levels) k b r → Good (rowName k b r)
+      goods k b r h = ⊎-elim (λ z. absurd (omega arith)) (λ g. g) (but (rowName k b r) (kept-wanted sh (pass .deep .0) k b r h))
 
 -- ---- every list of calls
 went-more : {p : List ℤ} {s₀ s : Saver} {b : List ℕ} (c : List ℕ) (s′ : Saver) → Went p s₀ b s → Went p s c s′ → Went p s₀ (b ++ c) s′
@@ -525,7 +568,7 @@ went-more {p} {s₀} {s} {b} _ _ w here = subst (λ l. Went p s₀ l s) (sym (ap
 went-more {p} {s₀} {s} {b} _ _ w (on {b = c} {s = v} m x ph free some n) =
     subst (λ l. Went p s₀ l (moved v (rowOf v p) m)) (append-assoc b c (take m (restOf v (rowOf v p)))) (on m (went-more c v w x) ph free some n)
 
-take-0 : (l : List ℕ) → take 0 l ≡ []
+pub take-0 : (l : List ℕ) → take 0 l ≡ []
 take-0 [] = refl
 take-0 (x ∷ l) = refl
 
@@ -547,11 +590,16 @@ pub calls-saved : (sh : Shape) (q : ℕ) → setUpNumber sh q ≡ 0 → (p : Lis
     (b : List ℕ) (s : Saver) → Calls p (fresh sh q) b s → (t : List ℕ) × (b ++ t ≡ fileOf sh q (at p)) × (3 ≤ s .phase → t ≡ [])
 calls-saved sh q ok p long b s w = saved sh q ok p long b s (calls-went b s w)
 
+-- and then the plane has a file: the one that is written, and no other plane's (`file-told`)
+pub calls-fit : (sh : Shape) (q : ℕ) → setUpNumber sh q ≡ 0 → (p : List ℤ) → sh .width * sh .height ≤ length p →
+    (b : List ℕ) (s : Saver) → Calls p (fresh sh q) b s → 3 ≤ s .phase → sh .x < 65536 → sh .y < 65536 → Fits sh q (at p)
+calls-fit sh q ok p long b s w = saved-fits sh q ok p long b s (calls-went b s w)
+
 -- a call with room for a byte writes one, unless the file is over or the row that is to be begun is turned away
 some-length : (m : ℕ) (l : List ℕ) → 0 < m → m ≤ length l → 0 < length (take m l)
 some-length m l h n = omega (arith, length-take m l)
 
-nothing-written : {p : List ℤ} {s : Saver} (b : List ℕ) (s′ : Saver) → Went p s b s′ → length b ≡ 0 → s′ ≡ s
+pub nothing-written : {p : List ℤ} {s : Saver} (b : List ℕ) (s′ : Saver) → Went p s b s′ → length b ≡ 0 → s′ ≡ s
 nothing-written _ _ here e = refl
 nothing-written {p} _ _ (on {b = b} {s = v} m x ph free some n) e =
     absurd (omega (arith, length-append b (take m (restOf v (rowOf v p))), some-length m (restOf v (rowOf v p)) some n, e))

@@ -11,3 +11,7 @@ pub mod ValueLaws
 pub mod SaverLaws
 pub mod SaverAsks
 pub mod FileSaved
+pub mod SaverKeeps
+pub mod HeaderLaws
+pub mod HeaderTheorems
+pub mod SumLaws

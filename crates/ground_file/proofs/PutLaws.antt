@@ -24,7 +24,7 @@ unfolding holds
 below-holds w [] none = refl
 below-holds w (x ∷ l) (more h p) = rw (lt-ltb x (2 ^ w) h, below-holds w l p) refl
 
-width-most : (c : ℕ) → c ≤ 15 → widthOf c ≤ 28
+pub width-most : (c : ℕ) → c ≤ 15 → widthOf c ≤ 28
 width-most c h = elim (decLt 14 c) [ yes p ↦ omega (arith, width-28 c p) | no p ↦ omega (arith, up-14 c (omega arith)) ]
 
 -- ---- a part q of at most eight numbers, its code and its width as the code finds them

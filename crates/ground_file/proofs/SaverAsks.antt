@@ -24,7 +24,7 @@ use Rattle.ground_file.specs.File.{prime}
 use Rattle.ground_file.specs.Saving.{maxStep, plain, setUpNumber, saverFits, saveNumber, Inside, Ran, Saves}
 
 -- a question that is passed, and one that is not
-ask-passed : (t : Bool) (n r : ℕ) → 0 < n → pick t r n ≡ 0 → (t ≡ true) × (r ≡ 0)
+pub ask-passed : (t : Bool) (n r : ℕ) → 0 < n → pick t r n ≡ 0 → (t ≡ true) × (r ≡ 0)
 ask-passed true n r h e = (refl, e)
 ask-passed false n r h e = absurd (omega arith)
 
@@ -117,6 +117,16 @@ module _ (s : Shape) (q : ℕ) where
         deep = within-true 1 (filterOf (s .filter) .levels) (s .levels) (d .0);
         step = within-true 1 maxStep q (f .0);
       }
+
+pub passed-plain : (s : Shape) (q : ℕ) → setUpNumber s q ≡ 0 → plain s q ≡ true
+unfolding setUpNumber
+passed-plain s q e =
+    let a = ask-passed (Wide s q) 2 _ (omega arith) e in
+    let b = ask-passed (High s q) 3 _ (omega arith) (a .1) in
+    let c = ask-passed (Known s q) 18 _ (omega arith) (b .1) in
+    let d = ask-passed (Deep s q) 4 _ (omega arith) (c .1) in
+    let f = ask-passed (Stepped s q) 20 _ (omega arith) (d .1) in
+    ask-passed (plain s q) 22 0 (omega arith) (f .1) .0
 
 pub filter-few : (f : ℕ) → isFilter f ≡ true → f ≤ 1
 unfolding isFilter

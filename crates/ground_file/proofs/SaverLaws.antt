@@ -245,11 +245,11 @@ module _ (s : Saver) where
           ∙ moved-whole count (omega (arith, h, start-is, count-is, long))
 
 -- ---- a saver at work
-remains : (a : ℕ) → a % prime < prime
+pub remains : (a : ℕ) → a % prime < prime
 unfolding prime
 remains a = omega arith
 
-prime-some : 0 < prime
+pub prime-some : 0 < prime
 unfolding prime
 prime-some = omega arith
 

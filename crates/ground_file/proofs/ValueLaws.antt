@@ -3,9 +3,10 @@ use mathlib.Core.Path.{_≡_, refl, sym, ap, ap₂, _∙_}
 use mathlib.Core.Bool.{Bool, true, false, _&&_}
 use mathlib.Core.List.{List, [], _∷_, _++_}
 use Prim.Native.Nat.{ℕ, zero, suc, _+_, _*_, _-_, _/_, _%_, _^_, _≤_, _<_}
-use native.Mathlib.Nat.{mul-add-mod-self-right}
+use native.Mathlib.Nat.{mul-add-mod-self-right, mod-add-div, mod-lt, mul-le-mul-left, mul-suc}
 use native.Mathlib.Omega.{arith}
-use lib.IntN.{ℤ, pos, negsuc, natAbs, _+ℤ_, _-ℤ_}
+use native.Mathlib.Decide.{decLt}
+use lib.IntN.{ℤ, pos, negsuc, natAbs, negℤ, _+ℤ_, _-ℤ_, _*ℤ_}
 use lib.Signed.{mag, ltZ, shrZ, nonNeg}
 use lib.Dec.{T, ltb, eqb}
 use lib.ListN.{length, take, set, getD, length-set}
@@ -13,7 +14,7 @@ use lib.Seq.{take-suc, take-suc-set}
 use mir.Syntax.{w32}
 use mir.Val.{SFits, toZ, ofZ}
 use mir.ValLaws.{toZ-ofZ}
-use borrow.Author.Tests.{ltb-true, ltb-false, lt-ltb}
+use borrow.Author.Tests.{ltb-true, ltb-false, lt-ltb, eqb-true}
 use Rattle.numbers.specs.Signal.{at, pick, both}
 use Rattle.numbers.specs.Tests.{every}
 use Rattle.numbers.proofs.Integers.{each, lin, dif-natAbs}
@@ -108,6 +109,26 @@ kept-is q (pos n) h = omega arith
 kept-is q (negsuc n) h = omega arith
 
 -- ---- a list filled from the front
+-- a value that is a multiple of the step is the step times its quotient
+times-back : (n q : ℕ) → 1 ≤ q → n % q ≡ 0 → q * (n / q) ≡ n
+times-back n q h e = omega (arith, mod-add-div n q, e)
+
+next-quotient : (n q : ℕ) → 1 ≤ q → (n + 1) % q ≡ 0 → q * suc (n / q) ≡ suc n
+next-quotient n q h e =
+    let a : q * ((n + 1) / q) ≡ n + 1 = times-back (n + 1) q h e in
+    let b = mod-add-div n q in
+    let r : n % q < q = mod-lt n h in
+    elim (decLt (n / q) ((n + 1) / q)) [
+      | yes l ↦ (let m : q * suc (n / q) ≤ q * ((n + 1) / q) = mul-le-mul-left q (omega arith) in omega (arith, mul-suc q (n / q), m, a, b, r))
+      | no l ↦ (let m : q * ((n + 1) / q) ≤ q * (n / q) = mul-le-mul-left q (omega (arith, l)) in omega (arith, m, a, b))
+    ]
+
+pub multiple-of : (q : ℕ) (v : ℤ) → 1 ≤ q → isMultiple q v ≡ true → v ≡ pos q *ℤ shrZ v q
+unfolding isMultiple signOf
+multiple-of q (pos n) h e =
+    ap pos (sym (times-back n q h (ap (λ k. k % q) (omega arith) ∙ eqb-true _ _ e)))
+multiple-of q (negsuc n) h e = ap (λ k. negℤ (pos k)) (sym (next-quotient n q h (eqb-true _ _ e)))
+
 pub listed-more : (n : ℕ) (x : ℕ → ℕ) → listed (suc n) x ≡ listed n x ++ (x n ∷ [])
 unfolding listed
 listed-more zero x = refl
@@ -162,6 +183,21 @@ unfolding prime
 rest-of a b =
     let e : 256 * a + b ≡ 256 * (a / prime) * prime + (256 * (a % prime) + b) = omega arith in
     sym (ap (λ n. n % prime) e ∙ mul-add-mod-self-right (256 * (a / prime)) prime (256 * (a % prime) + b))
+
+-- of two stretches
+pub number-append : (n : ℕ) (l m : List ℕ) → asNumber n (l ++ m) ≡ asNumber (asNumber n l) m
+unfolding asNumber
+number-append n [] m = refl
+number-append n (b ∷ l) m = number-append (256 * n + b) l m
+
+pub number-rest : (n : ℕ) (l : List ℕ) → asNumber (n % prime) l % prime ≡ asNumber n l % prime
+unfolding asNumber
+number-rest n [] = twice n
+  where
+    twice : (n : ℕ) → n % prime % prime ≡ n % prime
+    twice n = unfold prime in omega arith
+number-rest n (b ∷ l) =
+    sym (number-rest (256 * (n % prime) + b) l) ∙ ap (λ k. asNumber k l % prime) (rest-of n b) ∙ number-rest (256 * n + b) l
 
 pub sum-more : (sum : ℕ) (l : List ℕ) (i r b : ℕ) → i < length l → r ≡ asNumber sum (take i l) % prime → b ≡ getD l i 0 →
     (256 * r + b) % prime ≡ asNumber sum (take (i + 1) l) % prime

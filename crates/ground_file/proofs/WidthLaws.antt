@@ -162,10 +162,19 @@ code-bits m b p q =
     half w h = let d : 2 ^ (w + 1) ≤ 2 ^ b = pow-mono (omega arith) in omega (arith, d, q, pow-add 2 w 1)
 
 -- ---- the largest number, from the last on
-drop-first : (l : List ℕ) (j : ℕ) → j < length l → drop j l ≡ getD l j 0 ∷ drop (j + 1) l
+pub drop-first : (l : List ℕ) (j : ℕ) → j < length l → drop j l ≡ getD l j 0 ∷ drop (j + 1) l
 drop-first [] j h = absurd (omega arith)
 drop-first (x ∷ l) zero h = refl
 drop-first (x ∷ l) (suc j) h = let e : suc j + 1 ≡ suc (j + 1) = omega arith in rw e (drop-first l j (omega arith))
+
+-- the n numbers from `from` on, from the one before number i on
+pub part-back : (l : List ℕ) (from n i : ℕ) → from + n ≤ length l → i ≤ n → 0 < i
+    → take (n - (i - 1)) (drop (from + (i - 1)) l) ≡ getD l (from + (i - 1)) 0 ∷ take (n - i) (drop (from + i) l)
+part-back l from n i there some h =
+    let e : n - (i - 1) ≡ suc (n - i) = omega arith in
+    let f : from + (i - 1) + 1 ≡ from + i = omega arith in
+    rw e (ap (take (suc (n - i))) (drop-first l (from + (i - 1)) (omega arith))
+    ∙ ap (λ k. getD l (from + (i - 1)) 0 ∷ take (n - i) (drop k l)) f)
 
 pub record Seen (numbers : List ℕ) (from n most i : ℕ) : Type 0 where
   pub there : from + n ≤ length numbers
@@ -181,11 +190,7 @@ seen-start {numbers} {from} {n} h s =
 
 module _ {numbers : List ℕ} {from n most i : ℕ} (s : Seen numbers from n most i) (h : 0 < i) (x : ℕ) (is : x ≡ getD numbers (from + (i - 1)) 0) where
   list-is : take (n - (i - 1)) (drop (from + (i - 1)) numbers) ≡ x ∷ take (n - i) (drop (from + i) numbers)
-  list-is =
-      let e : n - (i - 1) ≡ suc (n - i) = omega (arith, s .some) in
-      let f : from + (i - 1) + 1 ≡ from + i = omega arith in
-      rw e (ap (take (suc (n - i))) (drop-first numbers (from + (i - 1)) (omega (arith, s .there, s .some)))
-      ∙ ap₂ (λ v k. v ∷ take (n - i) (drop k numbers)) (sym is) f)
+  list-is = part-back numbers from n i (s .there) (s .some) h ∙ ap (λ v. v ∷ take (n - i) (drop (from + i) numbers)) (sym is)
 
   pub seen-more : most < x → Seen numbers from n x (i - 1)
   unfolding largestOf

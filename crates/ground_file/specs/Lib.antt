@@ -5,3 +5,4 @@ pub mod Samples
 pub mod Local
 pub mod Values
 pub mod Saving
+pub mod Header

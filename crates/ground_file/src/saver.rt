@@ -199,6 +199,9 @@ fn stop_of(s: Saver, plane: &[i32], at: usize, room: usize) -> u8
     if 3 <= s.phase {
         return 1;
     }
+    if !is_first(s) {
+        return 0;
+    }
     row_question(s, row_of(s, plane))
 }
 

@@ -1,13 +1,18 @@
 -- What is packed into a state array is what is unpacked from it, and the array is one of its kind: a call finds what the call before it left. Assumes nothing.
-use mathlib.Core.Path.{_≡_, refl, ap}
+use mathlib.Core.Path.{_≡_, refl, ap, ap₂, _∙_}
 use mathlib.Core.Bool.{Bool, true, false}
+use Prim.Native.Nat.{ℕ, _%_, _<_}
+use native.Mathlib.Omega.{arith}
 use lib.Dec.{eqb}
+use borrow.Author.Tests.{le-leb}
 use Rattle.writer.specs.declared.Writer.{Writer}
 use Rattle.reader.specs.declared.Reader.{Reader}
 use Rattle.turns.specs.declared.Turns.{Turns}
-use Rattle.states.specs.States.{flag, zeroNext, zeroFrom, isState}
+use Rattle.states.specs.States.{flag, zeroNext, zeroTo, isState}
 use Rattle.states.specs.WriterState.{isWriter, writerOf, writerWords}
 use Rattle.states.specs.ReaderState.{isReader, readerOf, readerWords}
+use Rattle.ground_file.specs.declared.saver.Saver.{Saver}
+use Rattle.states.specs.SaverState.{isSaver, saverOf, saverWords}
 use Rattle.states.specs.TurnsState.{isTurns, turnsOf, turnsWords}
 
 flag-back : (b : Bool) → eqb (flag b) 1 ≡ b
@@ -35,7 +40,7 @@ writer-back w =
     (flag-back (w .finished))
 
 pub writer-is : (w : Writer) → isWriter (writerWords w) ≡ true
-unfolding isState zeroFrom zeroNext
+unfolding isState zeroTo zeroNext
 writer-is w = go (w .finished) refl
   where
     go : (b : Bool) → w .finished ≡ b → isWriter (writerWords w) ≡ true
@@ -65,7 +70,7 @@ reader-back r =
     (flag-back (r .ended))
 
 pub reader-is : (r : Reader) → isReader (readerWords r) ≡ true
-unfolding isState zeroFrom zeroNext
+unfolding isState zeroTo zeroNext
 reader-is r = go (r .ended) refl
   where
     go : (b : Bool) → r .ended ≡ b → isReader (readerWords r) ≡ true
@@ -79,3 +84,28 @@ turns-back t = refl
 pub turns-is : (t : Turns) → isTurns (turnsWords t) ≡ true
 unfolding isTurns
 turns-is t = refl
+
+-- ---- a saver; of its shape x and y are of 16 bits and the filter of 32, as the structure has them
+pub saver-back : (s : Saver) → s .shape .x < 65536 → s .shape .y < 65536 → s .shape .filter < 4294967296 → saverOf (saverWords s) ≡ s
+saver-back s hx hy hf = of (omega arith) (omega arith) (omega arith)
+  where
+    with : ℕ → ℕ → ℕ → Saver
+    with x y f = record {
+      shape = record { width = s .shape .width; height = s .shape .height; levels = s .shape .levels; x = x; y = y; filter = f };
+      step = s .step;
+      place = s .place;
+      group = s .group;
+      part = s .part;
+      sum = s .sum;
+      phase = s .phase;
+    }
+
+    of : s .shape .x % 65536 ≡ s .shape .x → s .shape .y % 65536 ≡ s .shape .y → s .shape .filter % 4294967296 ≡ s .shape .filter → saverOf (saverWords s) ≡ s
+    of a b e = ap₂ (λ x y. with x y (s .shape .filter % 4294967296)) a b ∙ ap (with (s .shape .x) (s .shape .y)) e
+
+pub saver-is : (s : Saver) → s .shape .x < 65536 → s .shape .y < 65536 → s .shape .filter < 4294967296 → isSaver (saverWords s) ≡ true
+unfolding isSaver zeroTo zeroNext
+saver-is s hx hy hf =
+    rw
+    (le-leb (s .shape .x) 65535 (omega arith), le-leb (s .shape .y) 65535 (omega arith), le-leb (s .shape .filter) 4294967295 (omega arith))
+    refl

@@ -4,3 +4,4 @@ pub mod WriterAnswers
 pub mod ReaderState
 pub mod ReaderAnswers
 pub mod TurnsState
+pub mod SaverState

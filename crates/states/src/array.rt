@@ -1,7 +1,7 @@
-// What the state arrays of writer and reader share: sixteen numbers of the caller's, a kind, the counts, and 0 in the rest.
+// What the state arrays share: the caller's numbers, sixteen for writer and reader, thirty-two for a saver: a kind, the counts, and 0 in the rest.
 ghost use mathlib.Core.Path.{_≡_};
 ghost use lib.ListN.{length};
-ghost use Rattle.states.specs.States.{flag, zeroFrom};
+ghost use Rattle.states.specs.States.{flag, zeroFrom, zeroTo};
 
 // Is every number 0 from place `from` on? All are looked at: the compiler then tests them together.
 pub fn zero_from(s: &[u64; 16], from: usize) -> bool
@@ -10,6 +10,21 @@ pub fn zero_from(s: &[u64; 16], from: usize) -> bool
     let mut zero = true;
     let mut i = from;
     while i < 16 {
+        if s[i] != 0 {
+            zero = false;
+        }
+        i += 1;
+    }
+    zero
+}
+
+// The same of thirty-two numbers.
+pub fn long_zero_from(s: &[u64; 32], from: usize) -> bool
+    ensures { λ r. ⌜ r ≡ zeroTo 32 from (now (s .entry)) ⌝ }
+{
+    let mut zero = true;
+    let mut i = from;
+    while i < 32 {
         if s[i] != 0 {
             zero = false;
         }

@@ -11,7 +11,7 @@ pub pick-no : {A : Type 0} (t : Bool) (a b : A) → t ≡ false → pick t a b �
 pick-no t a b e = rw e refl
 
 -- b is what the code asked of it, `is` what that says; the code goes by `not b`
-not-no : (b : Bool) → not b ≡ false → b ≡ true
+pub not-no : (b : Bool) → not b ≡ false → b ≡ true
 not-no true e = refl
 not-no false e = let z : _≡_ {A = ℕ} 0 1 = cc in absurd (omega arith)
 

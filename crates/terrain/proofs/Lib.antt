@@ -8,3 +8,4 @@ pub mod ReaderListsHold
 pub mod TolerantListsHold
 pub mod StopListsHold
 pub mod RoundTripsHold
+pub mod SaverLaws

@@ -16,7 +16,7 @@ use Rattle.reader.specs.State.{drawDue, fedReader, drawnReader, endedReader}
 use Rattle.reader.specs.Calls as levels
 use Rattle.reader.specs.Last as last
 use Rattle.reader.specs.Reading.{by, feedQuestion, drawQuestion, feedReply, drawReply}
-use Rattle.states.specs.States.{flag, zeroNext, zeroFrom, isState}
+use Rattle.states.specs.States.{flag, zeroNext, zeroTo, isState}
 use Rattle.states.specs.ReaderState.{isReader, readerOf, movedWords, readerWords}
 use Rattle.states.specs.ReaderAnswers.{fedWords, handedWords}
 use Rattle.terrain.specs.ReaderCalls.{feeding, stateOf, drawing, stateDrawn}
@@ -28,7 +28,7 @@ record Fixed (s : List ℕ) : Type 0 where
   fifteen : getD s 15 0 ≡ 0
 
 fixed : (s : List ℕ) → isReader s ≡ true → Fixed s
-unfolding isState zeroFrom zeroNext
+unfolding isState zeroTo zeroNext
 fixed s h =
     let a = sweep.both (eqb (getD s 0 0) 2) _ h in
     let b = sweep.both (leb (getD s 7 0) 1) _ (a .1) in

@@ -14,7 +14,7 @@ use Rattle.calls.specs.Lists.{Reply, gives, refused}
 use Rattle.level.specs.Level.{Memory}
 use Rattle.writer.specs.declared.Writer.{Writer}
 use Rattle.writer.specs.Answers.{Took, Handed, aRow, nothing}
-use Rattle.states.specs.States.{flag, zeroNext, zeroFrom, isState}
+use Rattle.states.specs.States.{flag, zeroNext, zeroTo, isState}
 use Rattle.states.specs.WriterState.{isWriter, writerOf, offeredWords, drawnWords, writerWords}
 use Rattle.states.specs.WriterAnswers.{tookWords, handedWords}
 use Rattle.terrain.specs.WriterCalls.{offered, stateTook, drawn, stateHanded}
@@ -64,7 +64,7 @@ record Fixed (s : List ℕ) : Type 0 where
   fifteen : getD s 15 0 ≡ 0
 
 fixed : (s : List ℕ) → isWriter s ≡ true → Fixed s
-unfolding isState zeroFrom zeroNext
+unfolding isState zeroTo zeroNext
 fixed s h =
     let a = sweep.both (eqb (getD s 0 0) 1) _ h in
     let b = sweep.both (leb (getD s 5 0) 1) _ (a .1) in

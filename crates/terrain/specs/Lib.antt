@@ -9,3 +9,4 @@ pub mod Version
 pub mod TurnsCalls
 pub mod TurnsLists
 pub mod RoundTrips
+pub mod SaverCalls

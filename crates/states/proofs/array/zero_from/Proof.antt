@@ -37,14 +37,14 @@ loop-again c =
     let a = c .before .before .before .before .args in
     l .inv
     ∙ ⊎-elim
-    (λ w. zero-lost (a .s .now) (l .i) (l .zero) _ (omega arith) (w .0 .taken) (w .1))
-    (λ w. zero-same (a .s .now) (l .i) (l .zero) _ (omega arith) (w .0 .left) (w .1))
+    (λ w. zero-lost 16 (a .s .now) (l .i) (l .zero) _ (omega arith) (w .0 .taken) (w .1))
+    (λ w. zero-same 16 (a .s .now) (l .i) (l .zero) _ (omega arith) (w .0 .left) (w .1))
     (c .if1 .came)
 
 returns : tie.Need-returns Inv-loop μ-loop
 returns c =
     let l = c .before .loop in
-    sym (l .inv ∙ zero-end (c .before .before .args .s .now) (l .i) (l .zero) (omega arith))
+    sym (l .inv ∙ zero-end 16 (c .before .before .args .s .now) (l .i) (l .zero) (omega arith))
 
 pub zero-from-spec : {M : Type 1} → statement M
 zero-from-spec =
