@@ -1,8 +1,7 @@
 -- The calls, case by case: the number, the answer and what stands in each area. Assumes nothing.
-use mathlib.Core.Path.{_≡_, refl, sym, ap, subst, _∙_, fun-ext}
+use mathlib.Core.Path.{_≡_, refl, sym, ap, _∙_, fun-ext}
 use mathlib.Core.List.{List, [], _∷_}
 use mathlib.Core.Bool.{Bool, true, false, not}
-use Prim.Native.Nat.{zero-le}
 use Prim.Native.Nat.{ℕ, suc, _+_, _-_, _*_, _%_, _≤_, _<_, _^_}
 use native.Mathlib.Decide.{decLt}
 use native.Mathlib.Omega.{arith}
@@ -30,13 +29,14 @@ use Rattle.synthesis.specs.Back.{rowPlaceOf}
 use Rattle.synthesis.proofs.BackLaws.{back-made}
 use Rattle.filters.proofs.FigureLaws.{row-few}
 use Rattle.reader.specs.declared.Reader.{Reader}
-use Rattle.reader.specs.declared.walk.Spot.{Spot}
+use Rattle.reader_steps.specs.declared.places.Spot.{Spot}
 use Rattle.reader.specs.Limited.{shown}
 use Rattle.reader.specs.Answers.{gives, refused, impossible, Want, row, drawNow, done, ended, aRow, nothing}
 use Rattle.level.specs.Tried.{Tried, failed, passed, fits, memory}
 use Rattle.level.specs.Stretch.{local}
 use Rattle.reader.specs.Store.{zeroed}
 use Rattle.reader_steps.specs.Places.{spot, placeOf, descend, enter, spotFed}
+use Rattle.reader_steps.specs.Places as machine
 use Rattle.reader.specs.State.{columns, rows, needs, next, nextRow, nextLength, unfinished, rowDue, drawDue, wants, settles, feeds, movedTo}
 use Rattle.reader.specs.State.{fedReader, drawnReader, endedReader}
 use Rattle.reader.specs.Questions.{countsFit, storeFits, runFits, wantQuestion, feedQuestion, drawQuestion}
@@ -45,7 +45,8 @@ use Rattle.reader.specs.Calls.{storeAfter, feedStore, drawReply, drawSto
 use Rattle.reader.specs.Inside.{Is, Small, Counts, storeQuestion, rowQuestion}
 use Rattle.level.specs.Rebuilding.{Kept, widest}
 use Rattle.areas.proofs.AreaLaws.{front-at, front-rest, did}
-use Rattle.reader.proofs.EnterLaws.{descend-level}
+use Rattle.reader_steps.proofs.EnterLaws.{descend-level}
+use Rattle.reader.proofs.WalkLaws.{is-spot}
 use Rattle.reader.proofs.QuestionLaws.{counts-small}
 use Rattle.reader.proofs.StepLaws.{spot-of, next-draw}
 
@@ -288,24 +289,21 @@ drawn-row s a k l z u ea ek room made =
     ∙ ap (λ (f : ℕ → ℤ). fronted W (λ c. shown (s .stop) (f c)) z) (sym (back-made (s .filter) (columns s) (s .y) (s .drawn) (at l)))
 
 -- where a height row begins, from level 0 on
-pub enter-is : (f : ℕ) (W H : Side) (L d : ℕ) (p : Spot) → Is (descend f (L - 0) 0 W H d d) p → Is (enter f W H L d) p
+pub enter-is : (f : ℕ) (W H : Side) (L d : ℕ) (p : Spot) → spot (p .level) (p .set) (p .band) ≡ descend f (L - 0) 0 W H d d → Is (enter f W H L d) p
 unfolding enter
-enter-is f W H L d p is = let z : L - 0 ≡ L = omega arith in subst (λ (m : ℕ). Is (descend f m 0 W H d d) p) z is
+enter-is f W H L d p e = let z : L - 0 ≡ L = omega arith in is-spot _ p (e ∙ ap (λ (m : ℕ). descend f m 0 W H d d) z)
 
 -- ---- a height row handed out: its counts, where the next begins, its place a in a store of n numbers, and the heights
 module _ (s : Reader) (counts : Counts s) (due : s .drawn < s .height) where
   pub row-counts : Fits w64 (s .y % 2 + s .drawn) × (s .drawn < 2 ^ 32)
   row-counts = let small = counts-small s counts .2 in (omega arith, omega arith)
 
-  pub row-after : (d : ℕ) → d ≤ s .height → (0 ≤ s .levels) × (s .levels ≤ maxLevels) × (s .width ≤ 2 ^ 16) × (s .height < 2 ^ 32) × (d ≤ 2 ^ 34)
-  row-after d more = let small = counts-small s counts in (zero-le, counts .few, small .0, small .2, omega (arith, small .2))
-
-  pub row-moves : (d : ℕ) (p : Spot) → d ≤ s .height → Is (descend (s .filter) (s .levels - 0) 0 (columns s) (rows s) d d) p →
+  pub row-moves : (d : ℕ) (p : Spot) → d ≤ s .height → spot (p .level) (p .set) (p .band) ≡ descend (s .filter) (s .levels - 0) 0 (columns s) (rows s) d d →
       Small (columns s) (rows s) d × (p .level ≤ maxLevels)
-  row-moves d p more is =
+  row-moves d p more e =
       let small = counts-small s counts in
       let deep = descend-level (s .filter) (s .levels - 0) 0 (columns s) (rows s) d d in
-      ((small .0, small .1, small .2, small .3, more), omega (arith, deep, is .level, counts .few))
+      ((small .0, small .1, small .2, small .3, more), omega (arith, deep, ap (λ (q : machine.Spot). q .level) e, counts .few))
 
   module _ (n a : ℕ) (room : storeBy (s .filter) (columns s) (s .levels) ≤ n) (fit : a + s .width ≤ filterOf (s .filter) .rows * s .width) where
     pub row-places : Fits w64 (a + s .width) × Fits w64 (a * 4) × (a ≤ a + s .width) × (a + s .width ≤ n)

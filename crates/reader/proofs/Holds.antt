@@ -26,11 +26,11 @@ use Rattle.reader_steps.specs.Sets.{ahead, hasRow, rowOf, taking, needed, first
 use Rattle.reader_steps.specs.Asked.{keptAt, asked, bandsFrom, those, look, firstCode, nextBand, named}
 use Rattle.reader.specs.Admission.{workBy, gridBy, fitsBy, standsBy}
 use Rattle.reader.specs.Rebuilt.{Rows, bandsBy, rebuilt, bandsAt, partAt, SetFits, SetsFit}
-use Rattle.reader_steps.specs.Places.{Ready, hasCells, Spot, spot, bandAt, lastOfSet, nextUp, past, beyond, descend, begins, enter}
+use Rattle.reader_steps.specs.Places.{Ready, hasCells, hasSet, Spot, spot, bandAt, lastOfSet, nextUp, past, beyond, descend, begins, enter}
 use Rattle.reader.specs.Holds.{Tested, M, FeedDue}
 use Rattle.level.specs.Tried.{Tried, passed, bind, onto}
 use Rattle.level.specs.Stands.{SetHasBy, SetFitsBy}
-use Rattle.reader.specs.Store.{stretchAt, from, behind, fedAt, workedAt, hasSet}
+use Rattle.reader.specs.Store.{stretchAt, from, behind, fedAt, workedAt}
 use Rattle.reader.specs.Machine.{settled, finished, fedOn}
 use Rattle.reader_steps.proofs.Looks.{named-code, code-lt, first-le}
 use Rattle.reader_steps.proofs.OpenedSets.{last-is, first-low, low-is, side-long, odd-first, makes-yes, makes-not, row-makes, row-next, opens-yes}

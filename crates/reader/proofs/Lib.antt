@@ -1,7 +1,5 @@
 pub mod LimitedLaws
 pub mod RangeLaws
-pub mod SetLaws
-pub mod BandLaws
 pub mod StoreLaws
 pub mod AdmissionLaws
 pub mod PartLaws

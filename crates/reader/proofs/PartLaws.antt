@@ -37,9 +37,9 @@ use Rattle.filters.proofs.FigureLaws.{levels-most}
 use Rattle.filters.specs.Figures.{storeBy}
 use Rattle.reader.specs.declared.walk.Level.{Level}
 use Rattle.reader_steps.specs.Asked.{named}
-use Rattle.reader_steps.specs.Places.{hasCells}
+use Rattle.reader_steps.specs.Places.{hasCells, hasSet}
 use Rattle.reader.specs.Admission.{workBy}
-use Rattle.reader.specs.Store.{stretchAt, from, behind, fedAt, workedAt, hasSet}
+use Rattle.reader.specs.Store.{stretchAt, from, behind, fedAt, workedAt}
 use Rattle.reader.specs.Inside.{IsLevel}
 use Rattle.reader.proofs.StoreLaws.{stretch-suc, stretch-in, stretch-is, stretch-small}
 use Rattle.reader_steps.proofs.CellLaws.{cells-are}

@@ -1,7 +1,7 @@
 -- The steps of a reader: the row wanted, a row fed, the place after it. Assumes nothing.
 use mathlib.Core.Bool.{Bool, true, false}
 use mathlib.Core.Path.{ap₂, _≡_, refl, sym, ap, subst, _∙_}
-use Prim.Native.Nat.{ℕ, zero, suc, _+_, _-_, _≤_, _<_, _^_}
+use Prim.Native.Nat.{ℕ, zero, suc, _+_, _-_, _≤_, _<_}
 use mir.Syntax.{w64}
 use mir.Val.{Fits}
 use Rattle.wavelet.specs.Limits.{maxLevels}
@@ -20,7 +20,7 @@ use Rattle.wavelet.specs.Order.{firstSet, setRow}
 use Rattle.wavelet.specs.View.{bandColumns}
 use Rattle.reader.specs.declared.Reader.{Reader}
 use Rattle.reader.specs.declared.walk.Level.{Level}
-use Rattle.reader.specs.declared.walk.Spot.{Spot}
+use Rattle.reader_steps.specs.declared.places.Spot.{Spot}
 use Rattle.reader_steps.specs.Sets.{hasRow, rowOf, taking, firstRow, makes, waiting}
 use Rattle.reader_steps.specs.Asked.{named}
 use Rattle.level.specs.Tried.{failed, passed}
@@ -31,10 +31,8 @@ use Rattle.reader_steps.specs.Places as machine
 use Rattle.reader.specs.State.{columns, rows, spotNow, next, nextRow, nextLength, settles, feeds}
 use Rattle.reader.specs.declared.walk.Next.{Next}
 use Rattle.reader.specs.Inside.{Counts, IsLevel, Is, IsNext}
-use Rattle.wavelet.proofs.SideLaws.{size-le}
-use Rattle.reader.proofs.QuestionLaws.{counts-small}
 use Rattle.level.proofs.WorkLaws.{bind-failed, bind-passed}
-use Rattle.reader.proofs.EnterLaws.{descend-level}
+use Rattle.reader_steps.proofs.EnterLaws.{descend-level}
 use Rattle.reader.proofs.PartLaws.{level-wide, level-high}
 
 pub spot-of : (q : machine.Spot) (p : Spot) → Is q p → spot (p .level) (p .set) (p .band) ≡ q
@@ -152,15 +150,6 @@ begins-at f W H L d zero n l h is = absurd (omega arith)
 begins-at f W H L d (suc k) n l h is =
     let z : suc k - 1 ≡ k = omega arith in
     rw (level-wide f W H d (suc k - 1) l is, level-high f W H d (suc k - 1) l is, z) refl
-
--- ---- a level is no larger than the map
-pub level-small : (s : Reader) → Counts s → (k : ℕ) (l : Level) → IsLevel (s .filter) (columns s) (rows s) (s .drawn) k l →
-    (l .width ≤ 2 ^ 16) × (l .height < 2 ^ 32)
-level-small s c k l is =
-    let m = counts-small s c in (
-      omega (arith, is .width, size-le k (columns s), m .0),
-      omega (arith, is .height, size-le k (rows s), m .2),
-    )
 
 -- ---- the place after a row is of one of the levels
 begins-level : (f : ℕ) (W H : Side) (L k n : ℕ) → k < L → begins f W H L (suc k) n .level ≤ L

@@ -16,8 +16,8 @@ use Rattle.reader.specs.declared.Reader.{Reader}
 use Rattle.reader_steps.specs.Sets.{waiting}
 use Rattle.level.specs.Tried.{Tried, passed, bind, onto, memory}
 use Rattle.reader.specs.Admission.{workBy}
-use Rattle.reader.specs.Store.{stretchAt, from, behind, zeroed, hasSet, fedAt, workedAt}
-use Rattle.reader_steps.specs.Places.{lastOfSet}
+use Rattle.reader.specs.Store.{stretchAt, from, behind, zeroed, fedAt, workedAt}
+use Rattle.reader_steps.specs.Places.{hasSet, lastOfSet}
 use Rattle.reader.specs.Machine.{settled, finished, fedOn}
 use Rattle.reader.specs.State.{columns, rows, needs, spotNow, next, settles, feeds, drawDue}
 use Rattle.reader.specs.Questions.{setUpQuestion, feedQuestion, drawQuestion}

@@ -14,11 +14,11 @@ use Rattle.wavelet.specs.Levels.{next, sideAt}
 use Rattle.wavelet.specs.Order.{lastSet}
 use Rattle.level.specs.Tried.{Tried, passed, failed, onto, fits}
 use Rattle.reader_steps.specs.Sets.{waiting}
-use Rattle.reader_steps.specs.Places.{hasCells, lastOfSet}
+use Rattle.reader_steps.specs.Places.{hasCells, hasSet, lastOfSet}
 use Rattle.reader_steps.proofs.CellLaws.{cells-are}
 use Rattle.reader.specs.declared.Reader.{Reader}
 use Rattle.reader.specs.Admission.{workBy, Admits}
-use Rattle.reader.specs.Store.{stretchAt, from, behind, fedAt, hasSet, workedAt}
+use Rattle.reader.specs.Store.{stretchAt, from, behind, fedAt, workedAt}
 use Rattle.reader.specs.Machine.{settled, finished, fedOn}
 use Rattle.reader.specs.State as state
 use Rattle.reader.specs.State.{columns, rows, spotNow, settles, feeds}

@@ -11,7 +11,7 @@ use Rattle.lifting.specs.Grid.{Side, side}
 use Rattle.level.specs.Tried.{failed, passed}
 use Rattle.level.proofs.WorkLaws.{bind-failed, bind-passed}
 use Rattle.reader.specs.declared.walk.Level.{Level}
-use Rattle.reader.specs.declared.walk.Spot.{Spot}
+use Rattle.reader_steps.specs.declared.places.Spot.{Spot}
 use Rattle.reader.specs.declared.walk.Next.{Next}
 use Rattle.reader_steps.specs.Sets.{waiting}
 use Rattle.reader_steps.specs.Asked.{nextBand}

@@ -11,7 +11,7 @@ use Rattle.wavelet.specs.Levels.{sideAt}
 use Rattle.wavelet.specs.Questions.{ask}
 use Rattle.reader.specs.declared.Reader.{Reader}
 use Rattle.reader.specs.declared.walk.Level.{Level}
-use Rattle.reader.specs.declared.walk.Spot.{Spot}
+use Rattle.reader_steps.specs.declared.places.Spot.{Spot}
 use Rattle.reader.specs.declared.walk.Next.{Next}
 use Rattle.reader_steps.specs.Sets.{ahead, needed}
 use Rattle.reader.specs.Store.{stretchAt}

@@ -1,18 +1,16 @@
 -- The line store: the levels' memories one after another, level 1 first, each what the level of filter f keeps (`backOf f`). Document 01: it "needs
 -- 4 × (W(0) + ... + W(L−1)) numbers", and "each level works in its own stretch"; document 02, Q-8: eight rows for the 9/7.
-use mathlib.Core.Bool.{Bool}
 use Prim.Native.Nat.{ℕ, zero, suc, _+_, _-_}
 use lib.IntN.{ℤ, pos}
-use lib.Dec.{leb, ltb, eqb}
-use Rattle.numbers.specs.Signal.{pick, both}
+use lib.Dec.{ltb, eqb}
+use Rattle.numbers.specs.Signal.{pick}
 use Rattle.lifting.specs.Halves.{fronted}
 use Rattle.lifting.specs.Grid.{Side}
 use Rattle.wavelet.specs.Levels.{sideAt}
-use Rattle.wavelet.specs.Order.{lastSet}
 use Rattle.level.specs.Tried.{Tried, passed, onto}
 use Rattle.synthesis.specs.Back.{backOf}
 use Rattle.reader_steps.specs.Asked.{named}
-use Rattle.reader_steps.specs.Places.{hasCells}
+use Rattle.reader_steps.specs.Places.{hasSet}
 use Rattle.reader.specs.Admission.{workBy}
 
 -- where the stretch of level k + 1 begins: past those of the levels before it
@@ -37,10 +35,7 @@ unfoldable pub fedAt : ℕ → Side → Side → ℕ → ℕ → ℕ → (ℕ �
 fedAt f W H k n c v x =
     behind (stretchAt f W k) x (backOf f .feed (sideAt k W) (sideAt k H .start) (named c) n v (from (stretchAt f W k) x))
 
--- set n worked out; an empty level has none, nor has a level one after its last
-unfoldable pub hasSet : Side → Side → ℕ → Bool
-hasSet W H n = both (hasCells W H) (leb n (lastSet H))
-
+-- set n worked out, if the level has it
 -- its rows are low-low values of level k of the columns W and the rows H, which are those of level b of a map: so of level b + k; a is the admission
 unfoldable pub workedAt : ℕ → ℕ → ℕ → Side → Side → ℕ → ℕ → ℕ → (ℕ → ℤ) → Tried
 workedAt a f b W H L k n x =

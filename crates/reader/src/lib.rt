@@ -2,15 +2,16 @@
 mod last;
 mod limited;
 mod questions;
-mod sets;
 mod steps;
 pub mod stops;
 mod walk;
 
 use areas::copies;
+use reader_steps::places;
+use reader_steps::places::Sides;
+use reader_steps::places::Spot;
 use synthesis::back;
 use walk::Next;
-use walk::Spot;
 use wavelet::shape::Shape;
 ghost use mathlib.Core.Path.{_≡_};
 ghost use mathlib.Core.Bool.{false};
@@ -184,7 +185,13 @@ impl Reader {
         requires { ⌜ Small (side x width) (side y height) 0 × (levels ≤ maxLevels) ⌝ }
         ensures { λ r. ⌜ r ≡ freshBy admission filter stop spare (side x width) (side y height) levels ⌝ }
     {
-        let p = walk::descend_from(filter, levels, 0, x, width, y, height, 0, 0);
+        let v = Sides {
+            x,
+            width,
+            y,
+            height,
+        };
+        let p = places::descend_from(filter, levels, 0, v, 0, 0);
         let s = Reader {
             width,
             height,
@@ -427,17 +434,13 @@ impl Reader {
         let e = a + w;
         limited::draw_row(self.stop, &store[a..e], self.x, out);
         let d = self.drawn + 1;
-        let p = walk::descend_from(
-            self.filter,
-            self.levels,
-            0,
-            self.x,
-            w,
-            self.y,
-            self.height,
-            d,
-            d,
-        );
+        let v = Sides {
+            x: self.x,
+            width: w,
+            y: self.y,
+            height: self.height,
+        };
+        let p = places::descend_from(self.filter, self.levels, 0, v, d, d);
         self.moved(d, p)
     }
 

@@ -1,11 +1,11 @@
 // The steps of a reader: the row that it wants, a row fed, a height row made ready. Each of a state whose counts are in their ranges. The module is private, as
 // `walk` is.
 use crate::Reader;
-use crate::sets;
 use crate::walk;
 use crate::walk::Level;
 use crate::walk::Next;
-use crate::walk::Spot;
+use reader_steps::places::Spot;
+use reader_steps::sets;
 ghost use mathlib.Core.Path.{_≡_};
 ghost use Prim.Native.Nat.{_-_, _<_, _≤_};
 ghost use lib.ListN.{length};

@@ -1,8 +1,11 @@
 // The walk over the levels of a map, by its filter's number, that starts at (x, y), of `width` × `height`, while row `drawn` is waited for: the stretch and the
 // set of each level, the row wanted, the sets worked out on the way. A level is found once a call and handed on. The module is private: only this crate, which
 // meets what is required, can call it.
-use crate::sets;
 use areas::copies;
+use reader_steps::places;
+use reader_steps::places::Sides;
+use reader_steps::places::Spot;
+use reader_steps::sets;
 use synthesis::back;
 use wavelet::sizes;
 ghost use mathlib.Core.Path.{_≡_};
@@ -40,13 +43,6 @@ pub struct Level {
     pub height: usize,
     pub set: usize,
     pub last: usize,
-}
-
-// A level, one of its sets, and a band of it: the row wanted, or where the reader goes on. Level 0: a height row can be drawn.
-pub struct Spot {
-    pub level: usize,
-    pub set: usize,
-    pub band: usize,
 }
 
 // The row wanted: its place, and its level if it has one.
@@ -370,63 +366,8 @@ pub fn settle(
     true
 }
 
-// Where number n of level `level` begins, which takes row `row` of the level's low-low part, of the columns from x on and the rows from y on: past each level
-// whose set it needs. A set of a high row alone needs none.
-pub fn descend_from(
-    filter: usize,
-    levels: usize,
-    level: usize,
-    x: usize,
-    width: usize,
-    y: usize,
-    height: usize,
-    n: usize,
-    row: usize,
-) -> Spot
-    requires { ⌜ (level ≤ levels) × (levels ≤ maxLevels) × (width ≤ 2 ^ 16) × (height < 2 ^ 32) × (row ≤ 2 ^ 34) ⌝ }
-    ensures { λ p. ⌜ Is (descend filter (levels - level) level (side x width) (side y height) n row) p ⌝ }
-{
-    let mut k = level;
-    let mut wx = x;
-    let mut w = width;
-    let mut hy = y;
-    let mut h = height;
-    let mut m = n;
-    let mut r = row;
-    while k < levels {
-        let s = sets::sets_before(filter, hy, h, r);
-        if !sets::goes_down(filter, w, hy, h, r, s) {
-            return Spot {
-                level: k,
-                set: m,
-                band: 1,
-            };
-        }
-        if s < hy % 2 {
-            return Spot {
-                level: k + 1,
-                set: s,
-                band: 1,
-            };
-        }
-        m = s;
-        r = s - hy % 2;
-        w = sizes::low_count(wx, w);
-        wx = sizes::next_start(wx);
-        h = sizes::low_count(hy, h);
-        hy = sizes::next_start(hy);
-        k += 1;
-    }
-    Spot {
-        level: k,
-        set: m,
-        band: 0,
-    }
-}
-
 // Where set n of l, level `level`, begins.
 pub fn begin(filter: usize, levels: usize, level: usize, l: Level, n: usize) -> Spot
-    requires { ⌜ (level ≤ levels) × (levels ≤ maxLevels) × (l .width ≤ 2 ^ 16) × (l .height < 2 ^ 32) × (n ≤ 2 ^ 33) ⌝ }
     ensures { λ p. ⌜ Is (pick (leb (firstSet (side (l .y) (l .height)) lo) n)
         (descend filter (levels - level) level (next (side (l .x) (l .width))) (next (side (l .y) (l .height))) n (n - firstSet (side (l .y) (l .height)) lo))
         (spot level n 1)) p ⌝ }
@@ -438,17 +379,13 @@ pub fn begin(filter: usize, levels: usize, level: usize, l: Level, n: usize) -> 
             band: 1,
         };
     }
-    descend_from(
-        filter,
-        levels,
-        level,
-        sizes::next_start(l.x),
-        sizes::low_count(l.x, l.width),
-        sizes::next_start(l.y),
-        sizes::low_count(l.y, l.height),
-        n,
-        n - l.y % 2,
-    )
+    let v = Sides {
+        x: sizes::next_start(l.x),
+        width: sizes::low_count(l.x, l.width),
+        y: sizes::next_start(l.y),
+        height: sizes::low_count(l.y, l.height),
+    };
+    places::descend_from(filter, levels, level, v, n, n - l.y % 2)
 }
 
 // The needed part of a line store zeroed, where a reader ends: its own, and the `spare` numbers of the levels that it leaves out. It takes numbers, not the

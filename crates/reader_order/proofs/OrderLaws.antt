@@ -1,25 +1,23 @@
 -- What the code tests and finds of the order, in plain numbers. Assumes nothing.
-use mathlib.Core.Bool.{Bool, true, false, not, _&&_}
-use mathlib.Core.Path.{_≡_, refl, sym, ap, ap₂, subst, _∙_}
-use Prim.Native.Nat.{ℕ, zero, suc, _+_, _-_, _≤_, _<_, _^_}
+use mathlib.Core.Bool.{Bool, true, false, _&&_}
+use mathlib.Core.Path.{_≡_, refl}
+use Prim.Native.Nat.{ℕ, zero, suc, _+_, _-_, _≤_, _<_}
 use native.Mathlib.Omega.{arith}
 use native.Mathlib.Numerals.{add-one}
-use lib.Dec.{leb, ltb, eqb}
+use lib.Dec.{leb, ltb}
 use borrow.Author.Tests.{lt-ltb, le-ltb, ltb-true, leb-true, eqb-true}
-use Rattle.numbers.specs.Signal.{pick, both}
+use Rattle.numbers.specs.Signal.{both}
 use Rattle.numbers.proofs.Sweep.{both as halves}
 use Rattle.wavelet.specs.Limits.{maxHeight}
 use Rattle.wavelet.specs.Levels.{sideAt}
 use Rattle.wavelet.specs.Order.{setRow}
-use Rattle.wavelet.specs.Questions.{within, sizeQuestion, Sized}
+use Rattle.wavelet.specs.Questions.{within, Sized}
 use Rattle.wavelet.specs.declared.shape.Shape.{Shape}
 use Rattle.wavelet.specs.Shape.{columns, rows}
-use Rattle.wavelet.proofs.LimitLaws.{width-small, height-small}
 use Rattle.wavelet.proofs.QuestionLaws.{sized, within-true}
 use Rattle.reader_steps.specs.Asked.{named}
-use Rattle.reader_steps.specs.Places.{Spot, spot, spotFed, beyond, enter}
+use Rattle.reader_steps.specs.Places.{Spot, spotFed, beyond, enter}
 use Rattle.reader_order.specs.declared.Place.{Place}
-use Rattle.reader_order.specs.Inside.{Small}
 use Rattle.reader_order.specs.Order.{placed, nowhere, at, wantedFrom, seek, shapeFits, placeFits, firstPlace, nextPlace, rowAt}
 
 pub and-both : (a b : Bool) → a && b ≡ both a b
@@ -33,11 +31,6 @@ module _ (s : Shape) where
   pub fits-sized : shapeFits s ≡ true → Sized (s .width) (s .height) (s .levels)
   unfolding shapeFits
   fits-sized e = sized (s .width) (s .height) (s .levels) (eqb-true _ _ e)
-
-  pub fits-small : shapeFits s ≡ true → Small s
-  fits-small e =
-      let z = fits-sized e in
-      (omega (arith, z .width, width-small), omega (arith, z .height, height-small), z .levels .0, z .levels .1)
 
   -- the parts of the test of a place
   pub record PlaceIn (p : Place) : Type 0 where

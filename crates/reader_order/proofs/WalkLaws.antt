@@ -1,27 +1,27 @@
 -- The walk over the levels, as the code goes: the row wanted from a place on, and the place after a row. Assumes nothing.
-use mathlib.Core.Bool.{Bool, true, false}
+use mathlib.Core.Bool.{true, false}
 use mathlib.Core.Path.{_≡_, refl, sym, ap, ap₂, _∙_}
-use Prim.Native.Nat.{ℕ, zero, suc, _+_, _-_, _%_, _≤_, _<_, _^_}
+use Prim.Native.Nat.{ℕ, zero, suc, _+_, _-_, _%_, _≤_, _<_}
 use native.Mathlib.Omega.{arith}
 use native.Mathlib.Numerals.{add-one}
-use lib.Dec.{leb, ltb, eqb}
+use lib.Dec.{eqb}
+use mir.Syntax.{w64}
+use mir.Val.{Fits}
 use borrow.Author.Tests.{lt-ltb, le-ltb, lt-leb, le-leb}
-use Rattle.numbers.specs.Signal.{pick}
 use Rattle.lifting.specs.Line.{lo}
 use Rattle.lifting.specs.Grid.{Side, side}
 use Rattle.wavelet.specs.Levels.{sideAt}
 use Rattle.wavelet.specs.Order.{firstSet}
 use Rattle.wavelet.specs.declared.shape.Shape.{Shape}
 use Rattle.wavelet.specs.Shape.{columns, rows}
-use Rattle.wavelet.proofs.SideLaws.{size-le}
 use Rattle.reader_steps.specs.Sets.{hasRow, rowOf, taking, firstRow, makes, waiting}
 use Rattle.reader_steps.specs.Asked.{nextBand}
 use Rattle.reader_steps.specs.Places.{spot, bandAt, lastOfSet, nextUp, past, beyond, descend, begins, enter}
 use Rattle.reader_steps.specs.Places as machine
-use Rattle.reader_steps.proofs.OpenedSets.{row-in, first-low}
-use Rattle.reader_order.specs.declared.walk.Spot.{Spot}
-use Rattle.reader_order.specs.declared.walk.Sides.{Sides}
-use Rattle.reader_order.specs.Inside.{Small, IsAt, Is}
+use Rattle.reader_steps.proofs.OpenedSets.{first-low}
+use Rattle.reader_steps.specs.declared.places.Spot.{Spot}
+use Rattle.reader_steps.specs.declared.places.Sides.{Sides}
+use Rattle.reader_order.specs.Inside.{IsAt, Is}
 
 -- ---- places and sides
 pub is-spot : (q : machine.Spot) (p : Spot) → spot (p .level) (p .set) (p .band) ≡ q → Is q p
@@ -41,15 +41,17 @@ module _ (s : Shape) (k : ℕ) (v : Sides) (is : IsAt s k v) where
   pub high-at : side (v .y) (v .height) ≡ sideAt k (rows s)
   high-at = ap₂ side (is .y) (is .height)
 
-  pub small-at : Small s → (v .width ≤ 2 ^ 16) × (v .height < 2 ^ 32)
-  small-at m = (omega (arith, m .0, is .width, size-le k (columns s)), omega (arith, m .1, is .height, size-le k (rows s)))
-
   pub band-is : (n b : ℕ) →
       nextBand (eqb (k + 1) (s .levels)) (side (v .x) (v .width)) (side (v .y) (v .height)) n b ≡ bandAt (columns s) (rows s) (s .levels) k n b
   unfolding bandAt
   band-is n b = cc (wide-at, high-at, add-one k)
 
 -- ---- the number that waits
+row-under : (f : ℕ) (S : Side) (n : ℕ) → firstRow f S n ≤ S .length - 1
+unfolding firstRow
+row-under f S zero = omega arith
+row-under f S (suc n) = omega arith
+
 later : (H : Side) (j r : ℕ) → r + firstSet (sideAt j H) lo ≡ taking H (suc j) r
 unfolding taking
 later H j r = refl
@@ -74,8 +76,8 @@ module _ (f : ℕ) (H S : Side) (k n r : ℕ) (side : S ≡ sideAt k H) (row : r
           ap (λ (q : ℕ). firstRow f (sideAt k H) n + sideAt q H .start % 2) i
           ∙ ap (λ (q : ℕ). firstRow f (sideAt k H) n + q) (sym (first-low (sideAt j H))) ∙ later H j (firstRow f (sideAt k H) n)
 
-  pub wait-small : S .length < 2 ^ 32 → (p : ℕ) → r + p % 2 ≤ 2 ^ 33
-  wait-small h p = omega (arith, row, row-in f S n)
+  pub wait-fits : Fits w64 (S .length) → (p : ℕ) → Fits w64 (r + p % 2)
+  wait-fits h p = omega (arith, row, row-under f S n)
 
 -- ---- the row wanted
 module _ (f : ℕ) (W H : Side) (L : ℕ) where

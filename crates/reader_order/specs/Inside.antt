@@ -1,17 +1,12 @@
 -- What the private functions of the order require and ensure of each other. No public contract cites it.
 use mathlib.Core.Path.{_≡_}
-use Prim.Native.Nat.{ℕ, _≤_, _<_, _^_}
-use Rattle.wavelet.specs.Limits.{maxLevels}
+use Prim.Native.Nat.{ℕ}
 use Rattle.wavelet.specs.Levels.{sideAt}
 use Rattle.wavelet.specs.declared.shape.Shape.{Shape}
 use Rattle.wavelet.specs.Shape.{columns, rows}
 use Rattle.reader_steps.specs.Places as machine
-use Rattle.reader_order.specs.declared.walk.Spot.{Spot}
-use Rattle.reader_order.specs.declared.walk.Sides.{Sides}
-
--- sizes so small that no number overflows
-abbrev pub Small : Shape → Type 0
-Small s = (s .width ≤ 2 ^ 16) × (s .height < 2 ^ 32) × (1 ≤ s .levels) × (s .levels ≤ maxLevels)
+use Rattle.reader_steps.specs.declared.places.Spot.{Spot}
+use Rattle.reader_steps.specs.declared.places.Sides.{Sides}
 
 -- v is the columns and the rows that level k + 1 splits
 pub record IsAt (s : Shape) (k : ℕ) (v : Sides) : Type 0 where

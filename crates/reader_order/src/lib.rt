@@ -1,16 +1,15 @@
 // The order in which a reader wants the band rows of a map: the first row, and the row after a row. Numbers alone, no coefficient. What the places are is
 // `reader_steps`'; that they go through the steps of `wavelet` is the theorem here.
-mod sets;
 mod walk;
 
-use walk::Spot;
+use reader_steps::places::Spot;
+use reader_steps::sets;
 use wavelet::limits;
 use wavelet::shape::Shape;
 use wavelet::sizes;
 ghost use mathlib.Core.Path.{_≡_};
-ghost use Prim.Native.Nat.{_-_, _≤_, _^_};
+ghost use Prim.Native.Nat.{_-_, _≤_};
 ghost use Rattle.reader_steps.specs.Places.{spot};
-ghost use Rattle.reader_order.specs.Inside.{Small};
 ghost use Rattle.reader_order.specs.Order.{seek, shapeFits, placeFits, firstPlace, nextPlace, rowAt};
 
 // A band row in that order: its level, from 1, its set there and its band's code, while height row `drawn` is waited for. Level 0: there is none.
@@ -35,7 +34,7 @@ fn nowhere() -> Place
 
 // The row that is wanted from a place on, height rows being drawn where they can be, while row d is waited for.
 fn seek_row(s: Shape, d: usize, from: Spot) -> Place
-    requires { ⌜ Small s × (from .level ≤ s .levels) × (from .set ≤ 2 ^ 33) ⌝ }
+    requires { ⌜ from .level ≤ s .levels ⌝ }
     ensures { λ p. ⌜ p ≡ seek s (s .height - d) d (spot (from .level) (from .set) (from .band)) ⌝ }
 {
     let mut drawn = d;

@@ -1,34 +1,20 @@
 // From place to place: the row that is wanted from a place on, and the place after a row. Each function is a definition of `reader_steps`. The module is
 // private: only this crate, which meets what is required, can call it.
-use crate::sets;
+use reader_steps::places;
+use reader_steps::places::Sides;
+use reader_steps::places::Spot;
+use reader_steps::sets;
 use wavelet::shape::Shape;
 use wavelet::sizes;
 ghost use mathlib.Core.Path.{_≡_};
-ghost use Prim.Native.Nat.{_+_, _-_, _<_, _≤_, _^_};
-ghost use Rattle.lifting.specs.Grid.{side};
+ghost use Prim.Native.Nat.{_+_, _<_, _≤_, _^_};
 ghost use Rattle.wavelet.specs.Levels.{sideAt};
-ghost use Rattle.wavelet.specs.Limits.{maxLevels};
 ghost use Rattle.wavelet.specs.Shape.{columns, rows};
 ghost use Rattle.reader_steps.specs.Sets.{waiting};
-ghost use Rattle.reader_steps.specs.Places.{bandAt, nextUp, descend, begins, past, beyond, enter};
-ghost use Rattle.reader_order.specs.Inside.{Small, IsAt, Is};
+ghost use Rattle.reader_steps.specs.Places.{bandAt, nextUp, begins, past, beyond, enter};
+ghost use Rattle.reader_order.specs.Inside.{IsAt, Is};
 
-// A level, one of its sets, and a band of it.
-pub struct Spot {
-    pub level: usize,
-    pub set: usize,
-    pub band: usize,
-}
-
-// The columns and the rows of a level: where each starts, and how many there are.
-pub struct Sides {
-    pub x: usize,
-    pub width: usize,
-    pub y: usize,
-    pub height: usize,
-}
-
-// Those that level k + 1 splits.
+// The columns and the rows that level k + 1 splits.
 fn sides_at(s: Shape, k: usize) -> Sides
     ensures { λ v. ⌜ IsAt s k v ⌝ }
 {
@@ -44,7 +30,7 @@ fn sides_at(s: Shape, k: usize) -> Sides
 
 // The first band from code b on that set n of level k + 1, of the sides v, asks for; 4 where there is none.
 fn band_at(s: Shape, k: usize, v: Sides, n: usize, b: usize) -> usize
-    requires { ⌜ Small s × IsAt s k v × (k < s .levels) × (n ≤ 2 ^ 33) ⌝ }
+    requires { ⌜ IsAt s k v × (k < s .levels) ⌝ }
     ensures { λ c. ⌜ c ≡ bandAt (columns s) (rows s) (s .levels) k n b ⌝ }
 {
     sets::next_band(k + 1 == s.levels, v.x, v.width, v.y, v.height, n, b)
@@ -52,8 +38,8 @@ fn band_at(s: Shape, k: usize, v: Sides, n: usize, b: usize) -> usize
 
 // The number of level k that waits while set n of level k + 1, of the sides v, is collected.
 fn waits(s: Shape, k: usize, v: Sides, n: usize) -> usize
-    requires { ⌜ Small s × IsAt s k v × (n ≤ 2 ^ 33) ⌝ }
-    ensures { λ r. ⌜ (r ≡ waiting (s .filter) (rows s) k n) × (r ≤ 2 ^ 33) ⌝ }
+    requires { ⌜ IsAt s k v ⌝ }
+    ensures { λ r. ⌜ r ≡ waiting (s .filter) (rows s) k n ⌝ }
 {
     let r = sets::first_row(s.filter as usize, v.y, v.height, n);
     if k == 0 {
@@ -64,7 +50,7 @@ fn waits(s: Shape, k: usize, v: Sides, n: usize) -> usize
 
 // The row that is wanted from a place on: of its own set, or of the next finer one that waits and asks for one. Level 0: none, a height row can be drawn.
 pub fn next_up(s: Shape, q: Spot) -> Spot
-    requires { ⌜ Small s × (q .level ≤ s .levels) × (q .set ≤ 2 ^ 33) ⌝ }
+    requires { ⌜ q .level ≤ s .levels ⌝ }
     ensures { λ p. ⌜ Is (nextUp (s .filter) (columns s) (rows s) (s .levels) (q .level) (q .set) (q .band)) p ⌝ }
 {
     let mut k = q.level;
@@ -91,55 +77,9 @@ pub fn next_up(s: Shape, q: Spot) -> Spot
     }
 }
 
-// Where number n of level `level`, of the sides v, begins, which takes row `row` of the level's low-low part: past each level whose set it needs. A set of a
-// high row alone needs none.
-fn descend_from(filter: usize, levels: usize, level: usize, v: Sides, n: usize, row: usize) -> Spot
-    requires { ⌜ (level ≤ levels) × (levels ≤ maxLevels) × (v .height < 2 ^ 32) × (n ≤ 2 ^ 33) × (row ≤ 2 ^ 33) ⌝ }
-    ensures { λ p. ⌜ Is (descend filter (levels - level) level (side (v .x) (v .width)) (side (v .y) (v .height)) n row) p × (p .set ≤ 2 ^ 33) ×
-        (p .level ≤ levels) ⌝ }
-{
-    let mut k = level;
-    let mut wx = v.x;
-    let mut w = v.width;
-    let mut hy = v.y;
-    let mut h = v.height;
-    let mut m = n;
-    let mut r = row;
-    while k < levels {
-        let t = sets::sets_before(filter, hy, h, r);
-        if !sets::goes_down(filter, w, hy, h, r, t) {
-            return Spot {
-                level: k,
-                set: m,
-                band: 1,
-            };
-        }
-        if t < hy % 2 {
-            return Spot {
-                level: k + 1,
-                set: t,
-                band: 1,
-            };
-        }
-        m = t;
-        r = t - hy % 2;
-        w = sizes::low_count(wx, w);
-        wx = sizes::next_start(wx);
-        h = sizes::low_count(hy, h);
-        hy = sizes::next_start(hy);
-        k += 1;
-    }
-    Spot {
-        level: k,
-        set: m,
-        band: 0,
-    }
-}
-
 // Where height row d begins.
 pub fn begin_row(s: Shape, d: usize) -> Spot
-    requires { ⌜ Small s × (d ≤ 2 ^ 33) ⌝ }
-    ensures { λ p. ⌜ Is (enter (s .filter) (columns s) (rows s) (s .levels) d) p × (p .set ≤ 2 ^ 33) × (p .level ≤ s .levels) ⌝ }
+    ensures { λ p. ⌜ Is (enter (s .filter) (columns s) (rows s) (s .levels) d) p × (p .level ≤ s .levels) ⌝ }
 {
     let v = Sides {
         x: s.x as usize,
@@ -147,13 +87,13 @@ pub fn begin_row(s: Shape, d: usize) -> Spot
         y: s.y as usize,
         height: s.height,
     };
-    descend_from(s.filter as usize, s.levels, 0, v, d, d)
+    places::descend_from(s.filter as usize, s.levels, 0, v, d, d)
 }
 
 // Where set n of level k + 1 begins.
 fn begin_set(s: Shape, k: usize, n: usize) -> Spot
-    requires { ⌜ Small s × (k < s .levels) × (n ≤ 2 ^ 33) ⌝ }
-    ensures { λ p. ⌜ Is (begins (s .filter) (columns s) (rows s) (s .levels) (k + 1) n) p × (p .set ≤ 2 ^ 33) × (p .level ≤ s .levels) ⌝ }
+    requires { ⌜ k < s .levels ⌝ }
+    ensures { λ p. ⌜ Is (begins (s .filter) (columns s) (rows s) (s .levels) (k + 1) n) p × (p .level ≤ s .levels) ⌝ }
 {
     let low = sizes::start_at(k, s.y as usize) % 2;
     if n < low {
@@ -163,7 +103,7 @@ fn begin_set(s: Shape, k: usize, n: usize) -> Spot
             band: 1,
         };
     }
-    descend_from(
+    places::descend_from(
         s.filter as usize,
         s.levels,
         k + 1,
@@ -175,8 +115,8 @@ fn begin_set(s: Shape, k: usize, n: usize) -> Spot
 
 // Past set n of level k + 1, of the sides v: to the next finer level, if a row is made that waits, else to where the next set begins.
 fn past_set(s: Shape, k: usize, v: Sides, n: usize) -> Spot
-    requires { ⌜ Small s × IsAt s k v × (k < s .levels) × (n ≤ 2 ^ 32) ⌝ }
-    ensures { λ p. ⌜ Is (past (s .filter) (columns s) (rows s) (s .levels) k n) p × (p .set ≤ 2 ^ 33) × (p .level ≤ s .levels) ⌝ }
+    requires { ⌜ IsAt s k v × (k < s .levels) × (n ≤ 2 ^ 32) ⌝ }
+    ensures { λ p. ⌜ Is (past (s .filter) (columns s) (rows s) (s .levels) k n) p × (p .level ≤ s .levels) ⌝ }
 {
     if !sets::is_making(s.filter as usize, v.y, v.height, n) {
         return begin_set(s, k, n + 1);
@@ -190,8 +130,8 @@ fn past_set(s: Shape, k: usize, v: Sides, n: usize) -> Spot
 
 // The place after the row with band code c of set n of level k + 1.
 pub fn after(s: Shape, k: usize, n: usize, c: usize) -> Spot
-    requires { ⌜ Small s × (k < s .levels) × (n ≤ 2 ^ 32) × (c < 4) ⌝ }
-    ensures { λ p. ⌜ Is (beyond (s .filter) (columns s) (rows s) (s .levels) k n c) p × (p .set ≤ 2 ^ 33) × (p .level ≤ s .levels) ⌝ }
+    requires { ⌜ (k < s .levels) × (n ≤ 2 ^ 32) × (c < 4) ⌝ }
+    ensures { λ p. ⌜ Is (beyond (s .filter) (columns s) (rows s) (s .levels) k n c) p × (p .level ≤ s .levels) ⌝ }
 {
     let v = sides_at(s, k);
     if band_at(s, k, v, n, c + 1) < 4 {

@@ -19,6 +19,10 @@ use Rattle.reader_steps.specs.Asked.{nextBand}
 unfoldable pub hasCells : Side → Side → Bool
 hasCells W H = both (ltb 0 (W .length)) (ltb 0 (H .length))
 
+-- the sets of a level: an empty level has none, nor has a level one after its last
+unfoldable pub hasSet : Side → Side → ℕ → Bool
+hasSet W H n = both (hasCells W H) (leb n (lastSet H))
+
 -- a level, one of its sets, and a band of it
 pub record Spot : Type 0 where
   pub level : ℕ

@@ -65,5 +65,5 @@ unfolding signal.windowed signal.spliced signal.stored word.wrap32 tests.every l
     state.nextLength
     state.unfinished
     state.rowDue state.drawDue state.wants state.settles state.feeds state.fedReader state.drawnReader state.endedReader store.stretchAt store.from
-    store.behind store.zeroed store.fedAt store.hasSet store.workedAt outcome
+    store.behind store.zeroed store.fedAt places.hasSet store.workedAt outcome
 readings-hold = also refl (also refl (also refl (also refl (also refl none))))

@@ -1,10 +1,9 @@
 -- `reader_order::first` meets its contract: the search from the first height row on. Assumes nothing.
 use mathlib.Core.Path.{_∙_, sym, ap}
-use native.Mathlib.Omega.{arith}
 use borrow.Author.Tests.{not-true, not-false}
 use Rattle.reader_order.specs.Order.{seek}
 use Rattle.reader_order.proofs.WalkLaws.{spot-of}
-use Rattle.reader_order.proofs.OrderLaws.{fits-small, nowhere-is, first-none, first-some}
+use Rattle.reader_order.proofs.OrderLaws.{nowhere-is, first-none, first-some}
 use Rattle.reader_order.proofs.first.Statement.{statement}
 use Rattle.reader_order.proofs.first.Tie as tie
 
@@ -21,16 +20,10 @@ returns c =
     nowhere-is _ (c .nowhere .ensures) ∙ first-none (f .before .args .s) (sym (f .shape-fits .ensures) ∙ not-true _ (no .if1 .taken))
 
 begin-row-requires : tie.Need-begin-row-requires
-begin-row-requires c κs =
-    let f = c .before in
-    (fits-small (f .before .args .s) (sym (f .shape-fits .ensures) ∙ not-false _ (c .if1 .left)), omega arith)
+begin-row-requires c κs = tt
 
 seek-row-requires : tie.Need-seek-row-requires
-seek-row-requires c κs =
-    let on = c .before in
-    let f = on .before in
-    let b = c .begin-row .ensures in
-    (fits-small (f .before .args .s) (sym (f .shape-fits .ensures) ∙ not-false _ (on .if1 .left)), b .2, b .1)
+seek-row-requires c κs = c .begin-row .ensures .1
 
 returns-2 : tie.Need-returns-2
 returns-2 c =

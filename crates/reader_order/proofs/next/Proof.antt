@@ -5,7 +5,7 @@ use borrow.Author.Tests.{not-true, not-false}
 use Rattle.wavelet.proofs.LimitLaws.{height-small}
 use Rattle.reader_order.specs.Order.{seek}
 use Rattle.reader_order.proofs.WalkLaws.{spot-of}
-use Rattle.reader_order.proofs.OrderLaws.{fits-small, place-in, nowhere-is, next-none, next-some}
+use Rattle.reader_order.proofs.OrderLaws.{place-in, nowhere-is, next-none, next-some}
 use Rattle.reader_order.proofs.next.Statement.{statement}
 use Rattle.reader_order.proofs.next.Tie as tie
 
@@ -35,16 +35,10 @@ after-requires c κs =
     let f = on .before in
     let a = f .before .args in
     let i = place-in (a .s) (a .p) (sym (f .place-fits .ensures) ∙ not-false _ (on .if1 .left)) in
-    (fits-small (a .s) (i .fits), omega (arith, i .some, i .most), omega (arith, i .set, height-small), i .band)
+    (omega (arith, i .some, i .most), omega (arith, i .set, height-small), i .band)
 
 seek-row-requires : tie.Need-seek-row-requires
-seek-row-requires c κs =
-    let on = c .before .before in
-    let f = on .before in
-    let a = f .before .args in
-    let i = place-in (a .s) (a .p) (sym (f .place-fits .ensures) ∙ not-false _ (on .if1 .left)) in
-    let b = c .after .ensures in
-    (fits-small (a .s) (i .fits), b .2, b .1)
+seek-row-requires c κs = c .after .ensures .1
 
 returns-2 : tie.Need-returns-2
 returns-2 c =

@@ -1,6 +1,5 @@
 -- `reader_order::row_at` meets its contract: the row of the band that the set has. Assumes nothing.
 use mathlib.Core.Path.{_∙_, sym, ap, ap₂}
-use native.Mathlib.Omega.{arith}
 use borrow.Author.Needs.{needs}
 use borrow.Author.Tests.{not-true, not-false}
 use Rattle.lifting.specs.Grid.{Side, side}
@@ -36,11 +35,7 @@ size-at-requires : tie.Need-size-at-requires
 size-at-requires c κs = tt
 
 band-row-requires : tie.Need-band-row-requires
-band-row-requires c κs =
-    let e = c .before .before .before .before in
-    let f = e .before in
-    let a = f .before .args in
-    place-in (a .s) (a .p) (sym (f .place-fits .ensures) ∙ not-false _ (e .if1 .left)) .band
+band-row-requires c κs = tt
 
 returns-2 : tie.Need-returns-2
 returns-2 c =

@@ -1,9 +1,9 @@
 -- `reader_order::seek_row` meets its contract: where no row is wanted the height row is drawn, and the search goes on from the next. Assumes nothing.
-use mathlib.Core.Path.{_≡_, refl, sym, ap, _∙_}
-use Prim.Native.Nat.{_-_, _≤_, _^_}
+use mathlib.Core.Path.{_≡_, refl, ap, _∙_}
+use Prim.Native.Nat.{_-_, _≤_}
 use native.Mathlib.Omega.{arith}
-use Rattle.reader_steps.specs.Places.{Spot, spot}
-use Rattle.reader_order.specs.Inside.{Small}
+use borrow.Author.Needs.{needs}
+use Rattle.reader_steps.specs.Places.{spot}
 use Rattle.reader_order.specs.Order.{at, seek}
 use Rattle.reader_order.proofs.WalkLaws.{spot-of}
 use Rattle.reader_order.proofs.OrderLaws.{seek-over, seek-found, seek-drawn, nowhere-is}
@@ -12,17 +12,17 @@ use Rattle.reader_order.proofs.seek_row.Tie as tie
 
 abbrev Inv-loop : tie.InvT-loop
 Inv-loop s d drawn₀ q₀ drawn q =
-    Small s × (q .level ≤ s .levels) × (q .set ≤ 2 ^ 33)
+    (q .level ≤ s .levels)
     × (seek s (s .height - drawn) drawn (spot (q .level) (q .set) (q .band)) ≡ seek s (s .height - drawn₀) drawn₀ (spot (q₀ .level) (q₀ .set) (q₀ .band)))
 
 abbrev μ-loop : tie.MeasureT-loop
 μ-loop s d drawn₀ q₀ drawn q = s .height - drawn
 
 loop-holds : tie.Need-loop-holds Inv-loop μ-loop
-loop-holds c = let p = c .pre in (p .0, p .1, p .2, refl)
+loop-holds c = (c .pre, refl)
 
 next-up-requires : tie.Need-next-up-requires Inv-loop μ-loop
-next-up-requires c κs = let l = c .before .before .loop in (l .inv .0, l .inv .1, l .inv .2)
+next-up-requires c κs = c .before .before .loop .inv .0
 
 returns : tie.Need-returns Inv-loop μ-loop
 returns c =
@@ -34,13 +34,13 @@ returns c =
     ap (at (l .drawn)) e
     ∙ seek-found (a .s) (l .drawn) (spot (l .q .level) (l .q .set) (l .q .band)) (t .if1 .taken)
     (omega (arith, c .if2 .taken, n .next-up .ensures .level))
-    ∙ l .inv .3
+    ∙ l .inv .1
 
 add-drawn : tie.Need-add-drawn Inv-loop μ-loop
-add-drawn c = let l = c .before .before .before .before .before .loop in omega (arith, l .inv .0)
+add-drawn c = search needs
 
 begin-row-requires : tie.Need-begin-row-requires Inv-loop μ-loop
-begin-row-requires c κs = let l = c .before .before .before .before .before .loop in (l .inv .0, omega (arith, l .inv .0))
+begin-row-requires c κs = tt
 
 loop-less : tie.Need-loop-less Inv-loop μ-loop
 loop-less c = omega arith
@@ -53,13 +53,11 @@ loop-again c =
     let l = t .before .before .loop in
     let a = t .before .before .before .args in
     let b = c .begin-row .ensures in (
-      l .inv .0,
-      b .2,
       b .1,
       ap (seek (a .s) _ _) (spot-of _ _ (b .0))
           ∙ seek-drawn (a .s) (l .drawn) (spot (l .q .level) (l .q .set) (l .q .band)) (t .if1 .taken)
           (omega (arith, no .if2 .left, n .next-up .ensures .level))
-          ∙ l .inv .3,
+          ∙ l .inv .1,
     )
 
 nowhere-requires : tie.Need-nowhere-requires Inv-loop μ-loop
@@ -70,7 +68,7 @@ returns-2 c =
     let no = c .before in
     let l = no .before .before .loop in
     let a = no .before .before .before .args in
-    nowhere-is _ (c .nowhere .ensures) ∙ seek-over (a .s) (l .drawn) (spot (l .q .level) (l .q .set) (l .q .band)) (omega arith) ∙ l .inv .3
+    nowhere-is _ (c .nowhere .ensures) ∙ seek-over (a .s) (l .drawn) (spot (l .q .level) (l .q .set) (l .q .band)) (omega arith) ∙ l .inv .1
 
 pub seek-row-spec : {M : Type 1} → statement M
 seek-row-spec =

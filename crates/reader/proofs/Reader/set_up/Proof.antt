@@ -1,8 +1,6 @@
 -- `reader::Reader::set_up` meets its contract: refused by a question, or the needed part of the store cleared. Assumes nothing.
-use mathlib.Core.Path.{_∙_, sym, refl}
-use Prim.Native.Nat.{_-_}
+use mathlib.Core.Path.{_∙_, sym}
 use native.Mathlib.Omega.{arith}
-use mathlib.Core.Bool.{false}
 use lib.ListN.{length}
 use Rattle.reader.specs.declared.Reader.{Reader}
 use borrow.Author.Needs.{needs}
@@ -17,8 +15,7 @@ use Rattle.filters.proofs.FigureLaws.{levels-most}
 use Rattle.areas.proofs.AreaLaws.{did}
 use Rattle.reader.proofs.StoreLaws.{length-is}
 use Rattle.reader.proofs.QuestionLaws.{up-in}
-use Rattle.reader.proofs.EnterLaws.{descend-level}
-use Rattle.reader.proofs.CallLaws.{set-up-no, set-up-yes, fresh-at, enter-is}
+use Rattle.reader.proofs.CallLaws.{set-up-no, set-up-yes}
 use Rattle.reader.proofs.Keeps.{set-up-also}
 use Rattle.reader.proofs.Reader.set_up.Statement.{statement}
 use Rattle.reader.proofs.Reader.set_up.Tie as tie

@@ -7,7 +7,7 @@ use borrow.Author.Tests.{not-true, not-false}
 use Rattle.wavelet.specs.Limits.{maxWidth, maxHeight, maxOrigin}
 use Rattle.reader.proofs.QuestionLaws.{levels-asked, counts-1, counts-2, counts-f, counts-3, counts-x, counts-y, counts-4, counts-5}
 use Rattle.reader.proofs.QuestionLaws.{counts-6, counts-7}
-use Rattle.reader.proofs.SetLaws.{ahead-fits}
+use Rattle.reader_steps.proofs.SetLaws.{ahead-fits}
 use Rattle.reader.proofs.questions.counts_inside.Statement.{statement}
 use Rattle.reader.proofs.questions.counts_inside.Tie as tie
 

@@ -1,10 +1,10 @@
 -- `reader::steps::row_length` meets its contract: the columns of the band, at its level. Assumes nothing.
-use Rattle.reader.proofs.StepLaws.{spot-in, length-is}
+use Rattle.reader.proofs.StepLaws.{length-is}
 use Rattle.reader.proofs.steps.row_length.Statement.{statement}
 use Rattle.reader.proofs.steps.row_length.Tie as tie
 
 band-columns-requires : tie.Need-band-columns-requires
-band-columns-requires c κs = spot-in _ _ (c .pre .0 .spot) (c .pre .1) .1
+band-columns-requires c κs = tt
 
 returns : tie.Need-returns
 returns c =

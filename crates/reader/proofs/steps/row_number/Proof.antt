@@ -1,10 +1,10 @@
 -- `reader::steps::row_number` meets its contract: the band's row of the set that the level is at. Assumes nothing.
-use Rattle.reader.proofs.StepLaws.{spot-in, number-is}
+use Rattle.reader.proofs.StepLaws.{number-is}
 use Rattle.reader.proofs.steps.row_number.Statement.{statement}
 use Rattle.reader.proofs.steps.row_number.Tie as tie
 
 band-row-requires : tie.Need-band-row-requires
-band-row-requires c κs = spot-in _ _ (c .pre .0 .spot) (c .pre .1) .1
+band-row-requires c κs = tt
 
 returns : tie.Need-returns
 returns c =

@@ -8,7 +8,7 @@ use Rattle.reader_steps.specs.Sets.{makes}
 use Rattle.reader.specs.State.{columns, rows}
 use Rattle.reader.proofs.PartLaws.{level-high}
 use Rattle.reader.proofs.QuestionLaws.{counts-small}
-use Rattle.reader.proofs.StepLaws.{spot-in, spot-of, begins-at, level-small, past-begin, past-top, past-finer}
+use Rattle.reader.proofs.StepLaws.{spot-in, spot-of, begins-at, past-begin, past-top, past-finer}
 use Rattle.reader.proofs.WalkLaws.{is-spot}
 use Rattle.reader.proofs.steps.spot_past.Statement.{statement}
 use Rattle.reader.proofs.steps.spot_past.Tie as tie
@@ -17,23 +17,13 @@ sub-k : tie.Need-sub-k
 sub-k c = omega arith
 
 is-making-requires : tie.Need-is-making-requires
-is-making-requires c κs =
-    let start = c .before in
-    let at = start .pre .1 .at (start .pre .2) in
-    (level-small (start .args .s) (start .pre .0) _ (start .args .n .at) at .1, at .set)
+is-making-requires c κs = tt
 
 add-begin : tie.Need-add-begin
 add-begin c = let start = c .before .before .before .before in omega (arith, start .pre .1 .at (start .pre .2) .set)
 
 begin-requires : tie.Need-begin-requires
-begin-requires c κs =
-    let start = c .before .before .before .before in
-    let s = start .args .s in
-    let counts = start .pre .0 in
-    let at = start .pre .1 .at (start .pre .2) in
-    let near = spot-in _ _ (start .pre .1 .spot) (start .pre .2) in
-    let small = level-small s counts _ (start .args .n .at) at in
-    (omega (arith, near .0, counts .at), counts .few, small .0, small .1, omega (arith, at .set))
+begin-requires c κs = tt
 
 returns : tie.Need-returns
 returns c =
@@ -52,7 +42,7 @@ returns c =
     (start .pre .1 .set (start .pre .2)) none)
 
 first-row-requires : tie.Need-first-row-requires
-first-row-requires c κs = let start = c .before .before .before in start .pre .1 .at (start .pre .2) .set
+first-row-requires c κs = tt
 
 returns-2 : tie.Need-returns-2
 returns-2 c =

@@ -12,7 +12,7 @@ use Rattle.wavelet.specs.Levels.{sideAt}
 use Rattle.wavelet.proofs.LimitLaws.{width-small}
 use Rattle.filters.specs.Figures.{storeBy}
 use Rattle.filters.proofs.FigureLaws.{levels-most}
-use Rattle.reader.proofs.SetLaws.{none-of, some-of}
+use Rattle.reader_steps.proofs.SetLaws.{none-of, some-of}
 use Rattle.reader.proofs.StopLaws.{works-not, part-last, part-begun, part-own, part-small, part-streams, streams-in, works-parts, works-some}
 use Rattle.reader.proofs.stops.reader_at.Statement.{statement}
 use Rattle.reader.proofs.stops.reader_at.Tie as tie

@@ -3,7 +3,6 @@ use mathlib.Core.Path.{_∙_}
 use native.Mathlib.Omega.{arith}
 use Rattle.lifting.specs.Grid.{side}
 use Rattle.wavelet.specs.Limits.{maxLevels}
-use Rattle.reader.proofs.PartLaws.{level-in}
 use Rattle.reader.proofs.WalkLaws.{band-is}
 use Rattle.reader.proofs.walk.band_at.Statement.{statement}
 use Rattle.reader.proofs.walk.band_at.Tie as tie
@@ -13,9 +12,7 @@ unfolding maxLevels
 add-next-band c = omega arith
 
 next-band-requires : tie.Need-next-band-requires
-next-band-requires c κs =
-    let here = level-in _ _ _ _ _ (c .args .l) (c .pre .1) (omega arith) (omega arith) in
-    omega (arith, here .1, here .2, here .3)
+next-band-requires c κs = tt
 
 returns : tie.Need-returns
 returns c =

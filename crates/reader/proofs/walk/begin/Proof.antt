@@ -2,9 +2,7 @@
 use mathlib.Core.Path.{_∙_}
 use native.Mathlib.Omega.{arith}
 use Rattle.lifting.specs.Grid.{side}
-use Rattle.reader_steps.proofs.OpenedSets.{low-is}
 use Rattle.reader.proofs.EnterLaws.{begin-alone, begin-on}
-use Rattle.reader.proofs.StepLaws.{spot-of}
 use Rattle.reader.proofs.WalkLaws.{is-spot}
 use Rattle.reader.proofs.walk.begin.Statement.{statement}
 use Rattle.reader.proofs.walk.begin.Tie as tie
@@ -30,12 +28,7 @@ sub-descend-from : tie.Need-sub-descend-from
 sub-descend-from c = omega arith
 
 descend-from-requires : tie.Need-descend-from-requires
-descend-from-requires c κs =
-    let h = c .before in
-    let w = h .before .before in
-    let start = w .before .before .before .before in
-    let l = start .args .l in
-    omega (arith, w .low-count .ensures, h .low-count2 .ensures, low-is (side (l .x) (l .width)), low-is (side (l .y) (l .height)))
+descend-from-requires c κs = tt
 
 returns-2 : tie.Need-returns-2
 returns-2 c =
@@ -47,7 +40,7 @@ returns-2 c =
     let a = some .before .before .args in
     let l = a .l in
     is-spot _ _
-    (spot-of _ _ (c .descend-from .ensures)
+    (c .descend-from .ensures
     ∙ begin-on (a .filter) (side (l .x) (l .width)) (side (l .y) (l .height)) _ _ (a .n) _ _ _ _ _ _ (omega arith) (x .next-start .ensures (l .width))
     (w .low-count .ensures) (y .next-start2 .ensures (l .height)) (h .low-count2 .ensures) (omega arith))
 

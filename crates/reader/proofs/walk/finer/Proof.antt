@@ -17,7 +17,7 @@ level-at-requires : tie.Need-level-at-requires
 level-at-requires c κs = (c .pre .0, omega arith)
 
 first-row-requires : tie.Need-first-row-requires
-first-row-requires c κs = c .before .pre .1 .set
+first-row-requires c κs = tt
 
 add-at-set : tie.Need-add-at-set
 add-at-set c =

@@ -8,7 +8,7 @@ use Rattle.lifting.proofs.GridLaws.{counts}
 use Rattle.level.specs.Rebuilding.{widest}
 use Rattle.synthesis.specs.Back.{rowPlaceOf}
 use Rattle.filters.proofs.FigureLaws.{row-few}
-use Rattle.reader.proofs.SetLaws.{set-row, half-even, half-odd}
+use Rattle.reader_steps.proofs.SetLaws.{set-row, half-even, half-odd}
 use Rattle.reader.proofs.walk.half_place.Statement.{statement}
 use Rattle.reader.proofs.walk.half_place.Tie as tie
 

@@ -30,7 +30,7 @@ sub-set-of : tie.Need-sub-set-of Inv-loop μ-loop
 sub-set-of c = let a = c .before .loop .inv .5 in omega (arith, a .down)
 
 set-of-requires : tie.Need-set-of-requires Inv-loop μ-loop
-set-of-requires c κs = let a = c .before .loop .inv .5 .walked in omega (arith, a .short, a .near)
+set-of-requires c κs = tt
 
 row-below-requires : tie.Need-row-below-requires Inv-loop μ-loop
 row-below-requires c κs = tt
@@ -86,7 +86,7 @@ sub-h : tie.Need-sub-h Inv-loop μ-loop
 sub-h c = let a = c .before .loop .inv .5 in omega (arith, a .down)
 
 set-of-requires-2 : tie.Need-set-of-requires-2 Inv-loop μ-loop
-set-of-requires-2 c κs = let inv = c .before .loop .inv in omega (arith, inv .5 .walked .short, inv .5 .walked .near)
+set-of-requires-2 c κs = tt
 
 rows-kept-requires : tie.Need-rows-kept-requires Inv-loop μ-loop
 rows-kept-requires c κs = tt

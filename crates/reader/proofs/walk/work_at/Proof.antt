@@ -7,7 +7,7 @@ use borrow.Author.Tests.{not-true, not-false}
 use borrow.Rule.Slice.PartMut.{same-len-mid}
 use Rattle.lifting.specs.Grid.{side}
 use Rattle.level.proofs.KeptLaws.{kept-none}
-use Rattle.reader.proofs.PartLaws.{level-in, work-none, work-places, work-done}
+use Rattle.reader.proofs.PartLaws.{work-none, work-places, work-done}
 use Rattle.reader.proofs.KeptLaws.{part-kept}
 use Rattle.reader.proofs.TolerantGoes.{start-zero}
 use Rattle.reader.proofs.walk.work_at.Statement.{statement}
@@ -22,7 +22,7 @@ add-level c =
     (p .0 .0, p .0 .2) (p .1) (p .2) (p .4) .3
 
 is-there-requires : tie.Need-is-there-requires
-is-there-requires c κs = let p = c .pre in level-in _ _ _ _ _ (c .args .l) (p .3) (p .0 .0) (p .0 .2) .2
+is-there-requires c κs = tt
 
 returns : tie.Need-returns
 returns c =

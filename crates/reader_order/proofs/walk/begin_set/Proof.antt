@@ -1,9 +1,12 @@
 -- `reader_order::walk::begin_set` meets its contract: a set without a low row, or the search from the next sides on. Assumes nothing.
-use mathlib.Core.Path.{_∙_, sym}
+use mathlib.Core.Path.{_∙_, ap}
 use native.Mathlib.Omega.{arith}
 use borrow.Author.Needs.{needs}
-use Prim.Native.Nat.{_+_}
-use Rattle.reader_order.proofs.WalkLaws.{is-spot, spot-of, small-at, wide-at, high-at, begin-alone, begin-on}
+use Prim.Native.Nat.{_+_, _-_, _%_}
+use Rattle.lifting.specs.Grid.{side}
+use Rattle.reader_steps.specs.Places.{Spot}
+use Rattle.reader_steps.proofs.EnterLaws.{descend-level}
+use Rattle.reader_order.proofs.WalkLaws.{is-spot, wide-at, high-at, begin-alone, begin-on}
 use Rattle.reader_order.proofs.walk.begin_set.Statement.{statement}
 use Rattle.reader_order.proofs.walk.begin_set.Tie as tie
 
@@ -20,7 +23,7 @@ returns : tie.Need-returns
 returns c =
     let y = c .before in
     let e = y .before .before in
-    (is-spot _ _ (begin-alone _ _ _ _ (e .args .k) (e .args .n) _ (y .start-at .ensures (e .args .s .height)) (c .if1 .taken)), omega arith, omega arith)
+    (is-spot _ _ (begin-alone _ _ _ _ (e .args .k) (e .args .n) _ (y .start-at .ensures (e .args .s .height)) (c .if1 .taken)), omega arith)
 
 cast-descend-from : tie.Need-cast-descend-from
 cast-descend-from c = search needs
@@ -35,10 +38,7 @@ sides-at-requires : tie.Need-sides-at-requires
 sides-at-requires c κs = tt
 
 descend-from-requires : tie.Need-descend-from-requires
-descend-from-requires c κs =
-    let e = c .before .before .before .before .before in
-    let m = small-at (e .args .s) _ (c .sides-at .result) (c .sides-at .ensures) (e .pre .0) in
-    (omega arith, e .pre .0 .3, m .1, e .pre .2, omega arith)
+descend-from-requires c κs = tt
 
 returns-2 : tie.Need-returns-2
 returns-2 c =
@@ -46,14 +46,20 @@ returns-2 c =
     let on = v .before .before in
     let y = on .before in
     let e = y .before .before in
+    let w = v .sides-at .result in
     let d = c .descend-from .ensures in (
       is-spot _ _
-          (spot-of _ _ (d .0)
+          (d
           ∙ begin-on _ _ _ _ (e .args .k) (e .args .n) _ (y .start-at .ensures (e .args .s .height)) (omega arith)
           (wide-at (e .args .s) (e .args .k + 1) (v .sides-at .result) (v .sides-at .ensures))
           (high-at (e .args .s) (e .args .k + 1) (v .sides-at .result) (v .sides-at .ensures))),
-      d .1,
-      d .2,
+      omega (
+        arith,
+        e .pre,
+        ap (λ (q : Spot). q .level) d,
+        descend-level (e .args .s .filter) (e .args .s .levels - (e .args .k + 1)) (e .args .k + 1)
+            (side (w .x) (w .width)) (side (w .y) (w .height)) (e .args .n) (e .args .n - y .start-at .result % 2),
+      ),
     )
 
 pub begin-set-spec : {M : Type 1} → statement M

@@ -1,26 +1,23 @@
 -- `reader_order::walk::next_up` meets its contract: level by level, as the definition goes. Assumes nothing.
 use mathlib.Core.Path.{_≡_, _∙_, refl}
-use Prim.Native.Nat.{_-_, _≤_, _<_, _^_}
-use native.Mathlib.Nat.{le-refl, le-trans}
+use Prim.Native.Nat.{_≤_}
 use native.Mathlib.Omega.{arith}
 use Rattle.wavelet.specs.Shape.{columns, rows}
-use Rattle.wavelet.specs.Limits.{maxLevels}
 use Rattle.reader_steps.specs.Places.{nextUp}
-use Rattle.reader_order.specs.Inside.{Small}
 use Rattle.reader_order.proofs.WalkLaws.{is-spot, up-here, up-finer, up-none}
 use Rattle.reader_order.proofs.walk.next_up.Statement.{statement}
 use Rattle.reader_order.proofs.walk.next_up.Tie as tie
 
 abbrev Inv-loop : tie.InvT-loop
 Inv-loop s k₀ n₀ b₀ k n b =
-    Small s × (k ≤ s .levels) × (n ≤ 2 ^ 33)
+    (k ≤ s .levels)
     × (nextUp (s .filter) (columns s) (rows s) (s .levels) k n b ≡ nextUp (s .filter) (columns s) (rows s) (s .levels) k₀ n₀ b₀)
 
 abbrev μ-loop : tie.MeasureT-loop
 μ-loop s k₀ n₀ b₀ k n b = k
 
 loop-holds : tie.Need-loop-holds Inv-loop μ-loop
-loop-holds c = let p = c .pre in (p .0, p .1, p .2, refl)
+loop-holds c = (c .pre, refl)
 
 sub-k : tie.Need-sub-k Inv-loop μ-loop
 sub-k c = omega arith
@@ -32,13 +29,10 @@ band-at-requires : tie.Need-band-at-requires Inv-loop μ-loop
 band-at-requires c κs =
     let test = c .before in
     let l = test .before .loop in
-    (l .inv .0, c .sides-at .ensures, omega (arith, test .loop-test .taken, l .inv .1), l .inv .2)
+    (c .sides-at .ensures, omega (arith, test .loop-test .taken, l .inv .0))
 
 add-t9 : tie.Need-add-t9 Inv-loop μ-loop
-unfolding maxLevels
-add-t9 c =
-    let l = c .before .before .before .before .loop in
-    omega (arith, l .inv .1, l .inv .0)
+add-t9 c = omega arith
 
 returns : tie.Need-returns Inv-loop μ-loop
 returns c =
@@ -46,13 +40,11 @@ returns c =
     let sides = band .before in
     let test = sides .before in
     let l = test .before .loop in
-    is-spot _ _ (up-here _ _ _ _ (l .k) (l .b) _ (l .n) (test .loop-test .taken) (band .band-at .ensures) (c .if1 .taken) ∙ l .inv .3)
+    is-spot _ _ (up-here _ _ _ _ (l .k) (l .b) _ (l .n) (test .loop-test .taken) (band .band-at .ensures) (c .if1 .taken) ∙ l .inv .1)
 
 waits-requires : tie.Need-waits-requires Inv-loop μ-loop
 waits-requires c κs =
-    let sides = c .before .before in
-    let l = sides .before .before .loop in
-    (l .inv .0, sides .sides-at .ensures, l .inv .2)
+    c .before .before .sides-at .ensures
 
 loop-less : tie.Need-loop-less Inv-loop μ-loop
 loop-less c = omega arith
@@ -64,14 +56,12 @@ loop-again c =
     let sides = band .before in
     let test = sides .before in
     let l = test .before .loop in (
-      l .inv .0,
-      omega (arith, l .inv .1),
-      c .waits .ensures .1,
-      up-finer _ _ _ _ (l .k) (l .b) _ (l .n) _ (test .loop-test .taken) (band .band-at .ensures) (omega arith) (c .waits .ensures .0) ∙ l .inv .3,
+      omega (arith, l .inv .0),
+      up-finer _ _ _ _ (l .k) (l .b) _ (l .n) _ (test .loop-test .taken) (band .band-at .ensures) (omega arith) (c .waits .ensures) ∙ l .inv .1,
     )
 
 returns-2 : tie.Need-returns-2 Inv-loop μ-loop
-returns-2 c = let l = c .before .loop in is-spot _ _ (up-none _ _ _ _ (l .k) (l .n) (l .b) (omega arith) ∙ l .inv .3)
+returns-2 c = let l = c .before .loop in is-spot _ _ (up-none _ _ _ _ (l .k) (l .n) (l .b) (omega arith) ∙ l .inv .1)
 
 pub next-up-spec : {M : Type 1} → statement M
 next-up-spec =

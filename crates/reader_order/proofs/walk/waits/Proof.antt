@@ -1,9 +1,10 @@
 -- `reader_order::walk::waits` meets its contract: the first row of the set, and where the level's low rows begin. Assumes nothing.
-use native.Mathlib.Omega.{arith}
 use borrow.Author.Needs.{needs}
+use mir.Syntax.{w64}
+use mir.Val.{Fits}
 use Rattle.lifting.specs.Grid.{side}
 use Rattle.wavelet.specs.Shape.{rows}
-use Rattle.reader_order.proofs.WalkLaws.{small-at, high-at, wait-top, wait-row, wait-small}
+use Rattle.reader_order.proofs.WalkLaws.{high-at, wait-top, wait-row, wait-fits}
 use Rattle.reader_order.proofs.walk.waits.Statement.{statement}
 use Rattle.reader_order.proofs.walk.waits.Tie as tie
 
@@ -11,22 +12,15 @@ cast-first-row : tie.Need-cast-first-row
 cast-first-row c = search needs
 
 first-row-requires : tie.Need-first-row-requires
-first-row-requires c κs = search needs
+first-row-requires c κs = tt
 
 returns : tie.Need-returns
 returns c =
     let r = c .before in
     let e = r .before .before in
     let a = e .args in
-    let p = e .pre in
-    let high = high-at (a .s) (a .k) (a .v) (p .1) in (
-      wait-top (a .s .filter) (rows (a .s)) (side (a .v .y) (a .v .height)) (a .k) (a .n) _ high (r .first-row .ensures) (c .if1 .taken),
-      omega (
-        arith,
-        wait-small (a .s .filter) (rows (a .s)) (side (a .v .y) (a .v .height)) (a .k) (a .n) _ high (r .first-row .ensures)
-            (small-at (a .s) (a .k) (a .v) (p .1) (p .0) .1) 0,
-      ),
-    )
+    wait-top (a .s .filter) (rows (a .s)) (side (a .v .y) (a .v .height)) (a .k) (a .n) _ (high-at (a .s) (a .k) (a .v) (e .pre)) (r .first-row .ensures)
+    (c .if1 .taken)
 
 sub-start-at : tie.Need-sub-start-at
 sub-start-at c = search needs
@@ -42,12 +36,9 @@ add-result c =
     let r = c .before .before .before in
     let e = r .before .before in
     let a = e .args in
-    let p = e .pre in
-    omega (
-      arith,
-      wait-small (a .s .filter) (rows (a .s)) (side (a .v .y) (a .v .height)) (a .k) (a .n) _ (high-at (a .s) (a .k) (a .v) (p .1)) (r .first-row .ensures)
-          (small-at (a .s) (a .k) (a .v) (p .1) (p .0) .1) 1,
-    )
+    let high : Fits w64 (a .v .height) = search (needs, e .good .1 .1 .0) in
+    wait-fits (a .s .filter) (rows (a .s)) (side (a .v .y) (a .v .height)) (a .k) (a .n) _ (high-at (a .s) (a .k) (a .v) (e .pre)) (r .first-row .ensures)
+    high _
 
 returns-2 : tie.Need-returns-2
 returns-2 c =
@@ -55,13 +46,8 @@ returns-2 c =
     let r = on .before in
     let e = r .before .before in
     let a = e .args in
-    let p = e .pre in
-    let high = high-at (a .s) (a .k) (a .v) (p .1) in (
-      wait-row (a .s .filter) (rows (a .s)) (side (a .v .y) (a .v .height)) (a .k) (a .n) _ high (r .first-row .ensures) _ (on .if1 .left)
-          (c .start-at .ensures (a .s .height)),
-      wait-small (a .s .filter) (rows (a .s)) (side (a .v .y) (a .v .height)) (a .k) (a .n) _ high (r .first-row .ensures)
-          (small-at (a .s) (a .k) (a .v) (p .1) (p .0) .1) _,
-    )
+    wait-row (a .s .filter) (rows (a .s)) (side (a .v .y) (a .v .height)) (a .k) (a .n) _ (high-at (a .s) (a .k) (a .v) (e .pre)) (r .first-row .ensures)
+    _ (on .if1 .left) (c .start-at .ensures (a .s .height))
 
 pub waits-spec : {M : Type 1} → statement M
 waits-spec =
