@@ -384,7 +384,7 @@ uint32_t terrain_save_set_up(uint64_t state[32], terrain_shape shape, size_t ste
  * `out` stays. Lend areas of any lengths, and the same plane, until *written is 0 of an area with room: then the file is complete.
  * 1; 5 (the plane has fewer than width * height numbers). Before a row is begun: 7 (a coefficient is out of its level's range), 22 (one of
  * HL, LH or HH is no multiple of the step): the call ends before that row and gives what it wrote, and if that is nothing it answers the
- * number. Neither comes of a plane that `terrain_map_forward` has made, rounded by the step. */
+ * number. Neither comes of a plane that `terrain_map_forward` has made, nor of one that `terrain_round` has rounded by the step since. */
 TERRAIN_CHECKED
 uint32_t terrain_save(uint64_t state[32], const int32_t *plane, size_t plane_len, uint8_t *out, size_t out_len, size_t *written);
 

@@ -12,10 +12,10 @@ use lib.Signed.{mag, shrZ}
 use lib.Dec.{leb, ltb, eqb}
 use lib.ListN.{length, take, drop, getD, length-take, length-drop, length-append, take-append-drop}
 use lib.Seq.{take-all, drop-drop, getD-take, getD-drop, length-take-le}
-use borrow.Author.Tests.{lt-ltb, le-ltb, eq-eqb, ne-eqb, leb-true}
+use borrow.Author.Tests.{lt-ltb, le-ltb, le-leb, eq-eqb, ne-eqb, leb-true}
 use Rattle.numbers.specs.Signal.{at, pick, both}
 use Rattle.numbers.specs.Tests.{every}
-use Rattle.numbers.proofs.TestLaws.{every-each}
+use Rattle.numbers.proofs.TestLaws.{every-each, each-every}
 use Rattle.lifting.specs.Grid.{Side}
 use Rattle.wavelet.specs.declared.shape.Shape.{Shape}
 use Rattle.wavelet.specs.Shape.{columns, rows}
@@ -46,13 +46,13 @@ use Rattle.ground_file.specs.File.{headerOf, stored, listed, numbersOf, 
 use Rattle.ground_file.specs.Values.{kept, isMultiple}
 use Rattle.ground_file.specs.Saving.{saverAt, startOf, rowOf, stepOf, pieceOf, atRow, onward, partly, fromOf, restOf, moved, begins, rowFits, rowDivides}
 use Rattle.ground_file.specs.Saving.{rowNumber}
-use Rattle.ground_file.specs.Saving.{Went, here, on, stopOf, setUpNumber, saveNumber, fresh, Ran, Saves, Calls, none, call}
+use Rattle.ground_file.specs.Saving.{Went, here, on, stopOf, setUpNumber, saveNumber, fresh, Ran, Saves, Savable, Calls, none, call}
 use Rattle.ground_file.proofs.Digits.{bytes-length}
 use Rattle.ground_file.proofs.FileLaws.{listed-length, listed-same, same-is, times-first, wanted-kept, kept-wanted}
 use Rattle.ground_file.proofs.MapFiles.{by-one, range-small}
-use Rattle.ground_file.proofs.ValueLaws.{kept-is, kept-small, multiple-of, number-append, number-rest}
+use Rattle.ground_file.proofs.ValueLaws.{kept-is, kept-small, multiple-of, number-append, number-rest, is-multiple}
 use Rattle.ground_file.proofs.SaverLaws.{start-in, rest-length, piece-head, piece-group, piece-sum, moved-part, moved-whole, on-head, on-group, on-sum}
-use Rattle.ground_file.proofs.SaverLaws.{group-more, group-last, stop-row}
+use Rattle.ground_file.proofs.SaverLaws.{group-more, group-last, stop-row, multiple-one, number-none, first-phase}
 use Rattle.ground_file.proofs.SaverAsks.{Passed, passed, filter-few}
 
 -- ---- lists of numbers
@@ -562,6 +562,64 @@ module _ (sh : Shape) (q : ℕ) (ok : setUpNumber sh q ≡ 0) (p : List ℤ) (lo
       goods : (k : ℕ) (b : Band) (r : ℕ) → Kept (columns sh) (rows sh) (sh .levels) k b r → Good (rowName k b r)
       goods k b r h = ⊎-elim (λ z. absurd (omega arith)) (λ g. g) (but (rowName k b r) (kept-wanted sh (pass .deep .0) k b r h))
 
+  -- ---- no row of a plane that can be saved is turned away
+  module _ (can : Savable sh q P) where
+    row-fits : (pl : Place) (x : RowName) (l : List RowName) → o .Left pl (x ∷ l) → Wanted x l → rowFits (saver pl 0 0 0 1) (row pl) ≡ true
+    unfolding rowFits
+    row-fits pl x l left w = each-every (length (row pl)) _ (λ i h. le-leb _ _ (one i (omega (arith, row-length pl x l left w, h))))
+      where
+        one : (i : ℕ) → i < columnsOf x → natAbs (at (row pl) i) ≤ range (filterOf (sh .filter)) (min (pl .level) (filterOf (sh .filter) .levels))
+        one i h =
+            let e = ap natAbs (row-at pl x l left w i h) in
+            let top : min (pl .level) (filterOf (sh .filter) .levels) ≡ x .level =
+            omega (arith, place-in sh pl (inside pl x l left w) .most, pass .deep .1, level-is pl x l left w) in
+            let same = ap (range (filterOf (sh .filter))) top in
+            omega (arith, e, same, can .ranged (x .level) (x .band) (x .row) i (keeps pl x l left w) h)
+
+    row-divides : (pl : Place) (x : RowName) (l : List RowName) → o .Left pl (x ∷ l) → Wanted x l → rowDivides (saver pl 0 0 0 1) (row pl) ≡ true
+    unfolding rowDivides stepOf
+    row-divides pl x l left w = go (eqb (pl .band) 0) refl
+      where
+        other : eqb (pl .band) 0 ≡ false → 0 < code (x .band)
+        other e = elim (decLt 0 (code (x .band))) [
+          | yes h ↦ h
+          | no h ↦ (let z : _≡_ {A = ℕ} 1 0 =
+              ap (λ t. pick t 1 0) (sym (eq-eqb (pl .band) 0 (omega (arith, h, code-is pl x l left w))) ∙ e) in absurd (omega arith))
+        ]
+
+        one : eqb (pl .band) 0 ≡ false → (i : ℕ) → i < length (row pl) → isMultiple q (at (row pl) i) ≡ true
+        one e i h =
+            let j : i < columnsOf x = omega (arith, row-length pl x l left w, h) in
+            ap (isMultiple q) (row-at pl x l left w i j)
+            ∙ is-multiple q (P (startAt x + i)) (pass .step .0) (can .multiple (x .level) (x .band) (x .row) i (keeps pl x l left w) j (other e))
+
+        go : (t : Bool) → eqb (pl .band) 0 ≡ t → every (length (row pl)) (λ i. isMultiple (pick t 1 q) (at (row pl) i)) ≡ true
+        go true e = each-every (length (row pl)) _ (λ i h. multiple-one 1 (at (row pl) i) refl)
+        go false e = each-every (length (row pl)) _ (one e)
+
+    free-row : (s : Saver) (r : List ℤ) → rowFits s r ≡ true → rowDivides s r ≡ true → rowNumber s r ≡ 0
+    unfolding rowNumber
+    free-row s r e f = rw (e, f) (go (begins s))
+      where
+        go : (t : Bool) → _≡_ {A = ℕ} (pick t 0 0) 0
+        go true = refl
+        go false = refl
+
+    not-begun : (s : Saver) → (s .phase ≡ 1 → ⊥) → rowNumber s (rowOf s p) ≡ 0
+    not-begun s h = sym (number-none s (rowOf s p) (sym (first-phase s h)))
+
+    held-free : (s : Saver) (t : List ℕ) → Held s t → rowNumber s (rowOf s p) ≡ 0
+    unfolding rowFits rowDivides stepOf
+    held-free _ _ (head k h) = not-begun (saver nowhere 0 k 0 0) (λ z. omega arith)
+    held-free _ _ (group pl x l g k c t left w cs in-row h asked but e) =
+        ap (rowNumber (saver pl g k c 1)) (row-is pl g k c 1)
+        ∙ free-row (saver pl g k c 1) (row pl) (row-fits pl x l left w) (row-divides pl x l left w)
+    held-free _ _ (sum pl k c h cs but) = not-begun (saver pl 0 k c 2) (λ z. omega arith)
+    held-free _ _ (over pl but) = not-begun (saver pl 0 0 0 3) (λ z. omega arith)
+
+    pub went-free : (b : List ℕ) (s : Saver) → Went p (fresh sh q) b s → rowNumber s (rowOf s p) ≡ 0
+    went-free b s w = let r = went-held b s w in held-free s (r .0) (r .1)
+
 -- ---- every list of calls
 went-more : {p : List ℤ} {s₀ s : Saver} {b : List ℕ} (c : List ℕ) (s′ : Saver) → Went p s₀ b s → Went p s c s′ → Went p s₀ (b ++ c) s′
 went-more {p} {s₀} {s} {b} _ _ w here = subst (λ l. Went p s₀ l s) (sym (append-nil b)) w
@@ -594,6 +652,11 @@ calls-saved sh q ok p long b s w = saved sh q ok p long b s (calls-went b s w)
 pub calls-fit : (sh : Shape) (q : ℕ) → setUpNumber sh q ≡ 0 → (p : List ℤ) → sh .width * sh .height ≤ length p →
     (b : List ℕ) (s : Saver) → Calls p (fresh sh q) b s → 3 ≤ s .phase → sh .x < 65536 → sh .y < 65536 → Fits sh q (at p)
 calls-fit sh q ok p long b s w = saved-fits sh q ok p long b s (calls-went b s w)
+
+-- 7 and 22 never come of a plane that can be saved
+pub calls-free : (sh : Shape) (q : ℕ) → setUpNumber sh q ≡ 0 → (p : List ℤ) → sh .width * sh .height ≤ length p → Savable sh q (at p) →
+    (b : List ℕ) (s : Saver) → Calls p (fresh sh q) b s → rowNumber s (rowOf s p) ≡ 0
+calls-free sh q ok p long can b s w = went-free sh q ok p long can b s (calls-went b s w)
 
 -- a call with room for a byte writes one, unless the file is over or the row that is to be begun is turned away
 some-length : (m : ℕ) (l : List ℕ) → 0 < m → m ≤ length l → 0 < length (take m l)

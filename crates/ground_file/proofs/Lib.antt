@@ -15,3 +15,4 @@ pub mod SaverKeeps
 pub mod HeaderLaws
 pub mod HeaderTheorems
 pub mod SumLaws
+pub mod MapSaved

@@ -41,7 +41,7 @@ zigzag-small (negsuc n) h = omega arith
 pub by-one : (v : ℤ) → shrZ v 1 ≡ v
 by-one = each _ λ p q. simp lin (omega arith)
 
-one-times : (v : ℤ) → v ≡ pos 1 *ℤ shrZ v 1
+pub one-times : (v : ℤ) → v ≡ pos 1 *ℤ shrZ v 1
 one-times = each _ λ p q. simp lin (omega arith)
 
 stored-one : (b : Band) (v : ℤ) → stored 1 b v ≡ v
@@ -60,10 +60,10 @@ range-small (suc f) k p h =
 
 -- ---- a map's plane has a file
 module _ (s : Shape) (g : Grid) (m : MapOf s g) where
-  value-small : (k : ℕ) (b : Band) (r i : ℕ) → Kept (columns s) (rows s) (s .levels) k b r → i < bandColumns (columns s) k b
-      → natAbs (planeIn s g (bandStart (columns s) (rows s) k b r + i)) < 2 ^ 27
+  pub value-range : (k : ℕ) (b : Band) (r i : ℕ) → Kept (columns s) (rows s) (s .levels) k b r → i < bandColumns (columns s) k b
+      → natAbs (planeIn s g (bandStart (columns s) (rows s) k b r + i)) ≤ range (filterOf (s .filter)) k
   unfolding planeOf
-  value-small k b r i h l =
+  value-range k b r i h l =
       let st : Stands (s .levels) (columns s) (rows s) k b r i =
       record { deep = h .deep; most = h .most; last = h .last; row = h .row; column = l } in
       let c = column-in (s .levels) (columns s) (rows s) k b r i st in
@@ -74,11 +74,16 @@ module _ (s : Shape) (g : Grid) (m : MapOf s g) where
       let bound = map-plane-range (filterOf (s .filter)) (filter-laws (s .filter)) (columns s) (rows s) g (m .map) (s .levels) _ _ d c in
       let at : levelAt (s .levels) (columns s) (rows s) (planeRow (rows s) k b r) (planeColumn (columns s) k b i) ≡ k =
       level-places (s .levels) (columns s) (rows s) k b r i st in
-      let most : largest (s .filter) k < 2 ^ 27 = range-small (s .filter) k (m .filter) (omega (arith, h .most, m .levels .1)) in
-      let is : range (filterOf (s .filter)) k ≡ largest (s .filter) k = range-is (s .filter) k in
       let size = ap natAbs e in
       let top = ap (range (filterOf (s .filter))) at in
-      omega (arith, size, bound, top, is, most)
+      omega (arith, size, bound, top)
+
+  value-small : (k : ℕ) (b : Band) (r i : ℕ) → Kept (columns s) (rows s) (s .levels) k b r → i < bandColumns (columns s) k b
+      → natAbs (planeIn s g (bandStart (columns s) (rows s) k b r + i)) < 2 ^ 27
+  value-small k b r i h l =
+      let most : largest (s .filter) k < 2 ^ 27 = range-small (s .filter) k (m .filter) (omega (arith, h .most, m .levels .1)) in
+      let is : range (filterOf (s .filter)) k ≡ largest (s .filter) k = range-is (s .filter) k in
+      omega (arith, value-range k b r i h l, is, most)
 
   pub map-fits : Fits s 1 (planeIn s g)
   map-fits =

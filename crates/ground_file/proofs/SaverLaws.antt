@@ -52,7 +52,7 @@ start-below m n h = go (ltb m n) refl
     go true e = ltb-true m n e
     go false e = omega arith
 
-multiple-one : (q : ℕ) (v : ℤ) → 1 ≡ q → isMultiple q v ≡ true
+pub multiple-one : (q : ℕ) (v : ℤ) → 1 ≡ q → isMultiple q v ≡ true
 unfolding isMultiple
 multiple-one q v e = rw (← e) (eq-eqb ((mag v + signOf v) % 1) 0 (omega arith))
 

@@ -3,7 +3,7 @@ use mathlib.Core.Path.{_≡_, refl, sym, ap, ap₂, _∙_}
 use mathlib.Core.Bool.{Bool, true, false, _&&_}
 use mathlib.Core.List.{List, [], _∷_, _++_}
 use Prim.Native.Nat.{ℕ, zero, suc, _+_, _*_, _-_, _/_, _%_, _^_, _≤_, _<_}
-use native.Mathlib.Nat.{mul-add-mod-self-right, mod-add-div, mod-lt, mul-le-mul-left, mul-suc}
+use native.Mathlib.Nat.{mul-add-mod-self-right, mod-add-div, mod-le, mod-lt, mul-comm, mul-le-mul-left, mul-suc}
 use native.Mathlib.Omega.{arith}
 use native.Mathlib.Decide.{decLt}
 use lib.IntN.{ℤ, pos, negsuc, natAbs, negℤ, _+ℤ_, _-ℤ_, _*ℤ_}
@@ -14,7 +14,7 @@ use lib.Seq.{take-suc, take-suc-set}
 use mir.Syntax.{w32}
 use mir.Val.{SFits, toZ, ofZ}
 use mir.ValLaws.{toZ-ofZ}
-use borrow.Author.Tests.{ltb-true, ltb-false, lt-ltb, eqb-true}
+use borrow.Author.Tests.{ltb-true, ltb-false, lt-ltb, eq-eqb, eqb-true}
 use Rattle.numbers.specs.Signal.{at, pick, both}
 use Rattle.numbers.specs.Tests.{every}
 use Rattle.numbers.proofs.Integers.{each, lin, dif-natAbs}
@@ -109,6 +109,9 @@ kept-is q (pos n) h = omega arith
 kept-is q (negsuc n) h = omega arith
 
 -- ---- a list filled from the front
+zero-mod : (q : ℕ) → 0 % q ≡ 0
+zero-mod q = omega (arith, mod-le 0 q)
+
 -- a value that is a multiple of the step is the step times its quotient
 times-back : (n q : ℕ) → 1 ≤ q → n % q ≡ 0 → q * (n / q) ≡ n
 times-back n q h e = omega (arith, mod-add-div n q, e)
@@ -128,6 +131,24 @@ unfolding isMultiple signOf
 multiple-of q (pos n) h e =
     ap pos (sym (times-back n q h (ap (λ k. k % q) (omega arith) ∙ eqb-true _ _ e)))
 multiple-of q (negsuc n) h e = ap (λ k. negℤ (pos k)) (sym (next-quotient n q h (eqb-true _ _ e)))
+
+-- and the other way
+pub is-multiple : (q : ℕ) (v : ℤ) → 1 ≤ q → v ≡ pos q *ℤ shrZ v q → isMultiple q v ≡ true
+unfolding isMultiple signOf
+is-multiple q (pos n) h e =
+    let f : n ≡ q * (n / q) = ap natAbs e in
+    eq-eqb _ 0 (ap (λ k. k % q) (omega arith) ∙ rest-none (n / q) (f ∙ mul-comm q (n / q)))
+  where
+    rest-none : (k : ℕ) → n ≡ k * q → n % q ≡ 0
+    rest-none k g = ap (λ m. m % q) (g ∙ omega arith) ∙ mul-add-mod-self-right k q 0 ∙ zero-mod q
+is-multiple q (negsuc n) h e =
+    let f : suc n ≡ q * suc (n / q) = ap natAbs e ∙ size (q * suc (n / q)) in
+    let g : n + 1 ≡ suc (n / q) * q + 0 = omega (arith, f, mul-comm q (suc (n / q))) in
+    eq-eqb _ 0 (ap (λ m. m % q) g ∙ mul-add-mod-self-right (suc (n / q)) q 0 ∙ zero-mod q)
+  where
+    size : (k : ℕ) → natAbs (negℤ (pos k)) ≡ k
+    size zero = refl
+    size (suc k) = refl
 
 pub listed-more : (n : ℕ) (x : ℕ → ℕ) → listed (suc n) x ≡ listed n x ++ (x n ∷ [])
 unfolding listed

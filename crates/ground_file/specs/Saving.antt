@@ -3,15 +3,18 @@ use mathlib.Core.Path.{_≡_}
 use mathlib.Core.Bool.{Bool, true, false}
 use mathlib.Core.List.{List, [], _∷_, _++_}
 use Prim.Native.Nat.{ℕ, zero, suc, _+_, _-_, _*_, _/_, _%_, _^_, _≤_, _<_, min}
-use lib.IntN.{ℤ, natAbs}
+use lib.IntN.{ℤ, pos, natAbs, _*ℤ_}
+use lib.Signed.{shrZ}
 use lib.Dec.{leb, ltb, eqb}
 use lib.ListN.{length, take, drop}
 use Rattle.numbers.specs.Signal.{at, pick, both}
 use Rattle.numbers.specs.Tests.{every}
 use Rattle.wavelet.specs.declared.shape.Shape.{Shape}
 use Rattle.wavelet.specs.Shape.{columns, rows}
+use Rattle.wavelet.specs.Bands.{Band, code}
 use Rattle.wavelet.specs.Limits.{maxWidth, maxHeight, range}
 use Rattle.wavelet.specs.Questions.{ask, within}
+use Rattle.wavelet.specs.View.{bandColumns, bandStart, Kept}
 use Rattle.wavelet.specs.ViewCall.{viewRow}
 use Rattle.filters.specs.Filters.{filterOf, isFilter}
 use Rattle.reader_order.specs.declared.Place.{Place}
@@ -154,6 +157,13 @@ pub record Ran (s : Saver) (p : List ℤ) (before after : List ℕ) (r : Saved) 
 pub record Saves (s : Saver) (p : List ℤ) (before after : List ℕ) (r : Saved) : Type 0 where
   pub refused : 0 < saveNumber s (length p) → (r .answer ≡ saveNumber s (length p)) × (r .written ≡ 0) × (r .saver ≡ s) × (after ≡ before)
   pub done : saveNumber s (length p) ≡ 0 → Ran s p before after r
+
+-- ---- a plane of which no row is turned away: each number is in its level's range, and those of HL, LH and HH are multiples of the step
+pub record Savable (s : Shape) (q : ℕ) (p : ℕ → ℤ) : Type 0 where
+  pub ranged : (k : ℕ) (b : Band) (r i : ℕ) → Kept (columns s) (rows s) (s .levels) k b r → i < bandColumns (columns s) k b
+      → natAbs (p (bandStart (columns s) (rows s) k b r + i)) ≤ range (filterOf (s .filter)) k
+  pub multiple : (k : ℕ) (b : Band) (r i : ℕ) → Kept (columns s) (rows s) (s .levels) k b r → i < bandColumns (columns s) k b → 0 < code b
+      → p (bandStart (columns s) (rows s) k b r + i) ≡ pos q *ℤ shrZ (p (bandStart (columns s) (rows s) k b r + i)) q
 
 -- ---- a list of saving calls lent one plane, into any areas: the bytes that they wrote, one after the other, and the saver that they leave
 pub data Calls (p : List ℤ) (s₀ : Saver) : List ℕ → Saver → Type 0 where

@@ -7,4 +7,4 @@ mod pieces;
 pub mod saver;
 mod sums;
 mod values;
-mod widths;
+pub mod widths;

@@ -1,11 +1,10 @@
-// The widths of a group's parts. The module is private, as `parts` is.
+// The widths of a group's parts, and the codes that choose them.
 ghost use mathlib.Core.Path.{_≡_};
 ghost use mathlib.Core.List.{[], _∷_};
-ghost use Prim.Native.Nat.{_+_, _≤_};
-ghost use lib.ListN.{length, take, drop};
 ghost use Rattle.ground_file.specs.Groups.{widthOf, codeOf};
-ghost use Rattle.ground_file.specs.Local.{largestOf, codeFor};
+ghost use Rattle.ground_file.specs.Local.{codeFor};
 
+// The width that a code chooses; 28 for every code from 15 on.
 pub fn width_of(code: usize) -> usize
     ensures { λ r. ⌜ r ≡ widthOf code ⌝ }
 {
@@ -48,21 +47,4 @@ pub fn code_of(largest: u32) -> usize
     ensures { λ r. ⌜ r ≡ codeOf (largest ∷ []) ⌝ }
 {
     code_for((32 - u32::leading_zeros(largest)) as usize)
-}
-
-// The largest of n numbers from number `from` on; 0 where there are none. They are looked at from the last on.
-pub fn largest(numbers: &[u32], from: usize, n: usize) -> u32
-    requires { ⌜ from + n ≤ length (now numbers) ⌝ }
-    ensures { λ r. ⌜ r ≡ largestOf (take n (drop from (now (numbers .entry)))) ⌝ }
-{
-    let mut most = 0;
-    let mut i = n;
-    while 0 < i {
-        i -= 1;
-        let x = numbers[from + i];
-        if most < x {
-            most = x;
-        }
-    }
-    most
 }

@@ -21,8 +21,7 @@ use Rattle.wavelet.proofs.GridLaws.{cells-flat}
 use Rattle.map_levels.specs.Passes.{Rows, within, rowsMapped}
 use Rattle.filters.specs.Filters.{filterOf}
 use Rattle.map_levels.specs.ByFilter.{liftedBy, columnsLiftedBy, levelLiftedBy}
-use Rattle.map_levels.specs.LevelPasses.{columnsLiftedInPlace, levelLifted, planeWritten, LevelMade, LevelMadeBy}
-use Rattle.map_levels.proofs.LevelMath.{five-three-made}
+use Rattle.map_levels.specs.LevelPasses.{columnsLiftedInPlace, levelLifted, planeWritten, regionInRange, MapRebuilt}
 use Rattle.map_levels.proofs.CellLaws.{flat-same}
 use Rattle.map_levels.proofs.LevelCalls.{mapped-same}
 
@@ -58,10 +57,15 @@ nine-seven-rows s W H x y z some wide e f =
     f ∙ flat-same s _ _ some
     (λ r c cs. mapped-same (nine.liftedInPlace W) (W .length) (H .length) (cells s y) Z r c (same r c cs) (λ j jw. same r j (omega arith)))
 
--- the levels of the 5/3
+-- the levels of either filter
 pub five-levels : (f L : ℕ) → f ≡ 0 → L ≤ filterOf f .levels → L ≤ 5
 unfolding filterOf
 five-levels f L e b = rw e at b
+
+pub nine-levels : (f L : ℕ) → (f ≡ 0 → ⊥) → L ≤ filterOf f .levels → L ≤ nineSevenFilter .levels
+unfolding filterOf
+nine-levels zero L d b = absurd (d refl)
+nine-levels (suc f) L d b = b
 
 -- either filter's plane, by its number
 pub plane-five-three : (f L A : ℕ) (W H : Side) (g Z : Grid) (z : ℕ → ℤ) → f ≡ 0 → z ≡ flat A (planeWritten fiveThreeFilter L W H g Z) →
@@ -76,18 +80,23 @@ plane-nine-seven zero L A W H g Z z d is = absurd (d refl)
 plane-nine-seven (suc f) L A W H g Z z d is = is
 
 -- ---- the way back
-pub back-five-three : (f : ℕ) {ok : Bool} {from s : ℕ} {W H : Side} {z : Grid} {y₀ y : ℕ → ℤ} → f ≡ 0 → LevelMade ok from s W H z y₀ y →
-    LevelMadeBy (filterOf f) ok from s W H z y₀ y
-unfolding filterOf
-back-five-three f e m = rw e (five-three-made m)
-
-pub back-nine-seven : (f : ℕ) {ok : Bool} {from s : ℕ} {W H : Side} {z : Grid} {y₀ y : ℕ → ℤ} → (f ≡ 0 → ⊥) → LevelMadeBy nineSevenFilter ok from s W H z y₀ y →
-    LevelMadeBy (filterOf f) ok from s W H z y₀ y
-unfolding filterOf
-back-nine-seven zero d m = absurd (d refl)
-back-nine-seven (suc f) d m = m
-
 pub range-at : (f k : ℕ) (r : ℤ) → k ≤ filterOf f .levels → r ≡ pos (range (filterOf f) (min k (filterOf f .levels))) → r ≡ pos (range (filterOf f) k)
 range-at f k r b is =
     let m : min k (filterOf f .levels) ≡ k = omega arith in
     is ∙ ap (λ (i : ℕ). pos (range (filterOf f) i)) m
+
+-- the map of a plane by either filter
+pub ranged-five-three : (f L : ℕ) (W H : Side) (x : Grid) → f ≡ 0 → regionInRange (filterOf f) 1 L W H x ≡ true → regionInRange fiveThreeFilter 1 L W H x ≡ true
+unfolding filterOf
+ranged-five-three f L W H x e r = rw e at r
+
+pub map-five-three : (f L : ℕ) (ok : Bool) (W H : Side) (z g₀ g y₀ y : ℕ → ℤ) → f ≡ 0 → MapRebuilt fiveThreeFilter ok W H L z g₀ g y₀ y →
+    MapRebuilt (filterOf f) ok W H L z g₀ g y₀ y
+unfolding filterOf
+map-five-three f L ok W H z g₀ g y₀ y e m = rw e m
+
+pub map-nine-seven : (f L : ℕ) (ok : Bool) (W H : Side) (z g₀ g y₀ y : ℕ → ℤ) → (f ≡ 0 → ⊥) → MapRebuilt nineSevenFilter ok W H L z g₀ g y₀ y →
+    MapRebuilt (filterOf f) ok W H L z g₀ g y₀ y
+unfolding filterOf
+map-nine-seven zero L ok W H z g₀ g y₀ y d m = absurd (d refl)
+map-nine-seven (suc f) L ok W H z g₀ g y₀ y d m = m

@@ -13,7 +13,7 @@ use lib.Dec.{leb, le→leb}
 use Rattle.numbers.specs.Signal.{pick}
 use Rattle.numbers.specs.Word.{wrap32, whole}
 use Rattle.lifting.specs.Halves.{fronted}
-use Rattle.lifting.specs.Grid.{Side}
+use Rattle.lifting.specs.Grid.{Side, side}
 use Rattle.lifting.specs.Filter.{Filter}
 use Rattle.lifting.proofs.FilterLaws.{FilterLaws}
 use Rattle.wavelet.specs.Limits.{maxWidth, maxLevels, maxSample, range}
@@ -31,6 +31,8 @@ use Rattle.map_levels.specs.Rowwise.{heightsAt}
 use Rattle.map_levels.specs.Passes.{within as inside}
 use Rattle.map_levels.specs.Passes.{Rows, KeptFrom, rowsMapped, gridHalved, rowsReturned}
 use Rattle.map_levels.specs.LevelPasses.{cornerGrid, planeWritten, Rebuilt, regionInRange, Doubling, LevelsBack, Finished, MapRebuilt}
+use Rattle.map_levels.specs.SweepBack.{SweptBack}
+use Rattle.map_levels.specs.BackLines.{lineLong, BackRoom}
 use Rattle.map_questions.specs.Calls.{planeQuestions, zeros}
 use Rattle.areas.proofs.AreaLaws.{front-at, front-rest}
 use Rattle.map_levels.proofs.CellLaws.{flat-same, by-within, past-rows, kept-then, halved-grid, halved-out, returned-in, returned-out, mapped-out}
@@ -233,3 +235,53 @@ module _ (F : Filter) (laws : FilterLaws F) where
           kept = kept-then (b .kept) (f .kept) (omega arith);
           keptHeights = f .keptHeights;
         }
+
+    -- the levels in sweeps, whose last gives the heights: y is the work area y₁ cleared
+    pub map-swept : (done : Bool) (g y : ℕ → ℤ) → done ≡ true → SweptBack F done 0 L (W .length) W H z g₀ g y₀ y₁ →
+        y ≡ fronted (W .length * H .length) zeros y₁ →
+        MapRebuilt F true W H L z g₀ g y₀ y
+    unfolding flat cells
+    map-swept done g y it b e =
+        let w = s .width .0 in
+        let h = s .height .0 in
+        let rows = whole-rows (W .length) (H .length) h in
+        let kept : KeptFrom ((H .length - 1) * W .length + W .length) y₀ y₁ = record { kept = λ j q. b .kept .kept j (omega arith) } in
+        let all = cleared (W .length) (H .length) y₀ y₁ y h kept e in
+        record {
+          answer = sym it ∙ b .answer;
+          heights = λ t. fun-ext λ j.
+              elim (decLt j (W .length * H .length)) [
+                | yes q ↦
+                    let k = cell-of (W .length) (H .length) j w q in
+                    ap g (sym (div-add-mod' j (W .length)))
+                    ∙ b .made it (j / W .length) (j % W .length) (k .0) (k .1)
+                    ∙ sym (front-at (W .length * H .length) (flat (W .length) (mapBack F wrap32 L W H plane)) g₀ j q)
+                | no q ↦ b .keptHeights .kept j (omega arith) ∙ sym (front-rest (W .length * H .length) _ g₀ j (omega arith))
+              ];
+          cleared = λ t. all;
+          kept = record { kept = λ j q. ap (λ (u : ℕ → ℤ). u j) all ∙ front-rest (W .length * H .length) zeros y₀ j (omega arith) };
+          keptHeights = record { kept = λ j q. b .keptHeights .kept j (omega arith) };
+        }
+
+    pub map-odd : (done : Bool) (g : ℕ → ℤ) → done ≡ false → SweptBack F done 0 L (W .length) W H z g₀ g y₀ y₁ → MapRebuilt F false W H L z g₀ g y₀ y₁
+    map-odd done g it b =
+        let rows = whole-rows (W .length) (H .length) (s .height .0) in
+        record {
+          answer = sym it ∙ b .answer;
+          heights = λ t. absurd (false-true t);
+          cleared = λ t. absurd (false-true t);
+          kept = record { kept = λ j q. b .kept .kept j (omega arith) };
+          keptHeights = record { kept = λ j q. b .keptHeights .kept j (omega arith) };
+        }
+
+-- room for the levels of a map in sweeps
+pub map-room : (W H L n l m o : ℕ) (x y : ℕ) → Sized W H L → W * H ≤ n → W * H ≤ l → W * H ≤ m → 5 * lineLong ≤ o →
+    BackRoom 0 n l m o W (side x W) (side y H)
+map-room W H L n l m o x y s bn bl bm bo =
+    let w = s .width in
+    record {
+      area = record { plane = map-rows W H L n s bn; heights = λ q. bl; work = bm; narrow = w .1 };
+      wide = w .0;
+      lines = bo;
+      level = omega arith;
+    }

@@ -11,7 +11,7 @@ use Rattle.numbers.specs.Signal.{pick}
 use Rattle.numbers.specs.Word.{wrap32}
 use Rattle.lifting.specs.Line.{unupdated, unpredicted, Half, lo, hi}
 use Rattle.lifting.specs.Grid.{Side, half, place, count, deinterleaved, joined, singleHigh}
-use Rattle.lifting.specs.GridHalves.{halvesOf, inHalves, unliftedInPlace}
+use Rattle.lifting.specs.GridHalves.{halvesOf, inHalves}
 use Rattle.lifting.proofs.GridLaws.{counts, place-in, by-place, joined-place, joined-deinterleaved, halves-low, halves-high}
 use Rattle.wavelet.specs.Bands.{Grid}
 use Rattle.wavelet.specs.Plane.{cells, flat, halfAt, placeIn}
@@ -20,7 +20,7 @@ use Rattle.map_levels.specs.Rowwise.{cut, deinterleavedInPlace, halvedIn
 use Rattle.map_levels.specs.Passes.{Rows, KeptFrom, within, after, before, isLow, highRowsChanged, lowRowsChanged, rowsMapped, planeRow, levelRow}
 use Rattle.map_levels.specs.Passes.{rowsFetched, gridHalved, gridCopied, rowsReturned}
 use Rattle.map_levels.proofs.GridSweep.{row-room}
-use Rattle.map_levels.specs.LevelPasses.{levelGrid, cornerGrid, columnsLiftedInPlace, columnsUnliftedInPlace, levelUnlifted}
+use Rattle.map_levels.specs.LevelPasses.{levelGrid, cornerGrid, columnsLiftedInPlace, columnsUnliftedInPlace}
 
 -- ---- cells
 pub flat-same : (s : ℕ) (X Y : Grid) → 0 < s → ((r c : ℕ) → c < s → X r c ≡ Y r c) → flat s X ≡ flat s Y
@@ -299,12 +299,6 @@ columns-out w H X r c e =
             | false ↦ refl
           ])
     ]
-
-pub unlifted-out : (W H : Side) (X : Grid) (r c : ℕ) → within (W .length) (H .length) r c ≡ false → levelUnlifted W H X r c ≡ X r c
-unfolding levelUnlifted
-unlifted-out W H X r c e =
-    columns-out (W .length) H (rowsMapped (unliftedInPlace W) (W .length) (H .length) X) r c e ∙
-    mapped-out (W .length) (H .length) X r c e (unliftedInPlace W)
 
 -- ---- what stands past the rows stays
 pub past-rows : (s w h j : ℕ) → 0 < h → (h - 1) * s + w ≤ j → within w h (j / s) (j % s) ≡ false

@@ -10,38 +10,25 @@ use lib.Dec.{leb}
 use lib.ListN.{length, List·getD-eq-default}
 use borrow.Rule.Slice.PartMut.{midOf, putMid, same-len-mid}
 use borrow.Author.Tests.{lt-ltb, le-ltb, le-leb}
-use Rattle.numbers.specs.Signal.{at, pick, both, windowed, spliced}
-use Rattle.numbers.specs.Word.{wrap32}
+use Rattle.numbers.specs.Signal.{at, pick, windowed, spliced}
 use Rattle.numbers.proofs.Parts.{window-in, window-past, splice-below, splice-in, splice-past, length-mid, at-mid, at-put}
-use Rattle.lifting.specs.Line.{unupdated, unpredicted}
 use Rattle.lifting.specs.Halves.{fronted}
-use Rattle.lifting.specs.Grid.{Side, side, singleHigh}
-use Rattle.lifting.specs.GridHalves.{unliftedInPlace, hasLineIn, highsLaid}
-use Rattle.lifting.proofs.SingleLaws.{laid-single, has-none}
+use Rattle.lifting.specs.Grid.{Side}
 use Rattle.lifting.proofs.RowLaws.{row-order}
 use Rattle.wavelet.specs.Bands.{Grid}
 use Rattle.wavelet.specs.Plane.{cells}
 use Rattle.wavelet.specs.Maps.{every, everyCell}
 use Rattle.wavelet.proofs.MapTheorems.{every-each, each-every, every-same}
-use Rattle.map_levels.specs.Rowwise.{cut, between, halvedInPlace}
-use Rattle.map_levels.specs.Passes.{isLow, before, after, highRowsChanged, lowRowsChanged, rowsMapped, planeRow}
+use Rattle.map_levels.specs.Rowwise.{cut, between}
+use Rattle.map_levels.specs.Passes.{isLow, before, after, rowsMapped, planeRow}
 use Rattle.map_levels.specs.ByFilter.{rowCopied}
-use Rattle.map_levels.specs.LevelPasses.{columnsUnliftedInPlace, rowsBetween}
+use Rattle.map_levels.specs.LevelPasses.{rowsBetween}
 use Rattle.map_levels.proofs.GridSweep.{RowSwept, store-row}
 use Rattle.areas.proofs.AreaLaws.{front-at, did}
 use Rattle.map_levels.proofs.RowwiseLaws.{window-cut}
-use Rattle.map_levels.proofs.TestLaws.{both-is, not-every}
+use Rattle.map_levels.proofs.TestLaws.{not-every}
 
 -- ---- a pass reads the cells that stand in the area alone
-module _ (f : ℤ → ℤ → ℤ → ℤ) (w : ℕ) (H : Side) (X Y : Grid) (r c : ℕ) (same : (i : ℕ) → X i c ≡ Y i c) where
-  high-same : highRowsChanged f w H X r c ≡ highRowsChanged f w H Y r c
-  unfolding highRowsChanged
-  high-same = rw (same r, same (before r), same (after (H .length) r))
-
-  low-same : lowRowsChanged f w H X r c ≡ lowRowsChanged f w H Y r c
-  unfolding lowRowsChanged
-  low-same = rw (same r, same (before r), same (after (H .length) r))
-
 pub cut-same : (w : ℕ) (x y : ℕ → ℤ) → ((j : ℕ) → j < w → x j ≡ y j) → cut w x ≡ cut w y
 unfolding cut
 cut-same w x y e =
@@ -51,33 +38,6 @@ pub mapped-same : (f : (ℕ → ℤ) → ℕ → ℤ) (w h : ℕ) (X Y : Grid) (
     rowsMapped f w h X r c ≡ rowsMapped f w h Y r c
 unfolding rowsMapped
 mapped-same f w h X Y r c e es = rw (e, cut-same w (X r) (Y r) es)
-
-halved-same : (w h : ℕ) (X Y : Grid) (r c : ℕ) → X r c ≡ Y r c → rowsMapped (halvedInPlace w) w h X r c ≡ rowsMapped (halvedInPlace w) w h Y r c
-unfolding rowsMapped halvedInPlace fronted cut
-halved-same w h X Y r c e = rw e
-
-pub unlifted-same : (w : ℕ) (H : Side) (X Y : Grid) (r c : ℕ) → ((i : ℕ) → X i c ≡ Y i c) →
-    columnsUnliftedInPlace w H X r c ≡ columnsUnliftedInPlace w H Y r c
-unfolding columnsUnliftedInPlace
-unlifted-same w H X Y r c e =
-    elim (decLt 1 (H .length)) [
-      | yes g ↦ simp (lt-ltb 1 (H .length) g) (high-same (unpredicted wrap32) w H _ _ r c (λ i. low-same (unupdated wrap32) w H X Y i c e))
-      | no g ↦
-          let halved : Grid → Grid = rowsMapped (halvedInPlace w) w (H .length) in
-          simp (le-ltb 1 (H .length) (omega arith))
-          (elim (singleHigh H) as (λ t. pick t (halved X) X r c ≡ pick t (halved Y) Y r c) [
-            | true ↦ halved-same w (H .length) X Y r c (e r)
-            | false ↦ e r
-          ])
-    ]
-
--- the row in halves is a line's where its high half is
-laid-has : (S : Side) (y z : ℕ → ℤ) → hasLineIn S y ≡ true → hasLineIn S (highsLaid S y z) ≡ true
-laid-has S y z has =
-    elim (singleHigh S) as (λ t. singleHigh S ≡ t → hasLineIn S (highsLaid S y z) ≡ true) [
-      | true ↦ λ l. ap (hasLineIn S) (laid-single S l y z) ∙ has
-      | false ↦ λ l. has-none S (highsLaid S y z) l
-    ] refl
 
 -- ---- a part copied
 pub splice-same : (b n : ℕ) (u v x : ℕ → ℤ) → ((i : ℕ) → i < n → u i ≡ v i) → spliced b n u x ≡ spliced b n v x
@@ -126,22 +86,6 @@ module _ (a b n k k′ : ℕ) (from to z : List ℤ) (e : k ≡ n) (e′ : k′ 
       (fronted (length (midOf a k′ from)) (at (midOf a k′ from)) (at (midOf b k to))) (at (midOf b k to)) → at (putMid b k to z) ≡ spliced b n
       (windowed a n (at from)) (at to)
   copied-part is = fronted-part _ (did _ _ _ _ parts-room is) ∙ ap (λ (y : ℕ → ℤ). spliced b n y (at to)) (lent-part a n k′ from e′)
-
-  -- lifted back, where its high half is a line's
-  pub unlifted-part : (x : ℕ) → hasLineIn (side x n) (windowed a n (at from)) ≡ true →
-      at z ≡ pick (both (leb (length (midOf a k′ from)) (length (midOf b k to)))
-      (hasLineIn (side x (length (midOf a k′ from))) (highsLaid (side x (length (midOf a k′ from))) (at (midOf a k′ from)) (at (midOf b k to)))))
-      (fronted (length (midOf a k′ from)) (unliftedInPlace (side x (length (midOf a k′ from)))
-      (highsLaid (side x (length (midOf a k′ from))) (at (midOf a k′ from)) (at (midOf b k to)))) (at (midOf b k to))) (at (midOf b k to)) →
-      at (putMid b k to z) ≡ spliced b n (unliftedInPlace (side x n) (highsLaid (side x n) (windowed a n (at from)) (windowed b n (at to)))) (at to)
-  unlifted-part x has is =
-      let S = side x n in
-      let row : highsLaid (side x (length (midOf a k′ from))) (at (midOf a k′ from)) (at (midOf b k to)) ≡
-      highsLaid S (windowed a n (at from)) (windowed b n (at to)) =
-      cc (mid-length, lent-part a n k′ from e′, lent-part b n k to e) in
-      let ok : hasLineIn (side x (length (midOf a k′ from))) (highsLaid (side x (length (midOf a k′ from))) (at (midOf a k′ from)) (at (midOf b k to))) ≡ true =
-      cc (row, mid-length, laid-has S (windowed a n (at from)) (windowed b n (at to)) has) in
-      fronted-part _ (did _ _ _ _ (both-is _ _ parts-room ok) is) ∙ cc (mid-length, row)
 
 -- a part lent, that came back as z: the area then, and the part lent once more
 module _ (a m : ℕ) (l z : List ℤ) (room : a + m ≤ length l) (size : length z ≡ length (midOf a m l)) where

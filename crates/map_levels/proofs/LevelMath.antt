@@ -1,6 +1,6 @@
 -- One level in an area is one level of the definition: the passes over rows in halves, forward and back. Assumes nothing.
 use mathlib.Core.Path.{_≡_, refl, sym, ap, ap₂, _∙_, fun-ext}
-use mathlib.Core.Bool.{Bool, true, false}
+use mathlib.Core.Bool.{true, false}
 use Prim.Native.Nat.{ℕ, _+_, _-_, _%_, _≤_, _<_}
 use native.Mathlib.Decide.{decLt}
 use native.Mathlib.Omega.{arith}
@@ -20,11 +20,11 @@ use Rattle.lifting.specs.FiveThree.{fiveThreeFilter}
 use Rattle.lifting.proofs.FilterLaws.{FilterLaws}
 use Rattle.wavelet.specs.Bands.{Grid, Band, bandOf, columnsLifted, subband, rowsUnlifted, levelBack}
 use Rattle.wavelet.proofs.LevelTheory.{across-of, down-of}
-use Rattle.wavelet.specs.Plane.{flat, halfAt, placeIn}
+use Rattle.wavelet.specs.Plane.{halfAt, placeIn}
 use Rattle.map_levels.specs.Rowwise.{cut, halvedInPlace}
 use Rattle.map_levels.specs.Passes.{before, after, lowRowsChanged, rowsMapped}
 use Rattle.map_levels.specs.ByFilter.{liftedBy, columnsLiftedBy, levelLiftedBy, unliftedBy, columnsUnliftedBy, levelUnliftedBy}
-use Rattle.map_levels.specs.LevelPasses.{levelGrid, cornerGrid, columnsUnliftedInPlace, levelUnlifted, LevelMade, LevelMadeBy}
+use Rattle.map_levels.specs.LevelPasses.{levelGrid, cornerGrid, columnsUnliftedInPlace, levelUnlifted}
 use Rattle.map_levels.proofs.GridSweep.{mapped-in}
 use Rattle.map_levels.proofs.RowwiseLaws.{halves-cut}
 use Rattle.map_levels.proofs.ColumnPass.{before-is, after-is}
@@ -49,13 +49,13 @@ module _ (h r : ℕ) (g : 1 < h) (rh : r < h) where
       elim (decLt (r + 1) h) [ yes b ↦ simp (lt-ltb (r + 1) h b) (omega arith) | no b ↦ simp (le-ltb (r + 1) h (omega arith)) (omega arith) ]
 
 -- an only row is high exactly where the level has a high row
-single-is : (H : Side) → H .length ≤ 1 → 0 < count hi H → singleHigh H ≡ true
+pub single-is : (H : Side) → H .length ≤ 1 → 0 < count hi H → singleHigh H ≡ true
 single-is H g b = elim (singleHigh H) as (λ t. singleHigh H ≡ t → singleHigh H ≡ true) [
   | true ↦ λ e. e
   | false ↦ λ e. absurd (omega (arith, single-none H (omega arith) e))
 ] refl
 
-single-not : (H : Side) → 0 < count lo H → singleHigh H ≡ false
+pub single-not : (H : Side) → 0 < count lo H → singleHigh H ≡ false
 single-not H b = elim (singleHigh H) as (λ t. singleHigh H ≡ t → singleHigh H ≡ false) [
   | true ↦ λ e. let t = single-high H e in absurd (omega arith)
   | false ↦ λ e. e
@@ -207,9 +207,3 @@ five-three-columns w H X r c =
 pub five-three-back : (W H : Side) (X : Grid) → levelUnlifted W H X ≡ levelUnliftedBy fiveThreeFilter W H X
 unfolding levelUnlifted levelUnliftedBy unliftedInPlace unliftedBy
 five-three-back W H X = fun-ext λ r. fun-ext λ c. five-three-columns (W .length) H (rowsMapped (unliftedInPlace W) (W .length) (H .length) X) r c
-
-pub five-three-made : {ok : Bool} {from s : ℕ} {W H : Side} {z : Grid} {y₀ y : ℕ → ℤ} → LevelMade ok from s W H z y₀ y →
-    LevelMadeBy fiveThreeFilter ok from s W H z y₀ y
-unfolding unliftedInPlace unliftedBy
-five-three-made {s = s} {W = W} {H = H} m =
-    record { answer = m .answer; rows = λ t. m .rows t ∙ ap (flat s) (five-three-back W H _); kept = m .kept }

@@ -177,15 +177,11 @@ interleaved-in W h X r c rh cw =
     ∙ sym (grid-at W X r c)
 
 -- X is the area before the plane's rows x are fetched; from column `from` on the low-low part comes from the plane, and before it from X
-module _ (F : Filter) (laws : FilterLaws F) (from : ℕ) (W H : Side) (x X : Grid) (few : from ≤ count lo W) (L : ℕ)
-    (left : (i n : ℕ) → i < count lo H → n < from → X (place H lo i) n ≡ mapBack F wrap32 L (next W) (next H) x i n)
-    (new : (i n : ℕ) → i < count lo H → n < count lo W → from ≤ n → x i n ≡ mapBack F wrap32 L (next W) (next H) x i n) where
-  abbrev fetchedRows : Grid
-  fetchedRows = rowsFetched from (W .length) H x X
-
-  pub bands-fetched : BandsIn W H (bandsBack F L W H x) fetchedRows
+module _ (from : ℕ) (W H : Side) (x X low : Grid) (few : from ≤ count lo W) (left : (i n : ℕ) → i < count lo H → n < from → X (place H lo i) n ≡ low i n)
+    (new : (i n : ℕ) → i < count lo H → n < count lo W → from ≤ n → x i n ≡ low i n) where
+  pub rows-fetched : BandsIn W H (planeBands W H low x) (rowsFetched from (W .length) H x X)
   unfolding halvesOf planeBands bandOf
-  bands-fetched =
+  rows-fetched =
       let both = counts W in
       let w = W .length in
       record {
@@ -204,6 +200,16 @@ module _ (F : Filter) (laws : FilterLaws F) (from : ℕ) (W H : Side) (x X : Gri
           ]
         ];
       }
+
+-- where that part is what the levels left give
+module _ (F : Filter) (laws : FilterLaws F) (from : ℕ) (W H : Side) (x X : Grid) (few : from ≤ count lo W) (L : ℕ)
+    (left : (i n : ℕ) → i < count lo H → n < from → X (place H lo i) n ≡ mapBack F wrap32 L (next W) (next H) x i n)
+    (new : (i n : ℕ) → i < count lo H → n < count lo W → from ≤ n → x i n ≡ mapBack F wrap32 L (next W) (next H) x i n) where
+  abbrev fetchedRows : Grid
+  fetchedRows = rowsFetched from (W .length) H x X
+
+  pub bands-fetched : BandsIn W H (bandsBack F L W H x) fetchedRows
+  bands-fetched = rows-fetched from W H x X (mapBack F wrap32 L (next W) (next H) x) few left new
 
   -- y is the level lifted back
   module _ (s : ℕ) (y : ℕ → ℤ) (ws : W .length ≤ s) (e : y ≡ flat s (levelUnliftedBy F W H (cells s (flat s fetchedRows)))) where

@@ -10,7 +10,6 @@ pub mod LevelsMath
 pub mod TestLaws
 pub mod LevelCalls
 pub mod ForwardCalls
-pub mod BackPass
 pub mod LevelSteps
 pub mod ForwardSteps
 pub mod ByFilterLaws
@@ -22,3 +21,9 @@ pub mod SweepRows
 pub mod SweepSets
 pub mod SweepLevels
 pub mod SmallLaws
+pub mod ShortBack
+pub mod SweepBackLevels
+pub mod SweepBackGrid
+pub mod BackLineLaws
+pub mod BackRowLaws
+pub mod BackSets

@@ -18,7 +18,7 @@ use Rattle.lifting.specs.Line.{lo}
 use Rattle.lifting.specs.Grid.{Side, side, count, deinterleaved, singleHigh, isEven}
 use Rattle.lifting.specs.GridHalves.{hasLineIn}
 use Rattle.lifting.specs.Filter.{lineBackBy}
-use Rattle.lifting.proofs.SingleLaws.{single-high}
+use Rattle.lifting.proofs.SingleLaws.{single-high, has-first, has-none}
 use Rattle.lifting.proofs.RowLaws.{row-fits}
 use Rattle.nine_seven.specs.NineSeven.{lineBack}
 use Rattle.nine_seven.specs.Memory.{unliftedInPlace}
@@ -37,7 +37,18 @@ use Rattle.map_levels.proofs.RowwiseLaws.{window-cut}
 use Rattle.map_levels.proofs.CellLaws.{flat-same, fetched-new, fetched-made, fetched-out, mapped-out, kept-flat, kept-then, placed-in}
 use Rattle.map_levels.proofs.LevelCalls.{mapped-same, copy-turn, made-few}
 use Rattle.map_levels.proofs.TestLaws.{false-true}
-use Rattle.map_levels.proofs.BackPass.{row-has}
+
+-- the rows of the plane are lines' where the values that are halved are even
+row-has : (A : ℕ) (W : Side) (h l : ℕ) (p : ℕ → ℤ) → l < h → rowsEven W h (cells A p) ≡ true → hasLineIn W (windowed (l * A) (W .length) p) ≡ true
+unfolding rowsEven cells
+row-has A W h l p b e =
+    elim (singleHigh W) as (λ t. singleHigh W ≡ t → hasLineIn W (windowed (l * A) (W .length) p) ≡ true) [
+      | true ↦ λ o.
+          let t = single-high W o in
+          let all : every h (λ r. isEven (p (r * A + 0))) ≡ true = simp o at e in
+          has-first W _ o ∙ ap isEven (window-in (l * A) (W .length) p 0 (omega arith)) ∙ every-each h _ all l b
+      | false ↦ λ o. has-none W _ o
+    ] refl
 
 -- ---- the plane's rows fetched
 pub copied-turn : (A s from w : ℕ) (H : Side) (p x₀ x x′ : ℕ → ℤ) (i : ℕ) → w ≤ s → from ≤ w → i < H .length → x′ ≡ rowCopied from w H A s p i x →

@@ -62,7 +62,7 @@ module _ (n s : ℕ) (W H : Side) (X : Grid) (R : Rows n s (W .length) (H .lengt
   unfolding levelLifted
   level-out r c e = mapped-out w h columns r c e (liftedInPlace W) ∙ column-out w H X r c e
 
-by-test : {P : Type 0} (t : Bool) → (t ≡ true → P) → (t ≡ false → P) → P
+pub by-test : {P : Type 0} (t : Bool) → (t ≡ true → P) → (t ≡ false → P) → P
 by-test true f g = f refl
 by-test false f g = g refl
 

@@ -85,7 +85,7 @@ module _ (S : Side) (k : ℕ) (y x z : ℕ → ℤ) (l : List ℤ) (e : k ≡ S 
       is′ ∙ ap (λ (u : ℕ → ℤ). fronted n (joined S (halvesOf S u)) x) (lent-front n k x z l e h is) ∙ cut-interleaved S x x
 
 -- ---- a test of every number, gathered row by row: t is the test of row i
-and-both : (a b : Bool) → a && b ≡ both a b
+pub and-both : (a b : Bool) → a && b ≡ both a b
 and-both true b = refl
 and-both false b = refl
 

@@ -18,19 +18,19 @@ use Rattle.lifting.proofs.GridLaws.{some}
 use Rattle.lifting.proofs.PassLaws.{highs-low, highs-high, lows-low, lows-past, lifted-is}
 use Rattle.map_levels.specs.Sweep.{shortPredicted, shortUpdated, shortLifted}
 
-sum-kept : (a b : ℤ) → natAbs a ≤ 2 ^ 28 → natAbs b ≤ 2 ^ 28 → wrap32 (a +ℤ b) ≡ a +ℤ b
+pub sum-kept : (a b : ℤ) → natAbs a ≤ 2 ^ 29 → natAbs b ≤ 2 ^ 29 → wrap32 (a +ℤ b) ≡ a +ℤ b
 unfolding wrap32
 sum-kept = each _ λ p q. each _ λ r s. simp (lin, dif-natAbs) (omega arith)
 
-two-kept : (a b : ℤ) → natAbs a ≤ 2 ^ 28 → natAbs b ≤ 2 ^ 28 → wrap32 (a +ℤ b +ℤ pos 2) ≡ a +ℤ b +ℤ pos 2
+pub two-kept : (a b : ℤ) → natAbs a ≤ 2 ^ 29 → natAbs b ≤ 2 ^ 29 → wrap32 (a +ℤ b +ℤ pos 2) ≡ a +ℤ b +ℤ pos 2
 unfolding wrap32
 two-kept = each _ λ p q. each _ λ r s. simp (lin, dif-natAbs) (omega arith)
 
-pub short-predicted : (x a b : ℤ) → natAbs a ≤ 2 ^ 28 → natAbs b ≤ 2 ^ 28 → shortPredicted x a b ≡ predicted wrap32 x a b
+pub short-predicted : (x a b : ℤ) → natAbs a ≤ 2 ^ 29 → natAbs b ≤ 2 ^ 29 → shortPredicted x a b ≡ predicted wrap32 x a b
 unfolding shortPredicted predicted
 short-predicted x a b f g = ap (λ (s : ℤ). wrap32 (x -ℤ shrZ s 2)) (sum-kept a b f g)
 
-pub short-updated : (x a b : ℤ) → natAbs a ≤ 2 ^ 28 → natAbs b ≤ 2 ^ 28 → shortUpdated x a b ≡ updated wrap32 x a b
+pub short-updated : (x a b : ℤ) → natAbs a ≤ 2 ^ 29 → natAbs b ≤ 2 ^ 29 → shortUpdated x a b ≡ updated wrap32 x a b
 unfolding shortUpdated updated
 short-updated x a b f g =
     ap (λ (s : ℤ). wrap32 (x +ℤ shrZ (wrap32 (s +ℤ pos 2)) 4)) (sum-kept a b f g) ∙ ap (λ (s : ℤ). wrap32 (x +ℤ shrZ s 4)) (two-kept a b f g)
@@ -103,7 +103,7 @@ module _ (S : Side) (y : ℕ → ℤ) (more : 1 < S .length) (small : (j : ℕ) 
       let h : shorts j ≡ highs j = highs-low shortPredicted (1 - o) low N y j b ∙ sym (highs-low (predicted wrap32) (1 - o) low N y j b) in
       lows-low shortUpdated o low N shorts j b
       ∙ cc (h, high-same k kb, high-same m mb)
-      ∙ short-updated (highs j) (highs (low + k)) (highs (low + m)) (high-small k kb) (high-small m mb)
+      ∙ short-updated (highs j) (highs (low + k)) (highs (low + m)) (omega (arith, high-small k kb)) (omega (arith, high-small m mb))
       ∙ sym (lows-low (updated wrap32) o low N highs j b)
 
   both-same : (j : ℕ) → j < N → lowsChanged shortUpdated o low N shorts j ≡ lowsChanged (updated wrap32) o low N highs j

@@ -23,10 +23,10 @@ use Rattle.wavelet.proofs.LimitLaws.{sample-small}
 use Rattle.map_levels.proofs.TestLaws.{false-true, both-is}
 use Rattle.numbers.proofs.Parts.{window-in, at-mid, length-mid}
 
-or-left : (a b : ℕ) → a ≤ bitOr a b
+pub or-left : (a b : ℕ) → a ≤ bitOr a b
 or-left a b = omega (arith, or-add-and a b, and-le-r a b)
 
-or-right : (a b : ℕ) → b ≤ bitOr a b
+pub or-right : (a b : ℕ) → b ≤ bitOr a b
 or-right a b = omega (arith, or-add-and a b, and-le-l a b)
 
 -- the numbers x below i, whose or is `all`, and one more
@@ -105,17 +105,32 @@ pub record BitsWithin (i all : ℕ) (x : ℕ → ℤ) : Type 0 where
 pub bits-none : (x : ℕ → ℤ) → BitsWithin 0 0 x
 bits-none x = record { fits = omega arith; words = λ j b. absurd (omega arith); most = λ j b. absurd (omega arith) }
 
-pub bits-more : (i all : ℕ) (x : ℕ → ℤ) → BitsWithin i all x → SFits w32 (x i) → BitsWithin (i + 1) (bitOr all (ofZ w32 (x i))) x
-bits-more i all x s f =
+-- b has the bits of the one more, and maybe others
+pub bits-over : (i all b : ℕ) (x : ℕ → ℤ) → BitsWithin i all x → SFits w32 (x i) → Fits w32 b → ofZ w32 (x i) ≤ b → BitsWithin (i + 1) (bitOr all b) x
+bits-over i all b x s f g few =
     record {
-      fits = fits-or all (ofZ w32 (x i)) (s .fits) (ofZ-fits w32 (x i) f);
-      words = λ j b. elim (ℕ-discrete j i) [ yes q ↦ rw q f | no d ↦ s .words j (omega (arith, d)) ];
-      most = λ j b.
+      fits = fits-or all b (s .fits) g;
+      words = λ j l. elim (ℕ-discrete j i) [ yes q ↦ rw q f | no d ↦ s .words j (omega (arith, d)) ];
+      most = λ j l.
           elim (ℕ-discrete j i) [
-            | yes q ↦ let r = or-right all (ofZ w32 (x i)) in rw q r
-            | no d ↦ let l = or-left all (ofZ w32 (x i)) in omega (arith, s .most j (omega (arith, d)))
+            | yes q ↦ let r = or-right all b in rw q (omega arith)
+            | no d ↦ let m = or-left all b in omega (arith, s .most j (omega (arith, d)))
           ];
     }
+
+pub bits-more : (i all : ℕ) (x : ℕ → ℤ) → BitsWithin i all x → SFits w32 (x i) → BitsWithin (i + 1) (bitOr all (ofZ w32 (x i))) x
+bits-more i all x s f = bits-over i all (ofZ w32 (x i)) x s f (ofZ-fits w32 (x i) f) (omega arith)
+
+-- the or of two numbers has the bits of both
+pub or-both : (a b : ℤ) → SFits w32 a → SFits w32 b →
+    (ofZ w32 a ≤ ofZ w32 (toZ w32 (bitOr (ofZ w32 a) (ofZ w32 b)))) × (ofZ w32 b ≤ ofZ w32 (toZ w32 (bitOr (ofZ w32 a) (ofZ w32 b))))
+or-both a b f g =
+    let n = bitOr (ofZ w32 a) (ofZ w32 b) in
+    let e = ofZ-toZ w32 n (fits-or (ofZ w32 a) (ofZ w32 b) (ofZ-fits w32 a f) (ofZ-fits w32 b g)) in
+    (rw e (or-left (ofZ w32 a) (ofZ w32 b)), rw e (or-right (ofZ w32 a) (ofZ w32 b)))
+
+pub or-of : (v v′ : ℤ) (n : ℕ) → v ≡ v′ → ofZ w32 v ≤ n → ofZ w32 v′ ≤ n
+or-of v v′ n e l = rw (← e) l
 
 natural-read : (z : ℤ) (n : ℕ) → leZ (pos 0) z ≡ true → leZ z (pos n) ≡ true → ofZ w32 z ≤ n
 natural-read (pos m) n a b = leb-true m n b

@@ -3,7 +3,7 @@ use mathlib.Core.Path.{_≡_, refl, sym, ap, _∙_, fun-ext}
 use mathlib.Core.Bool.{Bool, true, false}
 use Prim.Native.Nat.{ℕ, zero, suc, _+_, _-_, _*_, _/_, _%_, _^_, _≤_, _<_}
 use mathlib.Core.List.{List}
-use native.Mathlib.Nat.{div-add-mod', mod-lt, mul-le-mul-left, mul-le-mul, pow-le-pow-right, pow-suc, mul-assoc, suc-mul}
+use native.Mathlib.Nat.{div-add-mod', mod-lt, mul-le-mul-left, mul-le-mul, pow-le-pow-right, pow-suc, mul-assoc, mul-comm, suc-mul}
 use native.Mathlib.Omega.{arith}
 use lib.IntN.{ℤ}
 use lib.ListN.{getD}
@@ -72,6 +72,26 @@ heights-grow L W H l x few fits =
     let p : 4 ^ L ≤ 4 ^ 5 = pow-le-pow-right (omega arith) few in
     let q : 65535 * 4 ^ L ≤ 65535 * 4 ^ 5 = mul-le-mul-left 65535 p in
     record { most = 65535; room = omega arith; within = λ r c rh cw. omega (arith, fits (r * W .length + c)) }
+
+-- ---- room for the low-low part
+pub low-least : (W H : Side) → count lo W * count lo H ≤ W .length * H .length
+low-least W H =
+    let l = counts W in
+    let k = counts H in
+    mul-le-mul {n₁ = count lo W} {m₁ = count lo H} {n₂ = W .length} {m₂ = H .length} (omega arith) (omega arith)
+
+pub low-room : (n : ℕ) (W H : Side) → Rows n (W .length) (W .length) (H .length) → count lo W * count lo H ≤ n
+low-room n W H R =
+    let t = all-rows (W .length) (H .length) (R .some) in
+    let s = mul-comm (H .length) (W .length) in
+    let room = R .room in
+    omega (arith, low-least W H)
+
+pub low-rows : (n : ℕ) (W H : Side) (w h : ℕ) → w ≡ count lo W → h ≡ count lo H → 0 < w → 0 < h → count lo W * count lo H ≤ n → Rows n w w h
+low-rows n W H w h ew eh sw sh b =
+    let t = all-rows w h sh in
+    let s : h * w ≡ count lo W * count lo H = rw (ew, eh) (mul-comm (count lo H) (count lo W)) in
+    record { apart = sw; wide = omega arith; some = sh; room = omega arith }
 
 -- ---- the low-low part saved, and where it is empty
 module _ (A : ℕ) (W H : Side) (z x₀ : ℕ → ℤ) (w h : ℕ) (ew : w ≡ count lo W) (eh : h ≡ count lo H) where

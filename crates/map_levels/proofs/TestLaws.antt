@@ -184,7 +184,7 @@ module _ (F : Filter) (laws : FilterLaws F) where
     unfolding rowsHave
     rows-hold-single e = both-is _ _ (each-every (count lo H) _ (λ r b. has-other W _ e)) (each-every (count hi H) _ (λ r b. has-other W _ e))
 
-    columns-hold-single : singleHigh H ≡ false → columnsHave F W H p ≡ true
+    pub columns-hold-single : singleHigh H ≡ false → columnsHave F W H p ≡ true
     unfolding columnsHave
     columns-hold-single e = each-every (W .length) _ (λ c b. has-other H _ e)
 
@@ -314,7 +314,7 @@ module _ (F : Filter) (laws : FilterLaws F) where
     level-rest e = simp e
 
   -- where no more levels follow
-  level-last : (L : ℕ) (W H : Side) (r c : ℕ) → 0 < L → goesOn L (count lo W) (count lo H) ≡ false → levelAt L W H r c ≡ 1
+  pub level-last : (L : ℕ) (W H : Side) (r c : ℕ) → 0 < L → goesOn L (count lo W) (count lo H) ≡ false → levelAt L W H r c ≡ 1
   unfolding levelAt
   level-last zero W H r c some e = absurd (omega arith)
   level-last (suc L) W H r c some e =

@@ -1,9 +1,9 @@
 -- The levels as the private functions make them: a level's rows stand in an area, each in halves. W are its columns, H its rows.
 use mathlib.Core.Bool.{Bool, true}
-use Prim.Native.Nat.{ℕ, _+_, _-_, _*_, _^_, _%_, _≤_, _<_}
+use Prim.Native.Nat.{ℕ, _+_, _-_, _*_, _^_, _≤_, _<_}
 use mathlib.Core.Path.{_≡_}
 use lib.IntN.{ℤ, pos, natAbs}
-use lib.Dec.{ltb, leb, eqb}
+use lib.Dec.{ltb, leb}
 use Rattle.numbers.specs.Signal.{pick, both, windowed, spliced}
 use Rattle.numbers.specs.Tests.{every}
 use Rattle.numbers.specs.Word.{wrap32}
@@ -11,7 +11,6 @@ use Rattle.lifting.specs.Line.{lo, unupdated, unpredicted}
 use Rattle.lifting.specs.Halves.{fronted}
 use Rattle.lifting.specs.Grid.{Side, count, joined, singleHigh, isEven}
 use Rattle.lifting.specs.GridHalves.{halvesOf, liftedInPlace, unliftedInPlace}
-use Rattle.lifting.specs.Rows.{rowsChanged}
 use Rattle.lifting.specs.Filter.{Filter}
 use Rattle.lifting.specs.FiveThree.{fiveThreeFilter}
 use Rattle.wavelet.specs.Limits.{maxWidth, range}
@@ -19,7 +18,7 @@ use Rattle.wavelet.specs.Bands.{Grid, levelHas}
 use Rattle.wavelet.specs.Plane.{cells, flat, planeCell, levelAt, planeBands, mapBack}
 use Rattle.wavelet.specs.Maps.{everyCell, valueFits, rebuiltFits}
 use Rattle.wavelet.specs.Levels.{next}
-use Rattle.map_levels.specs.Rowwise.{cut, between, halvedInPlace}
+use Rattle.map_levels.specs.Rowwise.{between, halvedInPlace}
 use Rattle.map_levels.specs.ByFilter.{unliftedBy, levelUnliftedBy}
 use Rattle.map_levels.specs.Passes.{within, highRowsChanged, lowRowsChanged, rowsMapped, rowsFetched, rowsReturned, Rows, KeptFrom}
 
@@ -51,17 +50,6 @@ columnsUnliftedInPlace w H X =
 -- all rows, then all columns
 unfoldable pub levelUnlifted : Side → Side → Grid → Grid
 levelUnlifted W H X = columnsUnliftedInPlace (W .length) H (rowsMapped (unliftedInPlace W) (W .length) (H .length) X)
-
--- row r of a level in the area x, its rows s apart: from the plane z, a low one from column `from` on, and lifted back
-unfoldable pub rowBack : ℕ → Side → Side → ℕ → Grid → (ℕ → ℤ) → ℕ → ℕ → ℤ
-rowBack from W H s z x r =
-    spliced (r * s) (W .length) (unliftedInPlace W (cut (W .length) (rowsFetched from (W .length) H z (cells s x) r))) x
-
--- the first row, and where it is low the one after it, by which its columns are lifted back, in an area of n numbers
-abbrev pub firstBack : ℕ → ℕ → Side → Side → ℕ → Grid → (ℕ → ℤ) → ℕ → ℤ
-firstBack n from W H s z x =
-    pick (eqb (H .start % 2) 1) (rowBack from W H s z x 0)
-    (rowsChanged (unupdated wrap32) n s (W .length) 0 1 1 (rowBack from W H s z (rowBack from W H s z x 0) 1))
 
 -- the plane z with the plane of the grid g, at L levels, in its corner
 unfoldable pub planeWritten : Filter → ℕ → Side → Side → Grid → Grid → Grid
@@ -104,14 +92,7 @@ pub record Doubling (L s w : ℕ) : Type 0 where
   pub small : s * 2 ^ L < 2 ^ 32
   pub narrow : w ≤ maxWidth
 
--- what one level back leaves of the work area y₀, and its answer, whether each value that it halved is even: z is the plane
-pub record LevelMade (ok : Bool) (from s : ℕ) (W H : Side) (z : Grid) (y₀ y : ℕ → ℤ) : Type 0 where
-  pub answer : ok ≡ both (rowsEven W (H .length) z)
-      (columnsEven (W .length) H (rowsMapped (unliftedInPlace W) (W .length) (H .length) (rowsFetched from (W .length) H z (cells s y₀))))
-  pub rows : ok ≡ true → y ≡ flat s (levelUnlifted W H (cells s (flat s (rowsFetched from (W .length) H z (cells s y₀)))))
-  pub kept : KeptFrom ((H .length - 1) * s + W .length) y₀ y
-
--- the same by any filter
+-- what one level back by a filter leaves of the work area y₀, and its answer, whether each value that it halved is even: z is the plane
 pub record LevelMadeBy (F : Filter) (ok : Bool) (from s : ℕ) (W H : Side) (z : Grid) (y₀ y : ℕ → ℤ) : Type 0 where
   pub answer : ok ≡ both (rowsEven W (H .length) z)
       (columnsEven (W .length) H (rowsMapped (unliftedBy F W) (W .length) (H .length) (rowsFetched from (W .length) H z (cells s y₀))))

@@ -9,7 +9,6 @@ use Rattle.numbers.specs.Signal.{pick, both}
 use Rattle.lifting.specs.Line.{lo, hi}
 use Rattle.lifting.specs.Grid.{Side, count, place, joined}
 use Rattle.lifting.specs.GridHalves.{halvesOf}
-use Rattle.lifting.specs.Rows.{rowsChanged}
 use Rattle.wavelet.specs.Bands.{Grid}
 use Rattle.map_levels.specs.Rowwise.{cut, deinterleavedInPlace}
 
@@ -43,14 +42,6 @@ highRowsChanged f w H x r c =
 unfoldable pub lowRowsChanged : (ℤ → ℤ → ℤ → ℤ) → ℕ → Side → Grid → Grid
 lowRowsChanged f w H x r c =
     pick (both (within w (H .length) r c) (isLow H r)) (f (x r c) (x (before r) c) (x (after (H .length) r) c)) (x r c)
-
--- the row after row r, where there is one, changed so, in an area of n numbers whose rows are s apart
-unfoldable pub nextChanged : (ℤ → ℤ → ℤ → ℤ) → ℕ → ℕ → ℕ → ℕ → ℕ → (ℕ → ℤ) → ℕ → ℤ
-nextChanged f n s w h r x = pick (ltb (r + 1) h) (rowsChanged f n s w (r + 1) r (after h (r + 1)) x) x
-
--- and then row r by g
-unfoldable pub pairChanged : (ℤ → ℤ → ℤ → ℤ) → (ℤ → ℤ → ℤ → ℤ) → ℕ → ℕ → ℕ → ℕ → ℕ → (ℕ → ℤ) → ℕ → ℤ
-pairChanged f g n s w h r x = rowsChanged g n s w r (before r) (after h r) (nextChanged f n s w h r x)
 
 -- each row changed as a line of w numbers by itself
 unfoldable pub rowsMapped : ((ℕ → ℤ) → ℕ → ℤ) → ℕ → ℕ → Grid → Grid

@@ -13,12 +13,10 @@ ghost use mathlib.Core.Path.{_≡_};
 ghost use mathlib.Core.Bool.{true};
 ghost use Prim.Native.Nat.{ℕ, _+_, _-_, _*_, _<_, _≤_};
 ghost use lib.IntN.{pos, negℤ, natAbs};
-ghost use lib.Dec.{ltb};
 ghost use lib.ListN.{length};
 ghost use Rattle.numbers.specs.Signal.{at, pick, windowed, spliced};
 ghost use Rattle.numbers.specs.Tests.{every};
 ghost use Rattle.lifting.specs.Grid.{side, singleHigh, isEven};
-ghost use Rattle.lifting.specs.GridHalves.{unliftedInPlace, hasLineIn, highsLaid};
 ghost use Rattle.nine_seven.specs.Memory.{unliftedInPlace as nineSevenBack};
 ghost use Rattle.nine_seven.specs.NineSevenFilter.{nineSevenFilter};
 ghost use Rattle.wavelet.specs.Limits.{maxWidth, range};
@@ -28,11 +26,11 @@ ghost use Rattle.map_levels.specs.Rowwise.{deinterleavedInPlace, interle
 ghost use Rattle.map_levels.specs.Passes.{Rows, KeptFrom, isLow, planeRow, levelRow, rowsMapped, rowsFetched, gridHalved, gridCopied};
 ghost use Rattle.filters.specs.Filters.{filterOf};
 ghost use Rattle.map_levels.specs.ByFilter.{rowCopied};
-ghost use Rattle.map_levels.specs.LevelPasses.{cornerGrid, levelUnlifted, rowBack, firstBack, planeWritten, goesOn, rowsEven, rowsBetween};
-ghost use Rattle.map_levels.specs.LevelPasses.{regionInRange, LevelRoom, Doubling, LevelMade, LevelMadeBy, LevelsBack};
+ghost use Rattle.map_levels.specs.LevelPasses.{cornerGrid, planeWritten, goesOn, rowsEven, rowsBetween};
+ghost use Rattle.map_levels.specs.LevelPasses.{regionInRange, LevelRoom, Doubling, LevelMadeBy, LevelsBack};
 
 // The plane's row for row r of a level: the low rows come first.
-fn plane_row(y: usize, height: usize, r: usize) -> usize
+pub fn plane_row(y: usize, height: usize, r: usize) -> usize
     requires { ⌜ r < height ⌝ }
     ensures { λ p. ⌜ (p ≡ planeRow (side y height) r) × (p < height) ⌝ }
 {
@@ -53,6 +51,9 @@ fn level_row(y: usize, height: usize, r: usize) -> usize
     }
     2 * (r - low) + (1 - y % 2)
 }
+
+// The number of the 9/7.
+const NINE_SEVEN: usize = 1;
 
 // Whether more levels follow on a low-low part of this width and height: an empty one has none.
 pub fn goes_on(levels: usize, width: usize, height: usize) -> bool
@@ -130,71 +131,6 @@ fn made_of(y: usize, r: usize, from: usize) -> usize
     if r % 2 == y % 2 { from } else { 0 }
 }
 
-// n numbers at place b of an area lifted back: a row in halves whose high half stands in the row at place a of another area. An only high value is even.
-fn unlift_part(from: &[i32], a: usize, to: &mut [i32], b: usize, x: usize, n: usize)
-    requires { ⌜ (a + n ≤ length (now from)) × (b + n ≤ length (now to)) × (hasLineIn (side x n) (windowed a n (at (now from))) ≡ true) ⌝ }
-    ensures { λ _. ⌜ at (now (to .exit)) ≡
-        spliced b n (unliftedInPlace (side x n) (highsLaid (side x n) (windowed a n (at (now (from .entry)))) (windowed b n (at (now (to .entry))))))
-        (at (now (to .entry))) ⌝ }
-{
-    let e = a + n;
-    let f = b + n;
-    halves::unlift_by(&from[a..e], x, &mut to[b..f]);
-}
-
-// Row r of a level from the plane, a low one from column `from` on, and lifted back. Only what is left of its low half is copied first: the
-// high half is read from the plane while it is lifted back.
-fn fetch_row(
-    plane: &[i32],
-    work: &mut [i32],
-    across: usize,
-    stride: usize,
-    from: usize,
-    x: usize,
-    width: usize,
-    y: usize,
-    height: usize,
-    r: usize,
-)
-    requires { ⌜ LevelRoom (length (now plane)) (length (now work)) across stride from (side x width) (side y height)
-        × (r < height) × (rowsEven (side x width) height (cells across (at (now plane))) ≡ true) ⌝ }
-    ensures { λ _. ⌜ at (now (work .exit)) ≡
-        rowBack from (side x width) (side y height) stride (cells across (at (now (plane .entry)))) (at (now (work .entry))) r ⌝ }
-{
-    let made = made_of(y, r, from);
-    let low = sizes::low_count(x, width);
-    let a = plane_row(y, height, r) * across;
-    let b = r * stride;
-    copy_part(plane, a + made, work, b + made, low - made);
-    unlift_part(plane, a, work, b, x, width);
-}
-
-// The same, where there is a row r.
-fn fetch_last(
-    plane: &[i32],
-    work: &mut [i32],
-    across: usize,
-    stride: usize,
-    from: usize,
-    x: usize,
-    width: usize,
-    y: usize,
-    height: usize,
-    r: usize,
-)
-    requires { ⌜ LevelRoom (length (now plane)) (length (now work)) across stride from (side x width) (side y height)
-        × (rowsEven (side x width) height (cells across (at (now plane))) ≡ true) ⌝ }
-    ensures { λ _. ⌜ at (now (work .exit)) ≡
-        pick (ltb r height)
-        (rowBack from (side x width) (side y height) stride (cells across (at (now (plane .entry)))) (at (now (work .entry))) r)
-        (at (now (work .entry))) ⌝ }
-{
-    if height <= r {
-        return;
-    }
-    fetch_row(plane, work, across, stride, from, x, width, y, height, r);
-}
-
 // All levels forward by the 9/7, in the plane's corner: this one, and then the same of its low-low part with the levels left, which goes through the
 // work area into the order that a level takes.
 pub fn forward_levels(
@@ -228,7 +164,7 @@ pub fn forward_levels(
 }
 
 // The least number of a level's range.
-fn lowest(level: usize, filter: usize) -> i32
+pub fn lowest(level: usize, filter: usize) -> i32
     requires { ⌜ level ≤ filterOf filter .levels ⌝ }
     ensures { λ r. ⌜ r ≡ negℤ (pos (range (filterOf filter) level)) ⌝ }
 {
@@ -317,7 +253,7 @@ fn interleave_low(
 
 // Whether each row of a level is a line's: in a single column at an odd coordinate each value is halved, so it has to be even. The low-low part is empty
 // then, and all of them stand in the plane.
-fn rows_even(plane: &[i32], across: usize, x: usize, width: usize, height: usize) -> bool
+pub fn rows_even(plane: &[i32], across: usize, x: usize, width: usize, height: usize) -> bool
     ensures { λ r. ⌜ r ≡ rowsEven (side x width) height (cells across (at (now (plane .entry)))) ⌝ }
 {
     if !single::is_single(width, x) {
@@ -327,7 +263,7 @@ fn rows_even(plane: &[i32], across: usize, x: usize, width: usize, height: usize
 }
 
 // The columns of a level of one row lifted back: at an odd coordinate they are halved, and the answer is whether each was even.
-fn unlift_single(work: &mut [i32], width: usize, y: usize) -> bool
+pub fn unlift_single(work: &mut [i32], width: usize, y: usize) -> bool
     requires { ⌜ width ≤ length (now work) ⌝ }
     ensures { λ r. ⌜ r ≡ pick (singleHigh (side y 1)) (every width (λ c. isEven (at (now (work .entry)) c))) true ⌝ }
     ensures { λ _. ⌜ at (now (work .exit)) ≡ pick (singleHigh (side y 1)) (halvedInPlace width (at (now (work .entry)))) (at (now (work .entry))) ⌝ }
@@ -336,122 +272,6 @@ fn unlift_single(work: &mut [i32], width: usize, y: usize) -> bool
         return true;
     }
     single::halve_all(&mut work[0..width])
-}
-
-// The first rows of a level of more than one: a low one is lifted back along the columns by the high one after it.
-fn first_rows(
-    plane: &[i32],
-    work: &mut [i32],
-    across: usize,
-    stride: usize,
-    from: usize,
-    x: usize,
-    width: usize,
-    y: usize,
-    height: usize,
-)
-    requires { ⌜ LevelRoom (length (now plane)) (length (now work)) across stride from (side x width) (side y height)
-        × (1 < height) × (rowsEven (side x width) height (cells across (at (now plane))) ≡ true) ⌝ }
-    ensures { λ _. ⌜ at (now (work .exit)) ≡
-        firstBack (length (now (work .entry))) from (side x width) (side y height) stride (cells across (at (now (plane .entry)))) (at (now (work .entry))) ⌝ }
-{
-    fetch_row(plane, work, across, stride, from, x, width, y, height, 0);
-    if y % 2 == 1 {
-        return;
-    }
-    fetch_row(plane, work, across, stride, from, x, width, y, height, 1);
-    rows::unupdate_row(work, stride, width, 0, 1, 1);
-}
-
-// A level of more than one row back from its bands. Row by row, so that a row is still near when it is used again: a pair of rows is
-// fetched, and then the columns of the rows before it are lifted back. r is the high row whose turn it is.
-fn rows_back(
-    plane: &[i32],
-    work: &mut [i32],
-    across: usize,
-    stride: usize,
-    from: usize,
-    x: usize,
-    width: usize,
-    y: usize,
-    height: usize,
-)
-    requires { ⌜ LevelRoom (length (now plane)) (length (now work)) across stride from (side x width) (side y height)
-        × (1 < height) × (rowsEven (side x width) height (cells across (at (now plane))) ≡ true) ⌝ }
-    ensures { λ _. ⌜ at (now (work .exit)) ≡
-        flat stride (levelUnlifted (side x width) (side y height) (cells stride (flat stride (rowsFetched from width (side y height)
-        (cells across (at (now (plane .entry)))) (cells stride (at (now (work .entry)))))))) ⌝ }
-{
-    first_rows(plane, work, across, stride, from, x, width, y, height);
-    let mut r = 1 - y % 2;
-    while r + 2 < height {
-        fetch_row(
-            plane,
-            work,
-            across,
-            stride,
-            from,
-            x,
-            width,
-            y,
-            height,
-            r + 1,
-        );
-        fetch_row(
-            plane,
-            work,
-            across,
-            stride,
-            from,
-            x,
-            width,
-            y,
-            height,
-            r + 2,
-        );
-        passes::unlift_pair(work, stride, width, height, r);
-        r += 2;
-    }
-    fetch_last(
-        plane,
-        work,
-        across,
-        stride,
-        from,
-        x,
-        width,
-        y,
-        height,
-        r + 1,
-    );
-    passes::unlift_pair(work, stride, width, height, r);
-}
-
-// A level back from its bands: the plane's rows fetched, all rows lifted back, and all columns. False where a value that is halved is odd.
-fn level_back(
-    plane: &[i32],
-    work: &mut [i32],
-    across: usize,
-    stride: usize,
-    from: usize,
-    x: usize,
-    width: usize,
-    y: usize,
-    height: usize,
-) -> bool
-    requires { ⌜ LevelRoom (length (now plane)) (length (now work)) across stride from (side x width) (side y height) ⌝ }
-    ensures { λ ok. ⌜ LevelMade ok from stride (side x width) (side y height) (cells across (at (now (plane .entry))))
-        (at (now (work .entry))) (at (now (work .exit))) ⌝ }
-{
-    if !rows_even(plane, across, x, width, height) {
-        return false;
-    }
-    if height < 2 {
-        fetch_row(plane, work, across, stride, from, x, width, y, height, 0);
-        return unlift_single(work, width, y);
-    }
-    rows_back(plane, work, across, stride, from, x, width, y, height);
-    true
 }
 
 // ---- a level back by the 9/7: the plane's rows fetched, all rows lifted back, then all columns
@@ -535,30 +355,7 @@ fn nine_seven_back(
     columns::unlift_columns(work, stride, width, y, height) == 0
 }
 
-// A level back by the filter of a number.
-fn back_by(
-    plane: &[i32],
-    work: &mut [i32],
-    across: usize,
-    stride: usize,
-    from: usize,
-    x: usize,
-    width: usize,
-    y: usize,
-    height: usize,
-    filter: usize,
-) -> bool
-    requires { ⌜ LevelRoom (length (now plane)) (length (now work)) across stride from (side x width) (side y height) ⌝ }
-    ensures { λ ok. ⌜ LevelMadeBy (filterOf filter) ok from stride (side x width) (side y height) (cells across (at (now (plane .entry))))
-        (at (now (work .entry))) (at (now (work .exit))) ⌝ }
-{
-    if filter == 0 {
-        return level_back(plane, work, across, stride, from, x, width, y, height);
-    }
-    nine_seven_back(plane, work, across, stride, from, x, width, y, height)
-}
-
-// All levels back: first the low-low part with the levels left, whose numbers are tested while they are laid in their own order, then this
+// All levels back by the 9/7: first the low-low part with the levels left, whose numbers are tested while they are laid in their own order, then this
 // level. False where one does not fit, or is odd and halved. The numbers of this level itself are for the caller to test.
 pub fn back_levels(
     plane: &[i32],
@@ -571,17 +368,16 @@ pub fn back_levels(
     height: usize,
     levels: usize,
     level: usize,
-    filter: usize,
 ) -> bool
     requires { ⌜ Rows (length (now plane)) across width height × Rows (length (now work)) stride width height × Doubling levels stride width
-        × (level + levels ≤ filterOf filter .levels) ⌝ }
-    ensures { λ ok. ⌜ LevelsBack (filterOf filter) ok level levels stride across (side x width) (side y height) (at (now (plane .entry)))
+        × (level + levels ≤ nineSevenFilter .levels) ⌝ }
+    ensures { λ ok. ⌜ LevelsBack nineSevenFilter ok level levels stride across (side x width) (side y height) (at (now (plane .entry)))
         (at (now (work .entry))) (at (now (work .exit))) ⌝ }
 {
     let w = sizes::low_count(x, width);
     let h = sizes::low_count(y, height);
     if !goes_on(levels, w, h) {
-        return back_by(plane, work, across, stride, 0, x, width, y, height, filter);
+        return nine_seven_back(plane, work, across, stride, 0, x, width, y, height);
     }
     let u = sizes::next_start(x);
     let v = sizes::next_start(y);
@@ -598,14 +394,13 @@ pub fn back_levels(
         h,
         levels - 1,
         level + 1,
-        filter,
     ) {
         return false;
     }
-    if !interleave_low(&mut work[a..n], 2 * stride, u, w, h, level + 1, filter) {
+    if !interleave_low(&mut work[a..n], 2 * stride, u, w, h, level + 1, NINE_SEVEN) {
         return false;
     }
-    back_by(plane, work, across, stride, w, x, width, y, height, filter)
+    nine_seven_back(plane, work, across, stride, w, x, width, y, height)
 }
 
 // Whether each coefficient of the plane lies in its level's range, `level` being that of this region's own bands.

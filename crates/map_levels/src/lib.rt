@@ -1,11 +1,15 @@
 // All levels of a whole map, from its heights to its plane and back, over areas that the caller lends.
+mod back_lines;
+mod back_rows;
+mod back_sweep;
 mod heights;
 mod levels;
+mod levels_back;
 mod lines;
-mod pairs;
 mod passes;
 mod rowwise;
 mod short;
+mod short_back;
 mod small;
 mod sweep;
 
@@ -21,9 +25,11 @@ ghost use Rattle.wavelet.specs.Questions.{Sized};
 ghost use Rattle.filters.specs.Filters.{filterOf};
 ghost use Rattle.map_questions.specs.Calls.{sizeQuestions, planeQuestions, zeros, passed, rebuilt};
 ghost use Rattle.map_levels.specs.Rowwise.{heightsAt};
+ghost use mathlib.Core.Bool.{true};
+ghost use Rattle.lifting.specs.FiveThree.{fiveThreeFilter};
 ghost use Rattle.nine_seven.specs.NineSevenFilter.{nineSevenFilter};
 ghost use Rattle.map_levels.specs.Passes.{KeptFrom};
-ghost use Rattle.map_levels.specs.LevelPasses.{planeWritten, MapRebuilt};
+ghost use Rattle.map_levels.specs.LevelPasses.{planeWritten, regionInRange, MapRebuilt};
 
 // The map's plane by the 9/7: its rows are loaded into the plane and lifted there.
 fn lift_in_place(
@@ -143,7 +149,66 @@ pub fn lift_map(
     0
 }
 
-// The map of a plane, where its rebuilt values fit, and work zero; else false, and what stands in both areas is for the caller to clear.
+// The map of a plane in range by the 5/3, where its rebuilt values fit, and work zero; else false, and what stands in both areas is for the caller to clear.
+fn rebuild_swept(
+    plane: &[i32],
+    x: usize,
+    width: usize,
+    y: usize,
+    height: usize,
+    levels: usize,
+    heights: &mut [u16],
+    work: &mut [i32],
+) -> bool
+    requires { ⌜ Sized width height levels × (width * height ≤ length (now plane)) × (width * height ≤ length (now heights))
+        × (width * height ≤ length (now work)) × (levels ≤ fiveThreeFilter .levels)
+        × (regionInRange fiveThreeFilter 1 levels (side x width) (side y height) (cells width (at (now plane))) ≡ true) ⌝ }
+    ensures { λ ok. ⌜ MapRebuilt fiveThreeFilter ok (side x width) (side y height) levels (at (now (plane .entry))) (heightsAt (now (heights .entry)))
+        (heightsAt (now (heights .exit))) (at (now (work .entry))) (at (now (work .exit))) ⌝ }
+{
+    let mut lines = [0; 5 * back_lines::LINE];
+    if !levels_back::sweep_back(
+        plane,
+        heights,
+        work,
+        &mut lines,
+        width,
+        x,
+        width,
+        y,
+        height,
+        levels,
+        0,
+    ) {
+        return false;
+    }
+    areas::copies::clear(work, width * height);
+    true
+}
+
+// The same by the 9/7: the levels one after the other, and then the rows tested, stored and cleared.
+fn rebuild_rows(
+    plane: &[i32],
+    x: usize,
+    width: usize,
+    y: usize,
+    height: usize,
+    levels: usize,
+    heights: &mut [u16],
+    work: &mut [i32],
+) -> bool
+    requires { ⌜ Sized width height levels × (width * height ≤ length (now plane)) × (width * height ≤ length (now heights))
+        × (width * height ≤ length (now work)) × (levels ≤ nineSevenFilter .levels) ⌝ }
+    ensures { λ ok. ⌜ MapRebuilt nineSevenFilter ok (side x width) (side y height) levels (at (now (plane .entry))) (heightsAt (now (heights .entry)))
+        (heightsAt (now (heights .exit))) (at (now (work .entry))) (at (now (work .exit))) ⌝ }
+{
+    if !levels::back_levels(plane, work, width, width, x, width, y, height, levels, 0) {
+        return false;
+    }
+    heights::finish_rows(work, heights, x, width, height)
+}
+
+// The same by the filter of a number.
 fn rebuild(
     plane: &[i32],
     x: usize,
@@ -156,26 +221,15 @@ fn rebuild(
     filter: usize,
 ) -> bool
     requires { ⌜ Sized width height levels × (width * height ≤ length (now plane)) × (width * height ≤ length (now heights))
-        × (width * height ≤ length (now work)) × (levels ≤ filterOf filter .levels) ⌝ }
+        × (width * height ≤ length (now work)) × (levels ≤ filterOf filter .levels)
+        × (regionInRange (filterOf filter) 1 levels (side x width) (side y height) (cells width (at (now plane))) ≡ true) ⌝ }
     ensures { λ ok. ⌜ MapRebuilt (filterOf filter) ok (side x width) (side y height) levels (at (now (plane .entry))) (heightsAt (now (heights .entry)))
         (heightsAt (now (heights .exit))) (at (now (work .entry))) (at (now (work .exit))) ⌝ }
 {
-    if !levels::back_levels(
-        plane,
-        work,
-        width,
-        width,
-        x,
-        width,
-        y,
-        height,
-        levels,
-        0,
-        filter,
-    ) {
-        return false;
+    if filter == 0 {
+        return rebuild_swept(plane, x, width, y, height, levels, heights, work);
     }
-    heights::finish_rows(work, heights, x, width, height)
+    rebuild_rows(plane, x, width, y, height, levels, heights, work)
 }
 
 // The map of a plane in range, where its rebuilt values fit; else 14, and heights and work are zero.

@@ -1,39 +1,29 @@
 // Passes over the rows of one area: `height` rows of `width` numbers, `stride` apart, x and y where they start on the grid. The module is private, as `rowwise`
 // is.
-use crate::pairs;
 use crate::rowwise;
 use lifting::line;
-use lifting::rows;
 use lifting::single;
 use nine_seven_sweep::columns;
 ghost use mathlib.Core.Path.{_≡_};
 ghost use Prim.Native.Nat.{_+_, _-_, _*_, _<_, _≤_};
 ghost use lib.ListN.{length};
 ghost use Rattle.numbers.specs.Signal.{at, pick};
-ghost use Rattle.numbers.specs.Word.{wrap32};
-ghost use Rattle.lifting.specs.Line.{unupdated, unpredicted};
 ghost use Rattle.lifting.specs.Grid.{side, singleHigh};
 ghost use Rattle.nine_seven.specs.Memory.{liftedInPlace as nineSevenInPlace};
 ghost use Rattle.nine_seven.specs.NineSevenFilter.{nineSevenFilter};
 ghost use Rattle.wavelet.specs.Limits.{maxWidth};
 ghost use Rattle.wavelet.specs.Plane.{cells, flat};
 ghost use Rattle.map_levels.specs.Rowwise.{interleavedInPlace, doubledInPlace};
-ghost use Rattle.map_levels.specs.Passes.{after, before, pairChanged, rowsMapped, Rows};
+ghost use Rattle.map_levels.specs.Passes.{after, rowsMapped, Rows};
 ghost use Rattle.map_levels.specs.ByFilter.{levelLiftedBy};
 ghost use Rattle.map_levels.specs.LevelPasses.{rowLifted, levelLifted, rowsBetween};
 
-// The row after row r of `height` rows, and the row before: mirrored at the ends.
-fn row_after(height: usize, r: usize) -> usize
+// The row after row r of `height` rows, mirrored at the end.
+pub fn row_after(height: usize, r: usize) -> usize
     requires { ⌜ (r < height) × (1 < height) ⌝ }
     ensures { λ a. ⌜ (a ≡ after height r) × (a < height) ⌝ }
 {
     if r + 1 < height { r + 1 } else { r - 1 }
-}
-
-fn row_before(r: usize) -> usize
-    ensures { λ a. ⌜ a ≡ before r ⌝ }
-{
-    if 0 < r { r - 1 } else { 1 }
 }
 
 // Row r, in halves, lifted in place.
@@ -95,31 +85,6 @@ pub fn lift_nine_seven(
 {
     columns::lift_columns(area, stride, width, y, height);
     lift_rows(area, stride, x, width, height);
-}
-
-// One turn of the columns back: the low row after high row r, where there is one, and then row r. That it is called twice, in the loop and once behind it,
-// keeps it from being inlined: in one loop over rows of one area the compiler asks once for all rows whether they overlap, and then leaves vector code
-// (docs/PROVING.md).
-pub fn unlift_pair(area: &mut [i32], stride: usize, width: usize, height: usize, r: usize)
-    requires { ⌜ (r < height) × (1 < height) × Rows (length (now area)) stride width height ⌝ }
-    ensures { λ _. ⌜ at (now (area .exit)) ≡
-        pairChanged (unupdated wrap32) (unpredicted wrap32) (length (now (area .entry))) stride width height r (at (now (area .entry))) ⌝ }
-{
-    let next = r + 1;
-    let before = row_before(r);
-    if height <= next {
-        rows::unpredict_row(area, stride, width, r, before, row_after(height, r));
-        return;
-    }
-    pairs::unlift_rows(
-        area,
-        stride,
-        width,
-        r,
-        next,
-        row_after(height, next),
-        before,
-    );
 }
 
 // Each row from halves into its own order, through one line for all of them; and whether each number of them lies from `low` to `high`.

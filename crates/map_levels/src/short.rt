@@ -10,6 +10,7 @@ ghost use Rattle.numbers.specs.Signal.{at, windowed, spliced};
 ghost use Rattle.lifting.specs.Grid.{side};
 ghost use Rattle.lifting.specs.Passes.{near, highsChanged, lowsChanged};
 ghost use Rattle.map_levels.specs.Sweep.{shortPredicted, shortUpdated, shortLifted};
+ghost use Rattle.map_levels.specs.SweepBack.{shortUnpredicted, shortUnupdated};
 
 pub fn predict(x: i32, a: i32, b: i32) -> i32
     ensures { λ r. ⌜ r ≡ shortPredicted x a b ⌝ }
@@ -21,6 +22,19 @@ pub fn update(x: i32, a: i32, b: i32) -> i32
     ensures { λ r. ⌜ r ≡ shortUpdated x a b ⌝ }
 {
     sample::more(x, sample::more(sample::more(a, b), 2) >> 2)
+}
+
+// And back.
+pub fn unpredict(x: i32, a: i32, b: i32) -> i32
+    ensures { λ r. ⌜ r ≡ shortUnpredicted x a b ⌝ }
+{
+    sample::more(x, sample::more(a, b) >> 1)
+}
+
+pub fn unupdate(x: i32, a: i32, b: i32) -> i32
+    ensures { λ r. ⌜ r ≡ shortUnupdated x a b ⌝ }
+{
+    sample::less(x, sample::more(sample::more(a, b), 2) >> 2)
 }
 
 // The same on one place of an area.

@@ -247,7 +247,7 @@ fn lay_one(
 }
 
 // The low-low part of a level from the plane to the work area, where it is not empty.
-fn save_low(
+pub fn save_low(
     plane: &[i32],
     work: &mut [i32],
     across: usize,
@@ -256,7 +256,7 @@ fn save_low(
     y: usize,
     height: usize,
 )
-    requires { ⌜ Rows (length (now plane)) across width height × Rows (length (now work)) width width height ⌝ }
+    requires { ⌜ Rows (length (now plane)) across width height × (count lo (side x width) * count lo (side y height) ≤ length (now work)) ⌝ }
     ensures { λ _. ⌜ LowSaved across (side x width) (side y height) (at (now (plane .entry))) (at (now (work .entry))) (at (now (work .exit))) ⌝ }
 {
     let w = sizes::low_count(x, width);

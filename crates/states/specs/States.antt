@@ -1,4 +1,5 @@
--- The state of a stream as the caller's numbers, sixteen of a writer or a reader, thirty-two of a saver: a kind, the counts, and 0 in the rest. docs/STATE.md lists them.
+-- The state of a stream as the caller's numbers, sixteen of a writer or a reader, thirty-two of a saver: a kind, the counts, and 0 in the rest.
+-- docs/STATE.md lists them.
 use mathlib.Core.Bool.{Bool, true}
 use mathlib.Core.List.{List}
 use Prim.Native.Nat.{ℕ, zero, suc, _+_, _-_}

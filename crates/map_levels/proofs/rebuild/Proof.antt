@@ -1,62 +1,51 @@
--- `rebuild` meets its contract: the levels, and then the rows tested and stored. Assumes nothing.
-use mathlib.Core.Path.{_∙_}
-use native.Mathlib.Omega.{arith}
-use borrow.Author.Tests.{not-true, not-false}
-use Rattle.filters.proofs.Filters.{filter-laws}
-use Rattle.filters.specs.Filters.{filterOf}
-use Rattle.map_levels.proofs.GridSweep.{rows-kept}
-use Rattle.map_levels.proofs.CallLaws.{map-rows, map-doubling, map-no, map-yes}
+-- `rebuild` meets its contract: it is one of two calls. Assumes nothing.
+use Rattle.map_levels.proofs.ByFilterLaws.{five-levels, nine-levels, ranged-five-three, map-five-three, map-nine-seven}
 use Rattle.map_levels.proofs.rebuild.Statement.{statement}
 use Rattle.map_levels.proofs.rebuild.Tie as tie
 
-back-levels-requires : tie.Need-back-levels-requires
-back-levels-requires c κs =
-    let start = c .before .before in
-    let s = start .pre .0 in
-    (map-rows _ _ _ _ s (start .pre .1), map-rows _ _ _ _ s (start .pre .3), map-doubling _ _ _ s, omega (arith, start .pre .4))
+rebuild-swept-requires : tie.Need-rebuild-swept-requires
+rebuild-swept-requires c κs =
+    let zero = c .before .before in
+    let p = zero .before .before .pre in
+    (p .0, p .1, p .2, p .3, five-levels _ _ (zero .if1 .taken) (p .4), ranged-five-three _ _ _ _ _ (zero .if1 .taken) (p .5))
 
 same-length : tie.Need-same-length
-same-length c = c .before .before .back-levels .kept .1 .0
+same-length c = c .before .before .before .rebuild-swept .kept .1 .1 .1 .1 .1 .1 .0
+
+same-length-2 : tie.Need-same-length-2
+same-length-2 c = c .before .before .before .rebuild-swept .kept .1 .1 .1 .1 .1 .1 .1 .0
 
 returns : tie.Need-returns
 returns c =
-    let back = c .before .before in
-    let start = back .before .before .before in
-    map-no (filterOf (start .args .filter)) (filter-laws (start .args .filter)) _ _ _ _ _ _ _ (start .pre .0) _ (not-true _ (c .if1 .taken))
-    (back .back-levels .ensures)
+    let back = c .before .before .before in
+    map-five-three _ _ _ _ _ _ _ _ _ _ (back .before .before .before .if1 .taken) (back .rebuild-swept .ensures)
 
-finish-rows-requires : tie.Need-finish-rows-requires
-finish-rows-requires c κs =
-    let back = c .before .before .before .before in
-    let start = back .before .before .before in
-    let s = start .pre .0 in
-    (rows-kept (back .back-levels .kept .1 .0) (map-rows _ _ _ _ s (start .pre .3)), map-rows _ _ _ _ s (start .pre .2))
-
-same-length-2 : tie.Need-same-length-2
-same-length-2 c = c .before .before .before .finish-rows .kept .1 .0
+rebuild-rows-requires : tie.Need-rebuild-rows-requires
+rebuild-rows-requires c κs =
+    let other = c .before .before in
+    let p = other .before .before .pre in
+    (p .0, p .1, p .2, p .3, nine-levels _ _ (other .if1 .left) (p .4))
 
 same-length-3 : tie.Need-same-length-3
-same-length-3 c =
-    let finish = c .before .before .before in
-    finish .finish-rows .kept .0 ∙ finish .before .before .before .before .before .back-levels .kept .1 .0
+same-length-3 c = c .before .before .before .rebuild-rows .kept .1 .1 .1 .1 .1 .1 .0
+
+same-length-4 : tie.Need-same-length-4
+same-length-4 c = c .before .before .before .rebuild-rows .kept .1 .1 .1 .1 .1 .1 .1 .0
 
 returns-2 : tie.Need-returns-2
 returns-2 c =
-    let finish = c .before .before .before in
-    let good = finish .before .before .before in
-    let back = good .before .before in
-    let start = back .before .before .before in
-    map-yes (filterOf (start .args .filter)) (filter-laws (start .args .filter)) _ _ _ _ _ _ _ (start .pre .0) _ _ _ _ (not-false _ (good .if1 .left))
-    (back .back-levels .ensures) (finish .finish-rows .ensures)
+    let back = c .before .before .before in
+    map-nine-seven _ _ _ _ _ _ _ _ _ _ (back .before .before .before .if1 .left) (back .rebuild-rows .ensures)
 
 pub rebuild-spec : {M : Type 1} → statement M
 rebuild-spec =
     tie.close
     (tie.spec
-    back-levels-requires
+    rebuild-swept-requires
     same-length
-    returns
-    finish-rows-requires
     same-length-2
+    returns
+    rebuild-rows-requires
     same-length-3
+    same-length-4
     returns-2)

@@ -25,7 +25,11 @@ returns c =
     )
 
 rebuild-requires : tie.Need-rebuild-requires
-rebuild-requires c κs = c .before .before .before .before .before .pre
+rebuild-requires c κs =
+    let good = c .before .before in
+    let range = good .before in
+    let p = range .before .before .pre in
+    (p .0, p .1, p .2, p .3, p .4, sym (range .plane-in-range .ensures) ∙ not-false _ (good .if1 .left))
 
 mul-clear-heights : tie.Need-mul-clear-heights
 mul-clear-heights c = omega arith

@@ -13,9 +13,8 @@ use Rattle.lifting.specs.Line.{lo}
 use Rattle.lifting.specs.Grid.{Side, side, count}
 use Rattle.lifting.proofs.GridLaws.{counts}
 use Rattle.wavelet.specs.Levels.{next}
-use Rattle.wavelet.proofs.LimitLaws.{levels-small}
-use Rattle.filters.proofs.Filters.{filter-laws}
-use Rattle.filters.proofs.FigureLaws.{levels-most}
+use Rattle.nine_seven.specs.NineSevenFilter.{nineSevenFilter}
+use Rattle.nine_seven.proofs.NineSevenFilter.{nine-seven-laws}
 use Rattle.filters.specs.Filters.{filterOf}
 use Rattle.map_levels.proofs.GridSweep.{rows-kept}
 use Rattle.map_levels.proofs.LevelCalls.{put-area, put-same, put-again}
@@ -31,7 +30,7 @@ use Rattle.map_levels.proofs.levels.+back_levels.Lts-back_levels as bac
 use Rattle.wavelet.proofs.sizes.low_count.Reads as low-count-reads
 use Rattle.wavelet.proofs.sizes.next_start.Reads as next-start-reads
 use Rattle.map_levels.proofs.levels.goes_on.Reads as goes-on-reads
-use Rattle.map_levels.proofs.levels.back_by.Reads as back-by-reads
+use Rattle.map_levels.proofs.levels.nine_seven_back.Reads as nine-seven-back-reads
 use Rattle.map_levels.proofs.levels.interleave_low.Reads as interleave-low-reads
 use Rattle.map_levels.proofs.levels.+back_levels.{statement}
 use Rattle.map_levels.proofs.levels.+back_levels.Tie.{close}
@@ -53,8 +52,8 @@ claims t = (
   low-count-reads.Learnt,
   goes-on-reads.Asked,
   goes-on-reads.Learnt,
-  back-by-reads.Asked,
-  back-by-reads.Learnt,
+  nine-seven-back-reads.Asked,
+  nine-seven-back-reads.Learnt,
   next-start-reads.Asked,
   next-start-reads.Learnt,
   back-levels-below t,
@@ -72,13 +71,13 @@ back-levels-low-count-requires-2 t c κs = tt
 back-levels-goes-on-requires : (t : ℕ) → back-levels-lts.Need-goes-on-requires (claims t) (back-levels-at t) back-levels.Post
 back-levels-goes-on-requires t c κs = tt
 
-back-levels-back-by-requires : (t : ℕ) → back-levels-lts.Need-back-by-requires (claims t) (back-levels-at t) back-levels.Post
-back-levels-back-by-requires t c κs =
+back-levels-nine-seven-back-requires : (t : ℕ) → back-levels-lts.Need-nine-seven-back-requires (claims t) (back-levels-at t) back-levels.Post
+back-levels-nine-seven-back-requires t c κs =
     let pre = c .before .before .before .before .before .pre .1 in
     record { plane = pre .0; work = pre .1; few = omega arith }
 
 back-levels-same-length : (t : ℕ) → back-levels-lts.Need-same-length (claims t) (back-levels-at t) back-levels.Post
-back-levels-same-length t c = c .before .back-by .kept .1 .0
+back-levels-same-length t c = c .before .nine-seven-back .kept .1 .0
 
 back-levels-returns : (t : ℕ) → back-levels-lts.Need-returns (claims t) (back-levels-at t) back-levels.Post
 back-levels-returns t c =
@@ -88,11 +87,11 @@ back-levels-returns t c =
     let low2 = goes .before in
     let low = low2 .before in
     let start = low .before in
-    back-end (filterOf (start .args .filter)) (filter-laws (start .args .filter)) _ _ _ _ (side (start .args .x) (start .args .width))
+    back-end nineSevenFilter nine-seven-laws _ _ _ _ (side (start .args .x) (start .args .width))
     (side (start .args .y) (start .args .height)) _ _ _ _ (start .pre .1 .1 .wide)
     (start .pre .1 .2 .some)
     (goes-as _ _ _ _ _ _ _ (low .low-count .ensures) (low2 .low-count2 .ensures) (goes .goes-on .ensures) (not-true _ (then .if1 .taken)))
-    (back .back-by .ensures)
+    (back .nine-seven-back .ensures)
 
 -- ---- where the low-low part has levels left: it begins at place a of the work area's n numbers
 module _ (t : ℕ) (c : back-levels-lts.After-next-start2 (claims t) (back-levels-at t) back-levels.Post) where
@@ -189,7 +188,7 @@ back-levels-sub-back-levels-2 : (t : ℕ) → back-levels-lts.Need-sub-back-leve
 back-levels-sub-back-levels-2 t c = omega (arith, left t (c .before) .0)
 
 back-levels-add-back-levels : (t : ℕ) → back-levels-lts.Need-add-back-levels (claims t) (back-levels-at t) back-levels.Post
-back-levels-add-back-levels t c = omega (arith, levels-small, levels-most (begun t (c .before) .args .filter))
+back-levels-add-back-levels t c = omega (arith, begun t (c .before) .pre .1 .3)
 
 back-levels-back-levels-requires : (t : ℕ) → back-levels-lts.Need-back-levels-requires (claims t) (back-levels-at t) back-levels.Post
 back-levels-back-levels-requires t c κs =
@@ -216,7 +215,7 @@ back-levels-returns-2 t c =
     let called = c .before in
     let here = then t called in
     let start = begun t here in
-    back-no (filterOf (start .args .filter)) (filter-laws (start .args .filter)) (n t here) _ _ _ _ (a t here) (n t here - a t here) (W t here) (H t here)
+    back-no nineSevenFilter nine-seven-laws (n t here) _ _ _ _ (a t here) (n t here - a t here) (W t here) (H t here)
     _ _ _ _ _ _ _ _ (start .pre .1 .1) (left t here .0) (low-rows t here) (next-columns t here) (next-rows t here) refl refl
     (at-mid (a t here) (n t here - a t here) (work t here)) (called .before .back-levels .ensures)
     (put-area _ _ (work t here) (part t called) (fit t here) (called .before .back-levels .kept .1 .0))
@@ -238,9 +237,10 @@ back-levels-mul-interleave-low-2 : (t : ℕ) → back-levels-lts.Need-mul-interl
 back-levels-mul-interleave-low-2 t c = omega (arith, stride-small _ _ _ (begun t (then t (c .before .before)) .pre .1 .2))
 
 back-levels-add-interleave-low : (t : ℕ) → back-levels-lts.Need-add-interleave-low (claims t) (back-levels-at t) back-levels.Post
-back-levels-add-interleave-low t c = omega (arith, levels-small, levels-most (begun t (then t (c .before .before)) .args .filter))
+back-levels-add-interleave-low t c = omega (arith, begun t (then t (c .before .before)) .pre .1 .3)
 
 back-levels-interleave-low-requires : (t : ℕ) → back-levels-lts.Need-interleave-low-requires (claims t) (back-levels-at t) back-levels.Post
+unfolding filterOf
 back-levels-interleave-low-requires t c κs =
     let called = c .before .before in
     let here = then t called in
@@ -258,12 +258,13 @@ back-levels-same-length-3 : (t : ℕ) → back-levels-lts.Need-same-length-3 (cl
 back-levels-same-length-3 t c = same₂ t (c .before)
 
 back-levels-returns-3 : (t : ℕ) → back-levels-lts.Need-returns-3 (claims t) (back-levels-at t) back-levels.Post
+unfolding filterOf
 back-levels-returns-3 t c =
     let tested = c .before in
     let called = called t tested in
     let here = then t called in
     let start = begun t here in
-    back-low (filterOf (start .args .filter)) (filter-laws (start .args .filter)) (n t here) _ _ _ _ (a t here) (n t here - a t here) (W t here) (H t here)
+    back-low nineSevenFilter nine-seven-laws (n t here) _ _ _ _ (a t here) (n t here - a t here) (W t here) (H t here)
     _ _ _ _ _ _ _ _ (start .pre .1 .1) (left t here .0) (low-rows t here) (next-columns t here) (next-rows t here) refl refl
     (at-mid (a t here) (n t here - a t here) (work t here)) (called .before .back-levels .ensures)
     (put-area _ _ (work t here) (part t called) (fit t here) (called .before .back-levels .kept .1 .0))
@@ -273,17 +274,18 @@ back-levels-returns-3 t c =
     (put-area _ _ (work₁ t called) (tested .before .interleave-low .last .0) (fit₁ t called) (tested .before .interleave-low .kept .0))
     (not-true _ (c .if3 .taken))
 
-back-levels-back-by-requires-2 : (t : ℕ) → back-levels-lts.Need-back-by-requires-2 (claims t) (back-levels-at t) back-levels.Post
-back-levels-back-by-requires-2 t c κs =
+back-levels-nine-seven-back-requires-2 : (t : ℕ) → back-levels-lts.Need-nine-seven-back-requires-2 (claims t) (back-levels-at t) back-levels.Post
+back-levels-nine-seven-back-requires-2 t c κs =
     let tested = c .before .before in
     let here = then t (called t tested) in
     let pre = begun t here .pre .1 in
     record { plane = pre .0; work = rows-kept (same₂ t tested) (pre .1); few = omega (arith, low2 t here .before .low-count .ensures) }
 
 back-levels-same-length-4 : (t : ℕ) → back-levels-lts.Need-same-length-4 (claims t) (back-levels-at t) back-levels.Post
-back-levels-same-length-4 t c = c .before .back-by2 .kept .1 .0 ∙ same₂ t (c .before .before .before .before)
+back-levels-same-length-4 t c = c .before .nine-seven-back2 .kept .1 .0 ∙ same₂ t (c .before .before .before .before)
 
 back-levels-returns-4 : (t : ℕ) → back-levels-lts.Need-returns-4 (claims t) (back-levels-at t) back-levels.Post
+unfolding filterOf
 back-levels-returns-4 t c =
     let back = c .before in
     let good = back .before .before in
@@ -291,7 +293,7 @@ back-levels-returns-4 t c =
     let called = called t tested in
     let here = then t called in
     let start = begun t here in
-    back-step (filterOf (start .args .filter)) (filter-laws (start .args .filter)) (n t here) _ _ _ _ (a t here) (n t here - a t here) (W t here) (H t here)
+    back-step nineSevenFilter nine-seven-laws (n t here) _ _ _ _ (a t here) (n t here - a t here) (W t here) (H t here)
     _ _ _ _ _ _ _ _ (start .pre .1 .1) (left t here .0) (low-rows t here) (next-columns t here) (next-rows t here) refl refl
     (at-mid (a t here) (n t here - a t here) (work t here)) (called .before .back-levels .ensures)
     (put-area _ _ (work t here) (part t called) (fit t here) (called .before .back-levels .kept .1 .0))
@@ -299,7 +301,7 @@ back-levels-returns-4 t c =
     (put-again _ _ (work t here) (part t called) (fit t here) (called .before .back-levels .kept .1 .0)) (tested .before .interleave-low .ensures .0)
     (tested .before .interleave-low .ensures .1)
     (put-area _ _ (work₁ t called) (tested .before .interleave-low .last .0) (fit₁ t called) (tested .before .interleave-low .kept .0))
-    _ _ (not-false _ (good .if3 .left)) (back .back-by2 .ensures)
+    _ _ (not-false _ (good .if3 .left)) (back .nine-seven-back2 .ensures)
 
 pub +back-levels-spec : {M : Type 1} → statement M
 +back-levels-spec = close μ-back-levels λ t. back-levels-lts.spec (claims t)
@@ -308,7 +310,7 @@ pub +back-levels-spec : {M : Type 1} → statement M
     (back-levels-low-count-requires t)
     (back-levels-low-count-requires-2 t)
     (back-levels-goes-on-requires t)
-    (back-levels-back-by-requires t)
+    (back-levels-nine-seven-back-requires t)
     (back-levels-same-length t)
     (back-levels-returns t)
     (back-levels-next-start-requires t)
@@ -333,6 +335,6 @@ pub +back-levels-spec : {M : Type 1} → statement M
     (back-levels-interleave-low-requires t)
     (back-levels-same-length-3 t)
     (back-levels-returns-3 t)
-    (back-levels-back-by-requires-2 t)
+    (back-levels-nine-seven-back-requires-2 t)
     (back-levels-same-length-4 t)
     (back-levels-returns-4 t)

@@ -2,7 +2,7 @@
 use mathlib.Core.Path.{_∙_}
 use Rattle.lifting.specs.Grid.{side}
 use Rattle.map_levels.proofs.GridSweep.{rows-kept}
-use Rattle.map_levels.proofs.SweepLevels.{one-swept}
+use Rattle.map_levels.proofs.SweepLevels.{low-room, one-swept}
 use Rattle.map_levels.proofs.sweep.lift_one.Statement.{statement}
 use Rattle.map_levels.proofs.sweep.lift_one.Tie as tie
 
@@ -17,7 +17,7 @@ save-low-requires : tie.Need-save-low-requires
 save-low-requires c κs =
     let s = c .before .before .before .before .before .before .before .before .before .before in (
       rows-kept (c .before .before .before .lift-one .kept .0 ∙ c .before .before .before .before .before .before .lay-one .kept .1 .0) (s .pre .0 .plane),
-      s .pre .0 .work,
+      low-room _ (side (s .args .x) (s .args .width)) (side (s .args .y) (s .args .height)) (s .pre .0 .work),
     )
 
 same-length : tie.Need-same-length

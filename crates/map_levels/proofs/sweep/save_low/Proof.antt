@@ -3,8 +3,8 @@ use mathlib.Core.Path.{refl, sym, _∙_}
 use borrow.Author.Tests.{not-true, not-false}
 use Rattle.lifting.specs.Grid.{side}
 use Rattle.map_levels.proofs.LevelSteps.{rows-corner}
-use Rattle.map_levels.proofs.ForwardSteps.{goes-on, own-rows}
-use Rattle.map_levels.proofs.SweepLevels.{low-saved, low-none}
+use Rattle.map_levels.proofs.ForwardSteps.{goes-on}
+use Rattle.map_levels.proofs.SweepLevels.{low-rows, low-saved, low-none}
 use Rattle.map_levels.proofs.sweep.save_low.Statement.{statement}
 use Rattle.map_levels.proofs.sweep.save_low.Tie as tie
 
@@ -38,7 +38,7 @@ save-requires c κs =
     let H = side (a .y) (a .height) in
     let on = goes-on _ _ _ (sym (goes .goes-on .ensures) ∙ not-false _ (more .if1 .left)) in (
       rows-corner _ _ _ W H _ _ (low .low-count .ensures) (low2 .low-count2 .ensures) (on .2) (s .pre .0) refl,
-      own-rows _ _ W H _ _ refl (low .low-count .ensures) (low2 .low-count2 .ensures) (on .1) (on .2) (s .pre .1),
+      low-rows _ W H _ _ (low .low-count .ensures) (low2 .low-count2 .ensures) (on .1) (on .2) (s .pre .1),
     )
 
 same-length : tie.Need-same-length
@@ -56,7 +56,7 @@ returns-2 c =
     let H = side (a .y) (a .height) in
     let on = goes-on _ _ _ (sym (goes .goes-on .ensures) ∙ not-false _ (more .if1 .left)) in
     low-saved (a .across) W H _ _ _ _ (low .low-count .ensures) (low2 .low-count2 .ensures) _ _ (on .1) (on .2)
-    (own-rows _ _ W H _ _ refl (low .low-count .ensures) (low2 .low-count2 .ensures) (on .1) (on .2) (s .pre .1)) (c .before .save .ensures)
+    (low-rows _ W H _ _ (low .low-count .ensures) (low2 .low-count2 .ensures) (on .1) (on .2) (s .pre .1)) (c .before .save .ensures)
 
 pub save-low-spec : {M : Type 1} → statement M
 save-low-spec =
