@@ -44,7 +44,7 @@ by-one = each _ λ p q. simp lin (omega arith)
 pub one-times : (v : ℤ) → v ≡ pos 1 *ℤ shrZ v 1
 one-times = each _ λ p q. simp lin (omega arith)
 
-stored-one : (b : Band) (v : ℤ) → stored 1 b v ≡ v
+pub stored-one : (b : Band) (v : ℤ) → stored 1 b v ≡ v
 unfolding stored
 stored-one LL v = refl
 stored-one HL v = by-one v

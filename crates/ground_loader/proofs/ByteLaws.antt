@@ -220,40 +220,64 @@ module _ (n : ℕ) (c : Coming) (b : ℕ) where
   unfolding tookOf
   took-yes e h g = rw (sym e ∙ h) (ap on g)
 
-  kept-no : {t : Bool} {x : ℕ → ℤ} → t ≡ refused n c b → t ≡ true → x ≡ pick (refused n c b) x (putOn n c b x)
-  kept-no e h = rw (sym e ∙ h) refl
-
-  kept-yes : {t : Bool} (x : ℕ → ℤ) {y : ℕ → ℤ} → t ≡ refused n c b → t ≡ false → y ≡ putOn n c b x → y ≡ pick (refused n c b) x (putOn n c b x)
-  kept-yes x e h g = rw (sym e ∙ h) g
-
   module _ (z : c .phase ≡ 0) where
     at-group : {t : Bool} → t ≡ groupRefused n (c .done) b → t ≡ refused n c b
     unfolding refused
     at-group e = rw (eq-eqb (c .phase) 0 z) e
 
-    pub group-away : {t : Bool} {x : ℕ → ℤ} → t ≡ groupRefused n (c .done) b → t ≡ true
-        → (away ≡ tookOf n c b) × (x ≡ pick (refused n c b) x (putOn n c b x))
-    group-away e h = (took-no (at-group e) h, kept-no (at-group e) h)
+    pub group-away : {t : Bool} → t ≡ groupRefused n (c .done) b → t ≡ true → away ≡ tookOf n c b
+    group-away e h = took-no (at-group e) h
 
-    pub group-on : {t : Bool} (x : ℕ → ℤ) {y : ℕ → ℤ} {r : Coming} → t ≡ groupRefused n (c .done) b → t ≡ false → r ≡ grouped n (c .done) b
-        → y ≡ groupPut n (c .done) b x → (on r ≡ tookOf n c b) × (y ≡ pick (refused n c b) x (putOn n c b x))
-    unfolding moved putOn
-    group-on x e h f g =
-        (took-yes (at-group e) h (rw (eq-eqb (c .phase) 0 z) f), kept-yes x (at-group e) h (rw (eq-eqb (c .phase) 0 z) g))
+    pub group-on : {t : Bool} {r : Coming} → t ≡ groupRefused n (c .done) b → t ≡ false → r ≡ grouped n (c .done) b → on r ≡ tookOf n c b
+    unfolding moved
+    group-on e h f = took-yes (at-group e) h (rw (eq-eqb (c .phase) 0 z) f)
 
-  module _ (z : 0 < c .phase) {s : Seen} (is : s ≡ seenOf c b) where
-    at-part : {t : Bool} → t ≡ partRefused c s → t ≡ refused n c b
+    pub group-put : (x : ℕ → ℤ) {y : ℕ → ℤ} → y ≡ groupPut n (c .done) b x → y ≡ putOn n c b x
+    unfolding putOn
+    group-put x g = rw (eq-eqb (c .phase) 0 z) g
+
+    pub group-moved : moved n c b ≡ grouped n (c .done) b
+    unfolding moved
+    group-moved = rw (eq-eqb (c .phase) 0 z) refl
+
+    pub group-refuses : refused n c b ≡ groupRefused n (c .done) b
     unfolding refused
-    at-part e = rw (ne-eqb (c .phase) 0 (λ v. omega arith)) (e ∙ ap (partRefused c) is)
+    group-refuses = rw (eq-eqb (c .phase) 0 z) refl
 
-    pub part-away : {t : Bool} {x : ℕ → ℤ} → t ≡ partRefused c s → t ≡ true
-        → (away ≡ tookOf n c b) × (x ≡ pick (refused n c b) x (putOn n c b x))
-    part-away e h = (took-no (at-part e) h, kept-no (at-part e) h)
+  module _ (z : 0 < c .phase) where
+    pub part-moved : moved n c b ≡ deinterleaved n c (seenOf c b)
+    unfolding moved
+    part-moved = rw (ne-eqb (c .phase) 0 (λ v. omega arith)) refl
 
-    pub part-on : {t : Bool} (x : ℕ → ℤ) {y : ℕ → ℤ} {r : Coming} → t ≡ partRefused c s → t ≡ false → r ≡ deinterleaved n c s → y ≡ partPut n c s x
-        → (on r ≡ tookOf n c b) × (y ≡ pick (refused n c b) x (putOn n c b x))
-    unfolding moved putOn
-    part-on x e h f g = (
-      took-yes (at-part e) h (rw (ne-eqb (c .phase) 0 (λ v. omega arith)) (f ∙ ap (deinterleaved n c) is)),
-      kept-yes x (at-part e) h (rw (ne-eqb (c .phase) 0 (λ v. omega arith)) (g ∙ ap (λ v. partPut n c v x) is)),
-    )
+    module _ {s : Seen} (is : s ≡ seenOf c b) where
+      at-part : {t : Bool} → t ≡ partRefused c s → t ≡ refused n c b
+      unfolding refused
+      at-part e = rw (ne-eqb (c .phase) 0 (λ v. omega arith)) (e ∙ ap (partRefused c) is)
+
+      pub part-away : {t : Bool} → t ≡ partRefused c s → t ≡ true → away ≡ tookOf n c b
+      part-away e h = took-no (at-part e) h
+
+      pub part-on : {t : Bool} {r : Coming} → t ≡ partRefused c s → t ≡ false → r ≡ deinterleaved n c s → on r ≡ tookOf n c b
+      part-on e h f = took-yes (at-part e) h (f ∙ ap (deinterleaved n c) is ∙ sym part-moved)
+
+      pub part-put : (x : ℕ → ℤ) {y : ℕ → ℤ} → y ≡ partPut n c s x → y ≡ putOn n c b x
+      unfolding putOn
+      part-put x g = rw (ne-eqb (c .phase) 0 (λ v. omega arith)) (g ∙ ap (λ v. partPut n c v x) is)
+
+-- what a taken byte is
+pub took-away : (n : ℕ) (c : Coming) (b : ℕ) → (tookOf n c b .answer ≡ 0 → ⊥) → refused n c b ≡ true
+unfolding tookOf
+took-away n c b h = go (refused n c b) h
+  where
+    go : (t : Bool) → (pick t (away n c b) (on n c b (moved n c b)) .answer ≡ 0 → ⊥) → t ≡ true
+    go true h = refl
+    go false h = absurd (h refl)
+
+pub took-on : (n : ℕ) (c : Coming) (b : ℕ) → tookOf n c b .answer ≡ 0 → (refused n c b ≡ false) × (tookOf n c b .coming ≡ moved n c b)
+unfolding tookOf
+took-on n c b h = go (refused n c b) h
+  where
+    go : (t : Bool) → pick t (away n c b) (on n c b (moved n c b)) .answer ≡ 0
+        → (t ≡ false) × (pick t (away n c b) (on n c b (moved n c b)) .coming ≡ moved n c b)
+    go true h = absurd (omega arith)
+    go false h = (refl, refl)

@@ -41,7 +41,7 @@ at-right [] m j h = let e : j - 0 ≡ j = omega arith in rw e refl
 at-right (x ∷ l) m zero h = absurd (omega arith)
 at-right (x ∷ l) m (suc j) h = let e : suc j - suc (length l) ≡ j - length l = omega arith in rw e (at-right l m j (omega arith))
 
-numbers-at : (w k b j : ℕ) → j < k → getD (numbersIn w k b) j 0 ≡ numberAt w b j
+pub numbers-at : (w k b j : ℕ) → j < k → getD (numbersIn w k b) j 0 ≡ numberAt w b j
 unfolding numbersIn numberAt
 numbers-at w zero b j h = absurd (omega arith)
 numbers-at w (suc k) b zero h = sym (ap (λ e. b / 2 ^ e % 2 ^ w) (mul-zero w) ∙ ap (λ v. v % 2 ^ w) (div-one b))

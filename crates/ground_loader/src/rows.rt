@@ -1,13 +1,21 @@
-// A band row of n numbers, byte by byte as it comes in. The module is private, as `widths` is.
+// A band row of n numbers, byte by byte as it comes in. The module is public for `Coming`, a part of a loader's numbers; what its functions require this crate
+// meets.
 use crate::parts;
 use crate::widths;
+use areas::ranges;
 ghost use mathlib.Core.Path.{_≡_};
 ghost use Prim.Native.Nat.{_+_, _*_, _/_, _^_, _≤_, _<_, min};
+ghost use mathlib.Core.Bool.{true};
+ghost use lib.IntN.{pos, natAbs};
+ghost use lib.Dec.{leb};
 ghost use lib.ListN.{length};
-ghost use Rattle.numbers.specs.Signal.{at, pick};
+ghost use Rattle.numbers.specs.Signal.{at};
+ghost use Rattle.numbers.specs.Tests.{every};
 ghost use Rattle.ground_loader.specs.Coming.{partSize, between, opened, second, secondPut, grouped, groupPut, groupRefused};
 ghost use Rattle.ground_loader.specs.Coming.{seenOf, partRefused, stayed, deinterleaved, endsFirst, partStored, partPut};
-ghost use Rattle.ground_loader.specs.Coming.{refused, tookOf, putOn, InPart, Standing};
+ghost use Rattle.ground_loader.specs.Coming.{moved, tookOf, putOn, InPart, Standing};
+ghost use Rattle.ground_loader.specs.Loader.{isOver};
+ghost use Rattle.ground_loader.specs.Local.{broughtWithin};
 
 // What came of a row. `phase` is what the next byte belongs to: 0 a group's byte, 1 its first part, 2 its second. `done` numbers are stored. Of the part: its
 // code, that of the part after it, how many of its numbers are not stored, the bits that came of these and how many they are, the largest number stored.
@@ -35,7 +43,7 @@ pub struct Took {
 }
 
 // Before a group's byte, or after the row's last.
-fn before_group(done: usize) -> Coming
+pub fn before_group(done: usize) -> Coming
     ensures { λ r. ⌜ r ≡ between done ⌝ }
 {
     Coming {
@@ -239,10 +247,9 @@ fn put_part(c: Coming, n: usize, byte: u8, s: Seen, row: &mut [i32])
     }
 }
 
-fn take_group(c: Coming, n: usize, byte: u8, row: &mut [i32]) -> Took
-    requires { ⌜ (c .phase ≡ 0) × (c .done < n) × (n ≤ length (now row)) ⌝ }
+fn group_next(c: Coming, n: usize, byte: u8) -> Took
+    requires { ⌜ (c .phase ≡ 0) × (c .done < n) ⌝ }
     ensures { λ r. ⌜ r ≡ tookOf n c byte ⌝ }
-    ensures { λ _. ⌜ at (now (row .exit)) ≡ pick (refused n c byte) (at (now (row .entry))) (putOn n c byte (at (now (row .entry)))) ⌝ }
 {
     let done = c.done;
     if group_refused(n, done, byte) {
@@ -251,17 +258,15 @@ fn take_group(c: Coming, n: usize, byte: u8, row: &mut [i32]) -> Took
             coming: c,
         };
     }
-    put_group(n, done, byte, row);
     Took {
         answer: 0,
         coming: group_of(n, done, byte),
     }
 }
 
-fn take_part(c: Coming, n: usize, byte: u8, row: &mut [i32]) -> Took
-    requires { ⌜ (0 < c .phase) × InPart n c × (n ≤ length (now row)) ⌝ }
+fn part_next(c: Coming, n: usize, byte: u8) -> Took
+    requires { ⌜ (0 < c .phase) × InPart n c ⌝ }
     ensures { λ r. ⌜ r ≡ tookOf n c byte ⌝ }
-    ensures { λ _. ⌜ at (now (row .exit)) ≡ pick (refused n c byte) (at (now (row .entry))) (putOn n c byte (at (now (row .entry)))) ⌝ }
 {
     let s = see(c, n, byte);
     if part_refused(c, n, byte, s) {
@@ -270,19 +275,56 @@ fn take_part(c: Coming, n: usize, byte: u8, row: &mut [i32]) -> Took
             coming: c,
         };
     }
-    let coming = part_of(c, n, byte, s);
-    put_part(c, n, byte, s, row);
-    Took { answer: 0, coming }
+    Took {
+        answer: 0,
+        coming: part_of(c, n, byte, s),
+    }
 }
 
-// The next byte. 22 where no row has it there: then nothing is changed.
-pub fn take_byte(c: Coming, n: usize, byte: u8, row: &mut [i32]) -> Took
-    requires { ⌜ Standing n c × (n ≤ length (now row)) ⌝ }
+// What came with the next byte. 22 where no row has it there.
+pub fn next_of(c: Coming, n: usize, byte: u8) -> Took
+    requires { ⌜ Standing n c ⌝ }
     ensures { λ r. ⌜ r ≡ tookOf n c byte ⌝ }
-    ensures { λ _. ⌜ at (now (row .exit)) ≡ pick (refused n c byte) (at (now (row .entry))) (putOn n c byte (at (now (row .entry)))) ⌝ }
 {
     if c.phase == 0 {
-        return take_group(c, n, byte, row);
+        return group_next(c, n, byte);
     }
-    take_part(c, n, byte, row)
+    part_next(c, n, byte)
+}
+
+// The numbers that a byte makes whole, stored.
+pub fn put_byte(c: Coming, n: usize, byte: u8, row: &mut [i32])
+    requires { ⌜ Standing n c × (n ≤ length (now row)) ⌝ }
+    ensures { λ _. ⌜ at (now (row .exit)) ≡ putOn n c byte (at (now (row .entry))) ⌝ }
+{
+    if c.phase == 0 {
+        put_group(n, c.done, byte, row);
+        return;
+    }
+    put_part(c, n, byte, see(c, n, byte), row);
+}
+
+// Is each value that a byte brings at most `most` in size? A group's byte brings zeros.
+fn brings_within(c: Coming, n: usize, byte: u8, most: u64) -> bool
+    requires { ⌜ Standing n c ⌝ }
+    ensures { λ r. ⌜ r ≡ broughtWithin c byte most ⌝ }
+{
+    if c.phase == 0 {
+        return true;
+    }
+    let s = see(c, n, byte);
+    let x = parts::largest(s.bits, widths::width_of(c.code), s.whole, 0);
+    (x + 1) / 2 <= most
+}
+
+// With the row's last byte: is each of its values at most `most` in size? Those stored, and those that the byte brings.
+pub fn all_within(c: Coming, n: usize, byte: u8, row: &[i32], most: i32) -> bool
+    requires { ⌜ Standing n c × (n ≤ length (now row)) × (most ≡ pos (natAbs most)) × (isOver n (moved n c byte) ≡ true) ⌝ }
+    ensures { λ r. ⌜ r ≡ every n (λ i. leb (natAbs (putOn n c byte (at (now (row .entry))) i)) (natAbs most)) ⌝ }
+{
+    let done = c.done;
+    if !ranges::all_between(&row[..done], -most, most) {
+        return false;
+    }
+    brings_within(c, n, byte, most as u64)
 }

@@ -4,7 +4,7 @@ ghost use Prim.Native.Nat.{_+_, _*_, _/_, _%_, _^_, _<_};
 ghost use lib.Dec.{eqb};
 ghost use Rattle.ground_file.specs.File.{prime};
 
-const PRIME: u64 = 4293501227;
+pub const PRIME: u64 = 4293501227;
 
 // The sum of bytes that are followed by one more.
 pub fn sum_on(sum: u64, byte: u8) -> u64

@@ -119,8 +119,8 @@ pub fn band_row(y: usize, h: usize, n: usize, band: usize) -> usize
 }
 
 // The code of the first band from `first` on that set n asks for; 4 where there is none. Each band is tried: for a set at the level's first or last rows, or
-// of a single column. The set's low row is at 2n and its high row at 2n + 1, past the last even coordinate that is not after the start; `row` is the high
-// one's number.
+// of a single column. The set's low row is at 2n and its high row at 2n + 1, past the last even coordinate that is not after the start; `row` is the number of
+// the high one.
 fn tried_band(last: bool, x: usize, w: usize, y: usize, h: usize, n: usize, first: usize) -> usize
     ensures { λ c. ⌜ c ≡ nextBand last (side x w) (side y h) n first ⌝ }
 {

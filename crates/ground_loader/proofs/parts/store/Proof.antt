@@ -2,7 +2,6 @@
 use mathlib.Core.Path.{ap, _∙_}
 use Prim.Native.Nat.{_-_}
 use native.Mathlib.Omega.{arith}
-use lib.ListN.{length}
 use Rattle.numbers.proofs.Words.{read-back}
 use Rattle.ground_loader.specs.Numbers.{valueOf}
 use Rattle.ground_loader.proofs.NumberLaws.{Storing, storing-start, rest-small, storing-place, storing-next, storing-end}

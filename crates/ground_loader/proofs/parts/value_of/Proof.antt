@@ -5,7 +5,6 @@ use native.Mathlib.Omega.{arith}
 use lib.IntN.{ℤ, pos, negsuc, _-ℤ_}
 use borrow.Author.Needs.{needs}
 use mir.Syntax.{w32}
-use mir.Val.{toZ, ofZ}
 use mir.ValLaws.{toZ-ofZ}
 use Rattle.ground_loader.proofs.NumberLaws.{half-read, below-fits, value-even, value-odd}
 use Rattle.ground_loader.proofs.parts.value_of.Statement.{statement}
