@@ -1,21 +1,19 @@
 -- The lines of a level back: a row lifted back into one of them, and the columns of a pair of rows in them. Assumes nothing.
 use mathlib.Core.Path.{_≡_, refl, sym, ap, _∙_}
 use mathlib.Core.List.{List}
-use mathlib.Core.Bool.{true}
 use Prim.Native.Nat.{ℕ, _+_, _-_, _*_, _^_, _%_, _≤_, _<_}
 use native.Mathlib.Decide.{ℕ-discrete, decLt}
 use native.Mathlib.Omega.{arith}
 use borrow.Author.Tests.{lt-ltb, le-ltb}
 use lib.IntN.{ℤ}
-use lib.Signed.{shrZ}
 use lib.ListN.{length, set, length-set}
 use Rattle.numbers.specs.Signal.{at, stored}
 use Rattle.numbers.proofs.Stores.{stored-at, stored-off, at-stored}
-use Rattle.lifting.specs.Line.{lo, hi}
-use Rattle.lifting.specs.Grid.{Side, count, singleHigh}
-use Rattle.lifting.specs.GridHalves.{highsLaid, unliftedInPlace}
-use Rattle.lifting.specs.Passes.{near, highsChanged, lowsChanged}
-use Rattle.lifting.proofs.GridLaws.{some, counts}
+use Rattle.lifting.specs.Line.{lo}
+use Rattle.lifting.specs.Grid.{Side, count}
+use Rattle.lifting.specs.GridHalves.{highsLaid}
+use Rattle.lifting.specs.Passes.{near, lowsChanged}
+use Rattle.lifting.proofs.GridLaws.{some}
 use Rattle.lifting.proofs.PassLaws.{highs-low, highs-high, lows-low, lows-past}
 use mir.Syntax.{w32}
 use mir.Val.{SFits, ofZ}

@@ -2,11 +2,11 @@
 use mathlib.Core.Path.{_≡_, refl, sym, ap, _∙_, fun-ext}
 use mathlib.Core.Bool.{Bool, true, false}
 use mathlib.Core.List.{List}
-use Prim.Native.Nat.{ℕ, zero, suc, _+_, _-_, _*_, _/_, _%_, _^_, _≤_, _<_}
+use Prim.Native.Nat.{ℕ, zero, suc, _+_, _-_, _*_, _/_, _%_, _≤_, _<_}
 use native.Mathlib.Decide.{decLt}
-use native.Mathlib.Nat.{mul-le-mul, mul-le-mul-right, mul-le-mul-left}
+use native.Mathlib.Nat.{mul-le-mul, mul-le-mul-right}
 use native.Mathlib.Omega.{arith}
-use borrow.Author.Tests.{lt-ltb, le-ltb, le-leb, eq-eqb, ne-eqb}
+use borrow.Author.Tests.{lt-ltb, le-ltb, le-leb, ne-eqb}
 use borrow.Rule.Slice.PartMut.{midOf, putMid}
 use lib.IntN.{ℤ, pos, negℤ, natAbs}
 use lib.ListN.{length, set, length-map}
@@ -15,26 +15,26 @@ use lib.Dec.{leb}
 use Rattle.numbers.specs.Signal.{at, pick, windowed, spliced}
 use Rattle.numbers.proofs.Parts.{window-in, window-past, splice-below, splice-in, splice-past, length-mid, at-mid, at-put}
 use Rattle.numbers.specs.Word.{wrap32}
-use Rattle.lifting.specs.Line.{lo, hi}
+use Rattle.lifting.specs.Line.{lo}
 use Rattle.lifting.specs.Grid.{Side, side, count, joined, lineHalvesBack, singleHigh}
 use Rattle.lifting.specs.GridHalves.{halvesOf, highsLaid, unliftedInPlace}
 use Rattle.lifting.specs.Halves.{fronted}
 use Rattle.lifting.specs.FiveThree.{fiveThreeFilter}
 use Rattle.lifting.proofs.FiveThreeFilter.{five-three-laws}
 use Rattle.lifting.proofs.GridLaws.{counts, halves-high, odd-one}
-use Rattle.lifting.proofs.SingleLaws.{single-none, unlifted-none, unlifted-single, laid-single, single-high}
+use Rattle.lifting.proofs.SingleLaws.{unlifted-none, laid-single, single-high}
 use Rattle.areas.specs.Areas.{heightsAt, wholes, height16, between}
 use Rattle.areas.proofs.AreaLaws.{front-at, did}
 use Rattle.areas.proofs.HeightLaws.{wholes-at}
 use Rattle.wavelet.specs.Limits.{maxSample, range}
-use Rattle.wavelet.specs.Bands.{Grid}
 use Rattle.wavelet.specs.Plane.{cells}
 use Rattle.wavelet.specs.Maps.{every, valueFits}
-use Rattle.wavelet.proofs.MapTheorems.{every-each, each-every, every-same}
+use Rattle.wavelet.proofs.MapTheorems.{each-every, every-same}
 use Rattle.map_levels.specs.Rowwise.{cut}
 use Rattle.map_levels.specs.Passes.{within, isLow, planeRow, rowsFetched}
 use Rattle.map_levels.specs.SweepBack.{shortUnlifted, lowPlace, lowPart, bandRows, gridIn, RowPut}
 use Rattle.map_levels.specs.BackLines.{isHeight, LineMade}
+use Rattle.map_levels.proofs.SweepLevels.{low-least}
 use Rattle.map_levels.proofs.BackLineLaws.{set-here}
 use Rattle.map_levels.proofs.CellLaws.{placed, placed-in, joined-at}
 use Rattle.map_levels.proofs.HeightLaws.{wholes-mid, wholes-put, drawn-heights}
@@ -42,12 +42,6 @@ use Rattle.map_levels.proofs.TestLaws.{height-fits, between-fits}
 use Rattle.map_levels.proofs.LevelMath.{single-is, single-not}
 
 -- ---- the low-low part at the end of a work area
-pub low-few : (W H : Side) → count lo W * count lo H ≤ W .length * H .length
-low-few W H =
-    let a = counts W in
-    let b = counts H in
-    mul-le-mul (omega arith) (omega arith)
-
 parts-of : (d i w : ℕ) → d * w + i * w ≡ (i + d) * w
 parts-of d i w = omega arith
 
@@ -63,7 +57,7 @@ low-half H r b e = (omega arith, omega arith)
 pub low-row-in : (W H : Side) (i : ℕ) → i < count lo H → lowPlace W H + i * count lo W + count lo W ≤ W .length * H .length
 unfolding lowPlace
 low-row-in W H i b =
-    let all = low-few W H in
+    let all = low-least W H in
     let some : (i + 1) * count lo W ≤ count lo H * count lo W = mul-le-mul-right (count lo W) (omega arith) in
     omega arith
 
@@ -72,7 +66,7 @@ unfolding lowPlace
 low-row-past W H r b e =
     let c = counts W in
     let h = low-half H r b e in
-    let all = low-few W H in
+    let all = low-least W H in
     let left : (count lo H - r / 2) * count lo W ≤ (H .length - r) * W .length = mul-le-mul (h .1) (omega arith) in
     let split : (count lo H - r / 2) * count lo W + r / 2 * count lo W ≡ count lo H * count lo W = products (count lo H) (r / 2) (count lo W)
     (omega (arith, h .0)) in

@@ -2,7 +2,7 @@
 -- more. Assumes nothing.
 use mathlib.Core.Path.{_≡_, refl, sym, ap, _∙_, fun-ext, subst}
 use mathlib.Core.Bool.{Bool, true, false, _&&_}
-use Prim.Native.Nat.{ℕ, suc, _+_, _-_, _*_, _/_, _%_, _^_, _≤_, _<_}
+use Prim.Native.Nat.{ℕ, _+_, _-_, _*_, _/_, _%_, _^_, _≤_, _<_}
 use native.Mathlib.Decide.{decLt, ℕ-discrete}
 use native.Mathlib.Nat.{mul-le-mul-right}
 use native.Mathlib.Omega.{arith}
@@ -10,11 +10,10 @@ use borrow.Author.Tests.{lt-ltb, le-ltb, eqb-true}
 use lib.Dec.{eqb}
 use lib.IntN.{ℤ, natAbs}
 use lib.Signed.{shrZ}
-use Rattle.numbers.specs.Signal.{pick, both, windowed}
+use Rattle.numbers.specs.Signal.{both, windowed}
 use Rattle.numbers.specs.Word.{wrap32}
 use Rattle.numbers.proofs.Integers.{each, lin, dif-natAbs}
 use Rattle.numbers.proofs.Parts.{window-in, window-past}
-use Rattle.numbers.proofs.Sweep.{both as parts}
 use Rattle.lifting.specs.Line.{lo, unupdated, unpredicted}
 use Rattle.lifting.specs.Grid.{Side, count, joined, singleHigh}
 use Rattle.lifting.specs.GridHalves.{halvesOf, highsLaid, unliftedInPlace}
@@ -24,12 +23,12 @@ use Rattle.wavelet.specs.Bands.{Grid}
 use Rattle.wavelet.specs.Maps.{every, valueFits}
 use Rattle.wavelet.proofs.MapTheorems.{every-same}
 use Rattle.map_levels.specs.Rowwise.{cut}
-use Rattle.map_levels.specs.Passes.{before, after, isLow, planeRow, lowRowsChanged, highRowsChanged, rowsMapped, KeptFrom}
+use Rattle.map_levels.specs.Passes.{before, after, isLow, planeRow, lowRowsChanged, rowsMapped, KeptFrom}
 use Rattle.map_levels.specs.LevelPasses.{levelUnlifted, columnsUnliftedInPlace}
 use Rattle.map_levels.specs.SweepBack.{shortUnupdated, shortUnpredicted, shortUnlifted, lowPlace, SmallBands, bandRows, gridIn, RowPut}
 use Rattle.map_levels.specs.BackLines.{lineLong, nextLine, highLine, evenLine, oddLine, evenOf, oddOf}
 use Rattle.map_levels.specs.BackLines.{PairBack, EvenBack, OddBack, LineMade, RowsDone}
-use Rattle.map_levels.proofs.CellLaws.{placed, placed-in, joined-at, low-in, low-high, high-in, high-low, cut-in}
+use Rattle.map_levels.proofs.CellLaws.{placed, placed-in, joined-at, low-in, low-high, high-in, high-low}
 use Rattle.map_levels.proofs.ColumnPass.{before-is, after-is}
 use Rattle.map_levels.proofs.GridSweep.{mapped-in}
 use Rattle.map_levels.proofs.OneRow.{by-test}

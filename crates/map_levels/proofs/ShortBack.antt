@@ -1,5 +1,5 @@
 -- The steps back with 32-bit sums are T.800's where the numbers are small, and those of a plane in range are. Assumes nothing.
-use mathlib.Core.Path.{_≡_, refl, sym, ap, _∙_}
+use mathlib.Core.Path.{_≡_, sym, ap, _∙_}
 use Prim.Native.Nat.{ℕ, _+_, _-_, _*_, _%_, _^_, _≤_, _<_}
 use native.Mathlib.Decide.{decLt}
 use borrow.Author.Tests.{lt-ltb, le-ltb}
@@ -15,7 +15,7 @@ use Rattle.lifting.specs.Passes.{near, highsChanged, lowsChanged}
 use Rattle.lifting.proofs.GridLaws.{some}
 use Rattle.lifting.proofs.PassLaws.{highs-low, highs-high, lows-low, lows-past, unlifted-is}
 use Rattle.map_levels.specs.SweepBack.{shortUnupdated, shortUnpredicted, shortUnlifted}
-use Rattle.map_levels.proofs.ShortSums.{sum-kept, two-kept}
+use Rattle.map_levels.proofs.ShortSums.{sum-kept, two-kept, half-within, less-small}
 
 pub short-unpredicted : (x a b : ℤ) → natAbs a ≤ 2 ^ 29 → natAbs b ≤ 2 ^ 29 → shortUnpredicted x a b ≡ unpredicted wrap32 x a b
 unfolding shortUnpredicted unpredicted
@@ -30,21 +30,8 @@ short-unupdated x a b f g =
 quarter-small : (M : ℕ) (a b : ℤ) → natAbs a ≤ M → natAbs b ≤ M → natAbs (shrZ (a +ℤ b +ℤ pos 2) 4) ≤ M
 quarter-small M = each _ λ p q. each _ λ r s. simp (lin, dif-natAbs) (omega arith)
 
-half-small : (M : ℕ) (a b : ℤ) → natAbs a ≤ M → natAbs b ≤ M → natAbs (shrZ (a +ℤ b) 2) ≤ M
-half-small M = each _ λ p q. each _ λ r s. simp (lin, dif-natAbs) (omega arith)
-
-less-kept : (a b : ℤ) → natAbs a ≤ 2 ^ 29 → natAbs b ≤ 2 ^ 29 → wrap32 (a -ℤ b) ≡ a -ℤ b
-unfolding wrap32
-less-kept = each _ λ p q. each _ λ r s. simp (lin, dif-natAbs) (omega arith)
-
-less-within : (M : ℕ) (a b : ℤ) → natAbs a ≤ M → natAbs b ≤ M → natAbs (a -ℤ b) ≤ 2 * M
-less-within M = each _ λ p q. each _ λ r s. simp (lin, dif-natAbs) (omega arith)
-
 sum-within : (M : ℕ) (a b : ℤ) → natAbs a ≤ M → natAbs b ≤ M → natAbs (a +ℤ b) ≤ 2 * M
 sum-within M = each _ λ p q. each _ λ r s. simp (lin, dif-natAbs) (omega arith)
-
-less-small : (M : ℕ) (x h : ℤ) → M ≤ 2 ^ 28 → natAbs x ≤ M → natAbs h ≤ M → natAbs (wrap32 (x -ℤ h)) ≤ 2 * M
-less-small M x h most f g = rw (less-kept x h (omega arith) (omega arith)) (less-within M x h f g)
 
 more-small : (M : ℕ) (x h : ℤ) → M ≤ 2 ^ 28 → natAbs x ≤ M → natAbs h ≤ M → natAbs (wrap32 (x +ℤ h)) ≤ 2 * M
 more-small M x h most f g = rw (sum-kept x h (omega arith) (omega arith)) (sum-within M x h f g)
@@ -55,7 +42,7 @@ unupdated-small M x a b most f g h = less-small M x (shrZ (a +ℤ b +ℤ pos 2) 
 
 pub unpredicted-small : (M : ℕ) (x a b : ℤ) → M ≤ 2 ^ 28 → natAbs x ≤ M → natAbs a ≤ M → natAbs b ≤ M → natAbs (unpredicted wrap32 x a b) ≤ 2 * M
 unfolding unpredicted
-unpredicted-small M x a b most f g h = more-small M x (shrZ (a +ℤ b) 2) most f (half-small M a b g h)
+unpredicted-small M x a b most f g h = more-small M x (shrZ (a +ℤ b) 2) most f (half-within M a b g h)
 
 -- ---- a line lifted back by them
 module _ (S : Side) (y : ℕ → ℤ) (more : 1 < S .length) (small : (j : ℕ) → j < S .length → natAbs (y j) ≤ 2 ^ 26) where

@@ -1,6 +1,6 @@
 -- The steps with 32-bit sums are T.800's where the numbers are small, and those of a map are. Assumes nothing.
 use mathlib.Core.Path.{_≡_, refl, sym, ap, _∙_}
-use Prim.Native.Nat.{ℕ, _+_, _-_, _%_, _^_, _≤_, _<_}
+use Prim.Native.Nat.{ℕ, _+_, _-_, _*_, _%_, _^_, _≤_, _<_}
 use native.Mathlib.Decide.{decLt}
 use borrow.Author.Tests.{lt-ltb, le-ltb}
 use native.Mathlib.Omega.{arith}
@@ -50,17 +50,24 @@ pub short-lifted : (S : Side) (low m : ℕ) (y y₁ y₂ : ℕ → ℤ) → 1 < 
 unfolding shortLifted
 short-lifted S low m y y₁ y₂ more e k is₁ is₂ = simp (lt-ltb 1 (S .length) more) (is₂ ∙ rw (is₁, k, e) refl)
 
--- a high value of a small line, by the standard's step
-half-small : (a b : ℤ) → natAbs a ≤ 2 ^ 27 → natAbs b ≤ 2 ^ 27 → natAbs (shrZ (a +ℤ b) 2) ≤ 2 ^ 27
-half-small = each _ λ p q. each _ λ r s. simp (lin, dif-natAbs) (omega arith)
+-- how far numbers within M grow by a step
+pub half-within : (M : ℕ) (a b : ℤ) → natAbs a ≤ M → natAbs b ≤ M → natAbs (shrZ (a +ℤ b) 2) ≤ M
+half-within M = each _ λ p q. each _ λ r s. simp (lin, dif-natAbs) (omega arith)
 
-less-small : (x h : ℤ) → natAbs x ≤ 2 ^ 27 → natAbs h ≤ 2 ^ 27 → natAbs (wrap32 (x -ℤ h)) ≤ 2 ^ 28
+less-kept : (a b : ℤ) → natAbs a ≤ 2 ^ 29 → natAbs b ≤ 2 ^ 29 → wrap32 (a -ℤ b) ≡ a -ℤ b
 unfolding wrap32
-less-small = each _ λ p q. each _ λ r s. simp (lin, dif-natAbs) (omega arith)
+less-kept = each _ λ p q. each _ λ r s. simp (lin, dif-natAbs) (omega arith)
 
+less-within : (M : ℕ) (a b : ℤ) → natAbs a ≤ M → natAbs b ≤ M → natAbs (a -ℤ b) ≤ 2 * M
+less-within M = each _ λ p q. each _ λ r s. simp (lin, dif-natAbs) (omega arith)
+
+pub less-small : (M : ℕ) (x h : ℤ) → M ≤ 2 ^ 28 → natAbs x ≤ M → natAbs h ≤ M → natAbs (wrap32 (x -ℤ h)) ≤ 2 * M
+less-small M x h most f g = rw (less-kept x h (omega arith) (omega arith)) (less-within M x h f g)
+
+-- a high value of a small line, by the standard's step
 predicted-small : (x a b : ℤ) → natAbs x ≤ 2 ^ 27 → natAbs a ≤ 2 ^ 27 → natAbs b ≤ 2 ^ 27 → natAbs (predicted wrap32 x a b) ≤ 2 ^ 28
 unfolding predicted
-predicted-small x a b f g h = less-small x (shrZ (a +ℤ b) 2) f (half-small a b g h)
+predicted-small x a b f g h = omega (arith, less-small (2 ^ 27) x (shrZ (a +ℤ b) 2) (omega arith) f (half-within (2 ^ 27) a b g h))
 
 module _ (S : Side) (y : ℕ → ℤ) (more : 1 < S .length) (small : (j : ℕ) → j < S .length → natAbs (y j) ≤ 2 ^ 27) where
   abbrev low : ℕ

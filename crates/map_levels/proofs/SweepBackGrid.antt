@@ -3,7 +3,7 @@ use mathlib.Core.Path.{_≡_, refl, sym, ap, ap₂, _∙_}
 use mathlib.Core.Bool.{Bool, true, false, _&&_}
 use lib.Signed.{shrZ}
 use borrow.Author.Tests.{le-ltb}
-use Prim.Native.Nat.{ℕ, _+_, _-_, _*_, _/_, _%_, _^_, _≤_, _<_}
+use Prim.Native.Nat.{ℕ, _+_, _-_, _*_, _/_, _^_, _≤_, _<_}
 use native.Mathlib.Decide.{decLt}
 use native.Mathlib.Nat.{mul-le-mul-left, mul-le-mul-right, mul-comm}
 use native.Mathlib.Omega.{arith}
@@ -18,7 +18,7 @@ use Rattle.lifting.specs.FiveThree.{fiveThreeFilter}
 use Rattle.lifting.proofs.FiveThreeFilter.{five-three-laws}
 use Rattle.lifting.proofs.GridLaws.{counts, by-place, in-place, front-in}
 use Rattle.wavelet.specs.Bands.{Grid, Band, LL, HL, LH, HH, bandOf, across, down, levelBack, rowsHave, columnsHave, levelHas}
-use Rattle.wavelet.specs.Plane.{cells, planeBands}
+use Rattle.wavelet.specs.Plane.{cells}
 use Rattle.wavelet.specs.Maps.{every, everyCell, valueFits}
 use Rattle.wavelet.proofs.MapTheorems.{every-each, each-every, every-same, cells-each, each-cells}
 use Rattle.map_levels.specs.Rowwise.{cut, halvedInPlace}
@@ -27,7 +27,7 @@ use Rattle.map_levels.specs.LevelPasses.{levelGrid, columnsUnliftedInPla
 use Rattle.map_levels.specs.SweepBack.{shortUnlifted, lowPart, bandsIn, SmallBands, bandRows, gridIn, RowPut, LevelSweptBack}
 use Rattle.map_levels.specs.BackLines.{LineMade, BackRoom, SweepRoomBack, RowsDone}
 use Rattle.map_levels.specs.ByFilter.{unliftedBy}
-use Rattle.map_levels.proofs.CellLaws.{placed, placed-in, joined-at, grid-at, cut-in}
+use Rattle.map_levels.proofs.CellLaws.{placed, placed-in, joined-at, cut-in}
 use Rattle.map_levels.proofs.LevelMath.{BandsIn, level-back, five-three-back}
 use Rattle.map_levels.proofs.LevelsMath.{rows-fetched}
 use Rattle.map_levels.proofs.GridSweep.{mapped-in}

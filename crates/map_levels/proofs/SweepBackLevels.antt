@@ -1,13 +1,13 @@
 -- The levels of a map back in sweeps: from the low-low part at the end of the work area to the level. Assumes nothing.
 use mathlib.Core.Path.{_≡_, refl, sym, ap, ap₂, _∙_}
 use mathlib.Core.Bool.{Bool, true, false}
-use Prim.Native.Nat.{ℕ, zero, suc, _+_, _-_, _*_, _/_, _%_, _^_, _≤_, _<_}
+use Prim.Native.Nat.{ℕ, suc, _+_, _-_, _*_, _^_, _≤_, _<_}
 use native.Mathlib.Nat.{mul-comm}
 use native.Mathlib.Omega.{arith}
 use lib.IntN.{ℤ, natAbs}
 use lib.Dec.{leb, eqb}
 use borrow.Author.Tests.{leb-true, ne-eqb}
-use Rattle.numbers.specs.Signal.{pick, both, windowed, spliced}
+use Rattle.numbers.specs.Signal.{pick, spliced}
 use Rattle.numbers.specs.Word.{wrap32}
 use Rattle.numbers.proofs.Parts.{splice-in, splice-past}
 use Rattle.numbers.proofs.Sweep.{both as parts}
@@ -21,16 +21,16 @@ use Rattle.lifting.proofs.GridLaws.{counts}
 use Rattle.wavelet.specs.Limits.{maxSample, range}
 use Rattle.wavelet.specs.Bands.{Grid, Band, LL, HL, LH, HH, across, down, levelBack, levelHas}
 use Rattle.wavelet.specs.Plane.{cells, levelAt, planeBands, mapBack}
-use Rattle.wavelet.specs.Maps.{everyCell, valueFits, rebuiltFits}
+use Rattle.wavelet.specs.Maps.{valueFits, rebuiltFits}
 use Rattle.wavelet.specs.Levels.{next}
 use Rattle.wavelet.proofs.Bridge.{range-le}
 use Rattle.wavelet.proofs.GridLaws.{place-below}
 use Rattle.wavelet.proofs.LevelTheory.{OnCells, OnBands, SameBands, bandIn, over, plane-bands, placed, placed-in, level-at, level-back-reads, level-has-reads}
 use Rattle.wavelet.proofs.MapTheorems.{cells-each, cells-same}
-use Rattle.map_levels.specs.Passes.{Rows, KeptFrom}
+use Rattle.map_levels.specs.Passes.{KeptFrom}
 use Rattle.map_levels.specs.LevelPasses.{goesOn, regionInRange}
 use Rattle.map_levels.specs.Sweep.{LowSaved}
-use Rattle.map_levels.specs.SweepBack.{lowPlace, lowPart, bandsIn, SmallBands, gridIn, LevelSweptBack, SweptBack}
+use Rattle.map_levels.specs.SweepBack.{lowPlace, lowPart, bandsIn, SmallBands, LevelSweptBack, SweptBack}
 use Rattle.map_levels.specs.BackLines.{BackRoom}
 use Rattle.map_levels.proofs.CellLaws.{kept-then}
 use Rattle.map_levels.proofs.LevelsMath.{bandsBack}

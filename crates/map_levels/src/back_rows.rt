@@ -1,6 +1,6 @@
 // The rows of a level on their way back: from the plane and the low-low part into a line, and from a line to the heights or to the front of the work area.
 // The low-low part stands at the end of the work area, so that no row of it is written over before it is read. The module is private, as `rowwise` is.
-use crate::levels;
+use crate::level_ranges;
 use crate::short_back;
 use crate::small;
 use wavelet::sizes;
@@ -165,7 +165,7 @@ fn all_in_range(row: &[i32], level: usize) -> bool
     if small::surely_within(row, most as u32) {
         return true;
     }
-    areas::ranges::all_between(row, levels::lowest(level, 0), most)
+    areas::ranges::all_between(row, level_ranges::lowest(level, 0), most)
 }
 
 // The same to row r of the work area, and whether its numbers lie in the range of `level`.

@@ -12,7 +12,7 @@ ghost use Rattle.numbers.specs.Signal.{at, both};
 ghost use Rattle.lifting.specs.Grid.{side};
 ghost use Rattle.lifting.specs.FiveThree.{fiveThreeFilter};
 ghost use Rattle.areas.specs.Areas.{heightsAt};
-ghost use Rattle.map_levels.specs.SweepBack.{BackArea, SmallBands, LevelSweptBack};
+ghost use Rattle.map_levels.specs.SweepBack.{SmallBands, LevelSweptBack};
 ghost use Rattle.map_levels.specs.BackLines.{lineLong, SweepRoomBack, RowsDone};
 
 // The first rows: the first low row is done, and put where it comes first; the high row beside it is lifted back along its row.

@@ -3,9 +3,11 @@ mod back_lines;
 mod back_rows;
 mod back_sweep;
 mod heights;
+mod level_ranges;
 mod levels;
 mod levels_back;
 mod lines;
+mod nine_seven_levels;
 mod passes;
 mod rowwise;
 mod short;
@@ -50,7 +52,7 @@ fn lift_in_place(
     ensures { λ _. ⌜ KeptFrom ((height - 1) * width + width) (at (now (work .entry))) (at (now (work .exit))) ⌝ }
 {
     heights::load_rows(heights, plane, x, width, y, height);
-    levels::forward_levels(plane, work, width, x, width, y, height, levels);
+    nine_seven_levels::forward_levels(plane, work, width, x, width, y, height, levels);
 }
 
 // The map's plane by the filter of a number; the 5/3 goes from the heights straight to the plane.
@@ -202,7 +204,7 @@ fn rebuild_rows(
     ensures { λ ok. ⌜ MapRebuilt nineSevenFilter ok (side x width) (side y height) levels (at (now (plane .entry))) (heightsAt (now (heights .entry)))
         (heightsAt (now (heights .exit))) (at (now (work .entry))) (at (now (work .exit))) ⌝ }
 {
-    if !levels::back_levels(plane, work, width, width, x, width, y, height, levels, 0) {
+    if !nine_seven_levels::back_levels(plane, work, width, width, x, width, y, height, levels, 0) {
         return false;
     }
     heights::finish_rows(work, heights, x, width, height)
@@ -252,7 +254,7 @@ fn restore(
         (heightsAt (now (heights .entry))) ⌝ }
     ensures { λ r. ⌜ at (now (work .exit)) ≡ rebuilt r (width * height) zeros (at (now (work .entry))) ⌝ }
 {
-    if !levels::plane_in_range(plane, x, width, y, height, levels, filter) {
+    if !level_ranges::plane_in_range(plane, x, width, y, height, levels, filter) {
         return 7;
     }
     if !rebuild(plane, x, width, y, height, levels, heights, work, filter) {

@@ -1,6 +1,5 @@
 -- `back_rows::all_in_range` meets its contract: a quick yes, or each number asked. Assumes nothing.
 use mathlib.Core.Path.{_≡_, _∙_}
-use native.Mathlib.Omega.{arith}
 use lib.IntN.{pos}
 use lib.ListN.{length}
 use mir.Syntax.{w32}

@@ -1,5 +1,4 @@
 -- `back_rows::fetch` meets its contract: the two cases of the test. Assumes nothing.
-use native.Mathlib.Omega.{arith}
 use borrow.Author.Needs.{needs}
 use Rattle.map_levels.proofs.back_rows.fetch.Statement.{statement}
 use Rattle.map_levels.proofs.back_rows.fetch.Tie as tie

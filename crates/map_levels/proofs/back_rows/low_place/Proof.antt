@@ -3,7 +3,7 @@ use mathlib.Core.Path.{refl}
 use native.Mathlib.Omega.{arith}
 use Rattle.lifting.specs.Grid.{side}
 use Rattle.map_levels.specs.SweepBack.{lowPlace}
-use Rattle.map_levels.proofs.BackRowLaws.{low-few}
+use Rattle.map_levels.proofs.SweepLevels.{low-least}
 use borrow.Author.Needs.{needs}
 use Rattle.map_levels.proofs.back_rows.low_place.Statement.{statement}
 use Rattle.map_levels.proofs.back_rows.low_place.Tie as tie
@@ -21,12 +21,12 @@ mul-result-2 : tie.Need-mul-result-2
 mul-result-2 c =
     let a = c .before .before .args in
     rw (c .before .low-count .ensures, c .low-count2 .ensures)
-    (omega (arith, low-few (side (a .x) (a .width)) (side (a .y) (a .height)), c .before .before .pre))
+    (omega (arith, low-least (side (a .x) (a .width)) (side (a .y) (a .height)), c .before .before .pre))
 
 sub-result : tie.Need-sub-result
 sub-result c =
     let a = c .before .before .args in
-    rw (c .before .low-count .ensures, c .low-count2 .ensures) (low-few (side (a .x) (a .width)) (side (a .y) (a .height)))
+    rw (c .before .low-count .ensures, c .low-count2 .ensures) (low-least (side (a .x) (a .width)) (side (a .y) (a .height)))
 
 returns : tie.Need-returns
 unfolding lowPlace

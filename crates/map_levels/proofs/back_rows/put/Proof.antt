@@ -1,5 +1,4 @@
 -- `back_rows::put` meets its contract: the two cases of the test. Assumes nothing.
-use native.Mathlib.Omega.{arith}
 use borrow.Author.Needs.{needs}
 use Rattle.map_levels.proofs.back_rows.put.Statement.{statement}
 use Rattle.map_levels.proofs.back_rows.put.Tie as tie

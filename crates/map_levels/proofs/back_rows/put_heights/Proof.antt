@@ -6,8 +6,6 @@ use lib.IntN.{pos}
 use Rattle.numbers.specs.Signal.{at}
 use Rattle.areas.specs.Areas.{between}
 use Rattle.wavelet.specs.Limits.{maxSample}
-use Rattle.wavelet.specs.Maps.{valueFits}
-use Rattle.lifting.specs.FiveThree.{fiveThreeFilter}
 use Rattle.map_levels.proofs.BackRowLaws.{lent-test, all-heights, heights-put, heights-test}
 use borrow.Author.Needs.{needs}
 use Rattle.map_levels.proofs.back_rows.put_heights.Statement.{statement}

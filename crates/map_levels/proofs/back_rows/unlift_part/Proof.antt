@@ -1,8 +1,6 @@
 -- `back_rows::unlift_part` meets its contract: the parts lent, and the line come back. Assumes nothing.
-use mathlib.Core.Path.{_∙_}
 use Prim.Native.Nat.{_+_, _-_}
 use native.Mathlib.Omega.{arith}
-use Rattle.lifting.specs.Grid.{side}
 use Rattle.map_levels.proofs.BackRowLaws.{part-made, lent-lengths}
 use borrow.Author.Needs.{needs}
 use Rattle.map_levels.proofs.back_rows.unlift_part.Statement.{statement}

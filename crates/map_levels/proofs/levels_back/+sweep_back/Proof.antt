@@ -9,8 +9,7 @@ use lib.ListN.{length}
 use borrow.Author.Tests.{not-true, not-false}
 use borrow.Rule.Slice.PartMut.{putMid}
 use Rattle.numbers.proofs.Parts.{length-mid}
-use Rattle.lifting.specs.Line.{lo}
-use Rattle.lifting.specs.Grid.{Side, side, count}
+use Rattle.lifting.specs.Grid.{Side, side}
 use Rattle.wavelet.specs.Levels.{next}
 use Rattle.map_levels.proofs.LevelCalls.{put-area, put-same}
 use Rattle.map_levels.proofs.LevelSteps.{next-side}

@@ -1,13 +1,11 @@
 -- `short_back::unlift` meets its contract: the two passes come to it; a row of one number goes apart. Assumes nothing.
-use mathlib.Core.Path.{refl, sym, ap, _∙_}
+use mathlib.Core.Path.{refl, _∙_}
 use native.Mathlib.Omega.{arith}
-use lib.IntN.{ℤ}
 use lib.ListN.{length}
-use Prim.Native.Nat.{ℕ}
 use Rattle.numbers.specs.Signal.{at}
 use Rattle.lifting.specs.Grid.{side}
 use Rattle.lifting.proofs.PassLaws.{lows-beside, highs-beside}
-use Rattle.map_levels.proofs.BackLineLaws.{row-lifted, set-here}
+use Rattle.map_levels.proofs.BackLineLaws.{row-lifted}
 use Rattle.map_levels.proofs.BackRowLaws.{one-stored}
 use borrow.Author.Needs.{needs}
 use Rattle.map_levels.proofs.short_back.unlift.Statement.{statement}
