@@ -97,6 +97,19 @@ static void reader(void)
     }
 }
 
+/* many rows a call: the numbers of 64 rows, one row after the other as they are wanted */
+static void reader_run(void)
+{
+    uint64_t counts[2];
+    size_t used = 0, r = 0;
+    check(terrain_reader_set_up(state, shape, store, store_len));
+    while (r < H) {
+        size_t count = n - used < 64 * W ? n - used : 64 * W;
+        check(terrain_reader_run(state, store, store_len, packed + used, count, back + W * r, n - W * r, counts));
+        used += counts[0], r += counts[1];
+    }
+}
+
 /* ---- the places of the rows, in the order of a stream */
 
 static void found(const uint64_t row[3])
@@ -131,12 +144,13 @@ static void find_written(void)
 static void find_read(void)
 {
     uint64_t want[5];
-    size_t drawn;
+    size_t drawn, put = 0;
     check(terrain_reader_set_up(state, shape, store, store_len));
     for (;;) {
         check(terrain_reader_want(state, want));
         if (want[0] == 0) {
             found(want + 1);
+            memcpy(packed + put, plane + starts[rows - 1], want[4] * sizeof *packed), put += want[4];
             check(terrain_reader_feed(state, store, store_len, plane + starts[rows - 1], want[4]));
         } else if (want[0] == 1)
             check(terrain_reader_draw(state, store, store_len, back, W, &drawn));
@@ -161,7 +175,7 @@ static const struct {
     { "forward", nothing, forward, 0 },          { "backward", nothing, backward, 1 },
     { "fused-forward", nothing, plain_c_forward, 0 }, { "fused-backward", nothing, plain_c_backward, 1 },
     { "writer", find_written, writer, 0 },       { "reader", find_read, reader, 1 },
-    { "writer-run", nothing, writer_run, 0 },
+    { "writer-run", nothing, writer_run, 0 },    { "reader-run", find_read, reader_run, 1 },
 };
 
 __attribute__((noinline)) void counted(void (*run)(void))

@@ -349,6 +349,18 @@ uint32_t terrain_reader_feed(uint64_t state[16], int32_t *store, size_t store_le
 TERRAIN_CHECKED
 uint32_t terrain_reader_draw(uint64_t state[16], int32_t *store, size_t store_len, uint16_t *out, size_t out_len, size_t *drawn);
 
+/* Many rows at once: the band rows that `run` has, one after the other in the order in which the reader wants them, are fed, and height rows are
+ * drawn into `out` one after the other, until `run` has no whole row more, the next row has no room in `out`, all rows are drawn, or a number of the
+ * next band row is outside its level's range. counts[0] says how many numbers were used and counts[1] how many height rows were drawn. State, store
+ * and `out` are then what the same feeds and draws leave, so runs and single calls can be mixed. A run that can do nothing although `run` has numbers
+ * or a height row can be drawn is turned away by the number that its first feed or draw gives.
+ * 1; 5; 9; 12 (a height row can be drawn, and `out` has no room for it); 8 (no band row is wanted); 13 (`run` is shorter than the row wanted);
+ * 7 (a number of the row wanted is outside its level's range); 14 (no map has these rows: the reader has ended, and counts says what was fed and
+ * drawn before). */
+TERRAIN_CHECKED
+uint32_t terrain_reader_run(uint64_t state[16], int32_t *store, size_t store_len, const int32_t *run, size_t run_len,
+                            uint16_t *out, size_t out_len, uint64_t counts[2]);
+
 /* Fair turns at one disk for up to sixteen readers, numbered 0 to 15. A turn-giver is the caller's array of four numbers; it knows no reader
  * but by its number. Mark a reader that wants a band row and clear it when it wants none: a mark stands until it is cleared, however many
  * turns go by, and marking or clearing twice is once. A turn goes to the first marked reader in circular order after the one served last,
@@ -384,7 +396,7 @@ uint32_t terrain_save_set_up(uint64_t state[32], terrain_shape shape, size_t ste
  * `out` stays. Lend areas of any lengths, and the same plane, until *written is 0 of an area with room: then the file is complete.
  * 1; 5 (the plane has fewer than width * height numbers). Before a row is begun: 7 (a coefficient is out of its level's range), 22 (one of
  * HL, LH or HH is no multiple of the step): the call ends before that row and gives what it wrote, and if that is nothing it answers the
- * number. Neither comes of a plane that `terrain_map_forward` has made, nor of one that `terrain_round` has rounded by the step since. */
+ * number. Neither comes of a plane that `terrain_map_forward` has made, saved with step 1. */
 TERRAIN_CHECKED
 uint32_t terrain_save(uint64_t state[32], const int32_t *plane, size_t plane_len, uint8_t *out, size_t out_len, size_t *written);
 

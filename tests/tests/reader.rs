@@ -582,3 +582,153 @@ fn a_writer_s_state_is_no_reader_s() {
     assert_eq!(writer::draw(&mut of_reader, &mut store, &mut [0; 3]), Err(1));
     assert_eq!(writer::finish(&mut of_reader, &mut store), Err(1));
 }
+
+/// What is lent to a run of many rows, what it leaves there, and what it answers: the counts, and whether 14 came.
+#[derive(Clone, Debug, PartialEq)]
+struct Lent {
+    state: State,
+    store: Vec<i32>,
+    out: Vec<u16>,
+    answer: Result<([usize; 2], bool), u32>,
+}
+
+impl Lent {
+    /// By one call.
+    fn run(mut self, numbers: &[i32]) -> Lent {
+        let mut counts = [7; 2];
+        let number = raw::reader_run(&mut self.state, &mut self.store, numbers, &mut self.out, &mut counts);
+        let told = [0, 14].contains(&number);
+        assert!(told || counts == [7; 2], "a refusal changes nothing");
+        self.answer = if told { Ok((counts.map(|n| n as usize), number == 14)) } else { Err(number) };
+        self
+    }
+
+    /// By single calls: a draw while one is wanted, else a feed of the row wanted, or of what is left of the numbers.
+    fn row_by_row(mut self, numbers: &[i32]) -> Lent {
+        let ([mut used, mut rows], mut first, width) = ([0; 2], true, self.state[1] as usize);
+        let answer = loop {
+            let (kept, (want, left)) = (self.state[ENDED] == 1, (reader::want(&self.state), numbers.len() - used));
+            let (answer, size) = match want {
+                Ok(Want::Draw) => {
+                    let answer = reader::draw(&mut self.state, &mut self.store, &mut self.out[rows * width..]);
+                    rows += usize::from(answer.is_ok());
+                    (answer.map(|_| ()), 1)
+                }
+                _ => {
+                    let size = if let Ok(Want::Row(r)) = want { r.length.min(left) } else { left };
+                    let answer = reader::feed(&mut self.state, &mut self.store, &numbers[used..used + size]);
+                    used += if answer.is_ok() { size } else { 0 };
+                    (answer, size)
+                }
+            };
+            match answer {
+                Ok(()) => assert!(size > 0),
+                Err(14) if !kept => break Ok(true),
+                Err(number) => break if first && (size > 0 || [1, 5, 9].contains(&number)) { Err(number) } else { Ok(false) },
+            }
+            first = false;
+        };
+        Lent { answer: answer.map(|ended| ([used, rows], ended)), ..self }
+    }
+}
+
+/// A reader of one of the kinds: of a whole map, to a stop, tolerant.
+fn fresh(kind: usize, s: Shape, random: &mut Random) -> (State, Vec<i32>) {
+    let (mut state, mut store) = ([0; 16], vec![-3; order::store_length(s) + SURPLUS]);
+    let made = match kind {
+        0 => reader::set_up(&mut state, s, &mut store),
+        1 => reader::set_up_at(&mut state, s, 1 + random.below(s.levels), &mut store),
+        _ => reader::tolerant_set_up(&mut state, s, &mut store),
+    };
+    assert_eq!(made, Ok(()));
+    (state, store)
+}
+
+/// All the rows that a reader wants, of a plane, one after the other.
+fn in_order(plane: &[i32], s: Shape, (mut state, mut store): (State, Vec<i32>)) -> Vec<i32> {
+    let (mut numbers, mut out) = (Vec::new(), vec![0; s.width]);
+    loop {
+        match reader::want(&state).expect("a state that was reached") {
+            Want::Row(r) => {
+                let row = &plane[order::place(s, r)];
+                numbers.extend_from_slice(row);
+                reader::feed(&mut state, &mut store, row).expect("a row of the map");
+            }
+            Want::Draw => assert!(reader::draw(&mut state, &mut store, &mut out).is_ok()),
+            _ => return numbers,
+        }
+    }
+}
+
+/// A call for many rows does what single calls do, wherever the numbers and the output are cut, and mixed with these, of maps and of damaged rows: answer,
+/// counts, state, store and output with their surplus.
+#[test]
+fn many_rows_at_once() {
+    let mut random = Random::new(42);
+    let mut seen = [0; 5];
+    for turn in 0..1_500 {
+        let kind = turn % 3;
+        let (number, most) = if kind == 2 { (0, 5) } else { filter::kind(&mut random) };
+        let (x, y) = if kind == 2 { (0, 0) } else { maps::origin(&mut random) };
+        let (width, height) = (1 + random.below(24), 1 + random.below(24));
+        let s = Shape::new(width, height, 1 + random.below(most)).at(x, y).by(number);
+        let heights: Vec<u16> = (0..width * height).map(|_| random.below(65_536) as u16).collect();
+        let begun = fresh(kind, s, &mut random);
+        let mut numbers = in_order(&maps::forward(&heights, s), s, begun.clone());
+        // damage: 7 of a number that no level has, 14 of one that some have
+        if turn % 4 == 0 && !numbers.is_empty() {
+            let i = random.below(numbers.len());
+            numbers[i] = [i32::MAX, i32::MIN, 70_000, -70_000, 65_535 * 4][random.below(5)];
+        }
+        let ((mut state, mut store), mut used) = (begun, 0);
+        for _ in 0..60 {
+            let cut = used + random.below(numbers.len() - used + 1).min(random.below(5 * width + 1));
+            let out = vec![9; random.below(3 * width + 2)];
+            let lent = Lent { state, store, out, answer: Err(0) };
+            let run = lent.clone().run(&numbers[used..cut]);
+            assert_eq!(run, lent.row_by_row(&numbers[used..cut]), "{s:?} {state:?}");
+            (state, store) = (run.state, run.store);
+            match run.answer {
+                Ok(([more, _], ended)) => (used, seen[usize::from(ended)]) = (used + more, seen[usize::from(ended)] + 1),
+                Err(q) => seen[match q { 7 => 2, 12 => 3, _ => 4 }] += 1,
+            }
+            // and single calls between
+            if random.below(3) == 0 {
+                let _ = reader::draw(&mut state, &mut store, &mut vec![0; width]);
+            }
+            if let (Ok(Want::Row(r)), 0) = (reader::want(&state), random.below(3)) {
+                if used + r.length <= numbers.len() && reader::feed(&mut state, &mut store, &numbers[used..used + r.length]).is_ok() {
+                    used += r.length;
+                }
+            }
+        }
+    }
+    assert!(seen.iter().all(|&n| n > 40), "{seen:?}: runs that passed, by 14, 7, 12 and others");
+}
+
+/// And on states that no list of calls reaches, with anything in the store.
+#[test]
+fn many_rows_from_states_nobody_reached() {
+    let mut random = Random::new(43);
+    let mut passed = 0;
+    for _ in 0..60_000 {
+        let state = any_state(&mut random);
+        let fit = counts_fit(&state);
+        let needed = if fit { needed_by(&state) } else { 40 };
+        let len = needed + [0, 3, 11][random.below(3)] - usize::from(random.below(9) == 0);
+        let bits = [65_536, 9][random.below(2)];
+        let store: Vec<i32> = (0..len).map(|_| random.below(bits) as i32).collect();
+        let numbers: Vec<i32> = (0..random.below(60)).map(|_| random.below(bits) as i32 - 4).collect();
+        let out = vec![5; random.below(3) * state[1].min(2_049) as usize + random.below(4)];
+        let lent = Lent { state, store, out, answer: Err(0) };
+        let run = lent.clone().run(&numbers);
+        if fit && state[1] == 0 {
+            // rows without a number, which no list of calls reaches: none is fed
+            assert!(matches!(run.answer, Ok(([0, 0 | 1], false)) | Err(5 | 8 | 9)));
+            continue;
+        }
+        assert_eq!(run, lent.row_by_row(&numbers), "{state:?}");
+        passed += usize::from(matches!(run.answer, Ok(([used, _], _)) if used > 0));
+    }
+    assert!(passed > 4_000, "{passed} runs used numbers");
+}

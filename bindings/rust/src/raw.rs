@@ -185,6 +185,16 @@ mod c {
             out_len: usize,
             drawn: *mut usize,
         ) -> u32;
+        pub fn terrain_reader_run(
+            state: *mut [u64; 16],
+            store: *mut i32,
+            store_len: usize,
+            run: *const i32,
+            run_len: usize,
+            out: *mut u16,
+            out_len: usize,
+            counts: *mut [u64; 2],
+        ) -> u32;
         pub fn terrain_turns_set_up(turns: *mut [u64; 4]) -> u32;
         pub fn terrain_turns_mark(turns: *mut [u64; 4], reader: usize) -> u32;
         pub fn terrain_turns_clear(turns: *mut [u64; 4], reader: usize) -> u32;
@@ -349,6 +359,11 @@ pub fn reader_feed(state: &mut State, store: &mut [i32], run: &[i32]) -> u32 {
 
 pub fn reader_draw(state: &mut State, store: &mut [i32], out: &mut [u16], drawn: &mut usize) -> u32 {
     unsafe { c::terrain_reader_draw(state, store.as_mut_ptr(), store.len(), out.as_mut_ptr(), out.len(), drawn) }
+}
+
+pub fn reader_run(state: &mut State, store: &mut [i32], run: &[i32], out: &mut [u16], counts: &mut [u64; 2]) -> u32 {
+    let (lent, count) = (store.as_mut_ptr(), store.len());
+    unsafe { c::terrain_reader_run(state, lent, count, run.as_ptr(), run.len(), out.as_mut_ptr(), out.len(), counts) }
 }
 
 pub fn turns_set_up(turns: &mut [u64; 4]) -> u32 {

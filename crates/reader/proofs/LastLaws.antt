@@ -98,7 +98,7 @@ module _ (s : Reader) where
 
   -- what it says
   pub last-in : countsFit s ≡ true → (s .stop ≤ filterOf (s .filter) .levels) × (s .width ≤ maxWidth) × (s .height ≤ maxHeight) × (s .drawn ≤ s .height)
-      × (s .width ≤ s .spare) × (s .admission ≡ 0)
+      × (s .width ≤ s .spare) × (s .admission ≡ 0) × (s .level ≡ 0)
   unfolding countsFit
   last-in e =
       let a0 = halves (isFilter (s .filter)) _ (e) in
@@ -120,6 +120,7 @@ module _ (s : Reader) where
         leb-true _ _
             (a10 .0),
         eqb-true _ _ (a11 .1),
+        eqb-true _ _ (a7 .0),
       )
 
 -- ---- 1, 5 and 9
@@ -233,16 +234,22 @@ module _ (s : Reader) (n m : ℕ) (v x : ℕ → ℤ) where
   unfolding feedReply feedStore
   feed-no r e h = let a = ne-eqb r 0 h in (rw (← e, a), rw (← e, a))
 
-  pub feed-early : (r : ℕ) → r ≡ storeQuestion s n → (r ≡ 0 → ⊥) → (refused r ≡ feedReply s Q) × (x ≡ feedStore s Q v x)
+  pub early-feed : (storeQuestion s n ≡ 0 → ⊥) → storeQuestion s n ≡ Q
   unfolding storeQuestion feedQuestion
-  feed-early r e h = feed-no r (e ∙ asks-no (early s n) _ (λ z. h (e ∙ z))) h
+  early-feed h = asks-no (early s n) _ h
+
+  pub feed-early : (r : ℕ) → r ≡ storeQuestion s n → (r ≡ 0 → ⊥) → (refused r ≡ feedReply s Q) × (x ≡ feedStore s Q v x)
+  feed-early r e h = feed-no r (e ∙ early-feed (λ z. h (e ∙ z))) h
 
   module _ (one : storeQuestion s n ≡ 0) where
-    pub feed-late : (r : ℕ) → r ≡ rowQuestion s m v → (r ≡ 0 → ⊥) → (refused r ≡ feedReply s Q) × (x ≡ feedStore s Q v x)
+    pub late-feed : (rowQuestion s m v ≡ 0 → ⊥) → rowQuestion s m v ≡ Q
     unfolding storeQuestion rowQuestion feedQuestion
-    feed-late r e h = feed-no r (e ∙ asks-no (late s m v) _ (λ z. h (e ∙ z)) ∙ asks-yes (early s n) (asks (late s m v) 0) one) h
+    late-feed h = asks-no (late s m v) _ h ∙ asks-yes (early s n) (asks (late s m v) 0) one
 
-    feed-zero : rowQuestion s m v ≡ 0 → 0 ≡ Q
+    pub feed-late : (r : ℕ) → r ≡ rowQuestion s m v → (r ≡ 0 → ⊥) → (refused r ≡ feedReply s Q) × (x ≡ feedStore s Q v x)
+    feed-late r e h = feed-no r (e ∙ late-feed (λ z. h (e ∙ z))) h
+
+    pub feed-zero : rowQuestion s m v ≡ 0 → 0 ≡ Q
     unfolding storeQuestion rowQuestion feedQuestion
     feed-zero two = asks-yes (late s m v) 0 two ∙ asks-yes (early s n) (asks (late s m v) 0) one
 
@@ -277,12 +284,15 @@ module _ (s : Reader) (n m : ℕ) (x z : ℕ → ℤ) where
   unfolding drawReply drawArea
   draw-no r e h = let a = ne-eqb r 0 h in (rw (← e, a), rw (← e, a))
 
-  pub draw-early : (r : ℕ) → r ≡ storeQuestion s n → (r ≡ 0 → ⊥) → (refused r ≡ drawReply s D) × (z ≡ drawArea s D x z)
+  pub early-draw : (storeQuestion s n ≡ 0 → ⊥) → storeQuestion s n ≡ D
   unfolding storeQuestion drawQuestion
-  draw-early r e h = draw-no r (e ∙ asks-no (early s n) _ (λ y. h (e ∙ y))) h
+  early-draw h = asks-no (early s n) _ h
+
+  pub draw-early : (r : ℕ) → r ≡ storeQuestion s n → (r ≡ 0 → ⊥) → (refused r ≡ drawReply s D) × (z ≡ drawArea s D x z)
+  draw-early r e h = draw-no r (e ∙ early-draw (λ y. h (e ∙ y))) h
 
   module _ (one : storeQuestion s n ≡ 0) where
-    rest-is : pick (drawDue s) (ask (leb (s .width) m) 12 0) 0 ≡ D
+    pub rest-is : pick (drawDue s) (ask (leb (s .width) m) 12 0) 0 ≡ D
     unfolding storeQuestion drawQuestion
     rest-is = asks-yes (early s n) _ one
 
@@ -298,7 +308,7 @@ module _ (s : Reader) (n m : ℕ) (x z : ℕ → ℤ) where
       draw-wanted e = nothing-is (unfold drawDue unfinished in rw (lt-ltb (s .drawn) (s .height) more, eq-eqb (s .band) 0 e) refl)
 
       module _ (fed : s .band ≡ 0 → ⊥) where
-        due : drawDue s ≡ true
+        pub due : drawDue s ≡ true
         unfolding drawDue unfinished
         due = rw (lt-ltb (s .drawn) (s .height) more, ne-eqb (s .band) 0 fed) refl
 

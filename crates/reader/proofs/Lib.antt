@@ -30,3 +30,7 @@ pub mod StopLaws
 pub mod TolerantAnswers
 pub mod SizeLaws
 pub mod ByLevels
+pub mod RunPlaces
+pub mod RunLaws
+pub mod RunLast
+pub mod RunOver

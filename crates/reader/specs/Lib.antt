@@ -18,3 +18,5 @@ pub mod Played
 pub mod Plain
 pub mod Tolerant
 pub mod StopAsks
+pub mod Runs
+pub mod RunSteps

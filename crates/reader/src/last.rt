@@ -63,7 +63,7 @@ fn counts_fit(s: Reader) -> bool
 }
 
 // Questions 1, 5 and 9.
-fn store_question(s: Reader, length: usize) -> u8
+pub fn store_question(s: Reader, length: usize) -> u8
     ensures { λ r. ⌜ r ≡ storeQuestion s length ⌝ }
 {
     if !counts_fit(s) {
@@ -99,7 +99,7 @@ fn row_question(s: Reader, run: &[i32]) -> u8
 }
 
 // The reader at another row.
-fn moved(s: Reader, drawn: usize, band: usize) -> Reader
+pub fn moved(s: Reader, drawn: usize, band: usize) -> Reader
     ensures { λ r. ⌜ r ≡ last.movedTo s drawn band ⌝ }
 {
     Reader {

@@ -2,6 +2,8 @@
 mod last;
 mod limited;
 mod questions;
+mod run_steps;
+pub mod runs;
 mod steps;
 pub mod stops;
 mod walk;
@@ -468,7 +470,7 @@ impl Reader {
     }
 
     // The reader ended by 14: the needed part of the line store is zeroed, its other numbers stay.
-    fn over(self, store: &mut [i32]) -> Reader
+    pub fn over(self, store: &mut [i32]) -> Reader
         requires { ⌜ Counts self × (needs self ≤ length (now store)) ⌝ }
         ensures { λ r. ⌜ r ≡ endedReader self ⌝ }
         ensures { λ _. ⌜ at (now (store .exit)) ≡ zeroed (needs self) (at (now (store .entry))) ⌝ }

@@ -213,7 +213,7 @@ pub fn next_up(
 }
 
 // Where the half row of a band of set n begins, in its level's stretch.
-fn half_place(filter: usize, x: usize, w: usize, n: usize, band: usize) -> usize
+pub fn half_place(filter: usize, x: usize, w: usize, n: usize, band: usize) -> usize
     requires { ⌜ (band < 4) × (w ≤ 2 ^ 16) × (n ≤ 2 ^ 32) ⌝ }
     ensures { λ a. ⌜ a ≡ rowPlaceOf filter w (rowOfSet (down (named band)) n) + halfPlace (across (named band)) (side x w) ⌝ }
 {

@@ -10,6 +10,7 @@ use borrow.Author.Tests.{eq-eqb, ne-eqb, le-leb, lt-leb}
 use Rattle.numbers.specs.Signal.{pick, both}
 use Rattle.states.specs.States.{zeroNext, zeroTo, zeroFrom, isState}
 use Rattle.states.specs.SaverState.{isSaver}
+use Rattle.states.specs.LoaderState.{isLoader}
 
 -- of n numbers
 module _ (n : ℕ) (s : List ℕ) (i : ℕ) where
@@ -83,6 +84,21 @@ module _ (s : List ℕ) where
             rw
             (eq-eqb (getD s 0 0) 4 kind, le-leb (getD s 4 0) 65535 x, le-leb (getD s 5 0) 65535 y, le-leb (getD s 6 0) 4294967295 h)
             refl
+
+-- ---- a loader's
+module _ (s : List ℕ) where
+  pub loader-kind : (getD s 0 0 ≡ 5 → ⊥) → false ≡ isLoader s
+  unfolding isLoader
+  loader-kind h = rw (ne-eqb (getD s 0 0) 5 h) refl
+
+  module _ (kind : getD s 0 0 ≡ 5) where
+    pub loader-flag : 1 < getD s 7 0 → false ≡ isLoader s
+    unfolding isLoader
+    loader-flag h = rw (eq-eqb (getD s 0 0) 5 kind, lt-leb (getD s 7 0) 1 h) refl
+
+    pub loader-rest : getD s 7 0 ≤ 1 → zeroTo 32 27 s ≡ isLoader s
+    unfolding isLoader
+    loader-rest h = rw (eq-eqb (getD s 0 0) 5 kind, le-leb (getD s 7 0) 1 h) refl
 
 -- what is left where a saving call answers a number, and where it does not
 pub saved-no : {A : Type 0} (q : ℕ) (a b : A) → (q ≡ 0 → ⊥) → b ≡ pick (eqb q 0) a b

@@ -3,8 +3,9 @@ use mathlib.Core.Path.{_≡_, refl, ap, ap₂, _∙_}
 use mathlib.Core.Bool.{Bool, true, false}
 use Prim.Native.Nat.{ℕ, _%_, _<_}
 use native.Mathlib.Omega.{arith}
-use lib.Dec.{eqb}
+use lib.Dec.{eqb, leb}
 use borrow.Author.Tests.{le-leb}
+use Rattle.numbers.specs.Signal.{both}
 use Rattle.writer.specs.declared.Writer.{Writer}
 use Rattle.reader.specs.declared.Reader.{Reader}
 use Rattle.turns.specs.declared.Turns.{Turns}
@@ -13,6 +14,8 @@ use Rattle.states.specs.WriterState.{isWriter, writerOf, writerWords}
 use Rattle.states.specs.ReaderState.{isReader, readerOf, readerWords}
 use Rattle.ground_file.specs.declared.saver.Saver.{Saver}
 use Rattle.states.specs.SaverState.{isSaver, saverOf, saverWords}
+use Rattle.ground_loader.specs.declared.loader.Loader.{Loader}
+use Rattle.states.specs.LoaderState.{isLoader, loaderOf, loaderWords}
 use Rattle.states.specs.TurnsState.{isTurns, turnsOf, turnsWords}
 
 flag-back : (b : Bool) → eqb (flag b) 1 ≡ b
@@ -109,3 +112,15 @@ saver-is s hx hy hf =
     rw
     (le-leb (s .shape .x) 65535 (omega arith), le-leb (s .shape .y) 65535 (omega arith), le-leb (s .shape .filter) 4294967295 (omega arith))
     refl
+
+-- ---- a loader
+pub loader-back : (l : Loader) → loaderOf (loaderWords l) ≡ l
+loader-back l = ap (λ r. record { reader = r; step = l .step; header = l .header; coming = l .coming; sum = l .sum; tail = l .tail }) (reader-back (l .reader))
+
+pub loader-is : (l : Loader) → isLoader (loaderWords l) ≡ true
+unfolding isLoader zeroTo zeroNext
+loader-is l = go (l .reader .ended) refl
+  where
+    go : (b : Bool) → l .reader .ended ≡ b → isLoader (loaderWords l) ≡ true
+    go true e = ap (λ u. both (leb (flag u) 1) true) e
+    go false e = ap (λ u. both (leb (flag u) 1) true) e

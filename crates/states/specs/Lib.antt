@@ -5,3 +5,5 @@ pub mod ReaderState
 pub mod ReaderAnswers
 pub mod TurnsState
 pub mod SaverState
+pub mod LoaderState
+pub mod LoaderAnswers

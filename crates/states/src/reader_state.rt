@@ -3,10 +3,13 @@ use crate::array;
 use reader::Drawn;
 use reader::Fed;
 use reader::Reader;
+use reader::runs::Ran;
 ghost use mathlib.Core.Path.{_≡_};
 ghost use lib.ListN.{length};
 ghost use Rattle.reader.specs.Answers.{number, ofFed, ofDrawn};
-ghost use Rattle.states.specs.ReaderAnswers.{fedWords, handedWords, countOf};
+ghost use Rattle.numbers.specs.Signal.{pick};
+ghost use Rattle.reader.specs.Runs.{ofRan};
+ghost use Rattle.states.specs.ReaderAnswers.{fedWords, handedWords, countOf, ranNumber, ranWords, countsOf};
 ghost use Rattle.states.specs.ReaderState.{isReader, readerOf, movedWords, readerWords};
 
 // Is this the state array of a reader?
@@ -121,5 +124,28 @@ pub fn pack_drawn(answer: Drawn, s: &mut [u64; 16], drawn: &mut usize) -> u32
             14
         }
         Drawn::Refused(no) => no as u32,
+    }
+}
+
+// 14, where a run ended the reader.
+fn ending(ended: bool) -> u32
+    ensures { λ r. ⌜ r ≡ pick ended 14 0 ⌝ }
+{
+    if ended { 14 } else { 0 }
+}
+
+// A run's answer: the whole array, and the counts.
+pub fn pack_ran(answer: Ran, s: &mut [u64; 16], counts: &mut [u64; 2]) -> u32
+    ensures { λ r. ⌜ r ≡ ranNumber (ofRan answer) ⌝ }
+    ensures { λ _. ⌜ now (s .exit) ≡ ranWords (ofRan answer) (now (s .entry)) ⌝ }
+    ensures { λ _. ⌜ now (counts .exit) ≡ countsOf (ofRan answer) (now (counts .entry)) ⌝ }
+{
+    match answer {
+        Ran::Went(done, r) => {
+            pack_reader(r, s);
+            *counts = [done.used as u64, done.rows as u64];
+            ending(r.ended)
+        }
+        Ran::Refused(no) => no as u32,
     }
 }

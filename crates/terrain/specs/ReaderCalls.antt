@@ -12,6 +12,7 @@ use Rattle.calls.specs.Lists as lists
 use Rattle.reader.specs.Questions.{stopQuestion, tolerantQuestion, levelQuestion}
 use Rattle.reader.specs.Calls.{tolerantReply}
 use Rattle.reader.specs.Stops.{stopReply, sizeReply}
+use Rattle.reader.specs.Runs.{Run, runReply}
 use Rattle.states.specs.ReaderState.{isReader, readerOf, readerWords}
 
 -- ---- set-up and feed: the state array afterwards. 14 leaves the ended reader
@@ -82,3 +83,7 @@ stateDrawn (gives (aRow n r)) s = readerWords r
 stateDrawn (gives nothing) s = s
 stateDrawn (refused q) s = s
 stateDrawn (impossible r) s = readerWords r
+
+-- ---- a run of m numbers v, into an area of k heights that holds z
+abbrev pub running : List ℕ → ℕ → ℕ → (ℕ → ℤ) → ℕ → (ℕ → ℤ) → (ℕ → ℤ) → lists.Reply Run
+running s n m v k x z = pick (isReader s) (runReply (readerOf s) n m v k x z) (lists.refused 1)

@@ -2,6 +2,7 @@
 use reader::Reader;
 use reader::SetUp;
 use reader::Wanted;
+use reader::runs;
 use reader::stops;
 use reader::stops::LevelSize;
 use states::reader_state;
@@ -15,9 +16,11 @@ ghost use Rattle.wavelet.specs.Shape.{columns, rows};
 ghost use Rattle.reader.specs.Questions.{setUpQuestion, stopQuestion, tolerantQuestion};
 ghost use Rattle.reader.specs.Answers.{number};
 ghost use Rattle.reader.specs.Calls.{setUpReply, setUpStore};
-ghost use Rattle.states.specs.ReaderAnswers.{countOf};
+ghost use Rattle.calls.specs.Lists.{seen};
+ghost use Rattle.reader.specs.Runs.{progress, leftBy};
+ghost use Rattle.states.specs.ReaderAnswers.{countOf, ranNumber, ranWords, countsOf};
 ghost use Rattle.terrain.specs.ReaderCalls.{stateOf, stopping, tolerating, sizing, sizeNumber, columnsOf, rowsOf, wanting};
-ghost use Rattle.terrain.specs.ReaderCalls.{wantOf, feeding, feedingStore, drawing, drawingStore, drawingArea, stateDrawn};
+ghost use Rattle.terrain.specs.ReaderCalls.{running, wantOf, feeding, feedingStore, drawing, drawingStore, drawingArea, stateDrawn};
 
 // A fresh reader. The questions are 2, 3, 18, 4 and 5.
 #[no_mangle]
@@ -192,4 +195,36 @@ pub extern "C" fn terrain_reader_draw(
     }
     let s = reader_state::unpack_reader(state);
     reader_state::pack_drawn(s.draw(store, out), state, drawn)
+}
+
+// Many rows at once. The questions are 1, 5, 9 and, where nothing could be done, 12, 8, 13 and 7; 14 leaves the ended reader.
+#[no_mangle]
+pub extern "C" fn terrain_reader_run(
+    state: &mut [u64; 16],
+    store: &mut [i32],
+    run: &[i32],
+    out: &mut [u16],
+    counts: &mut [u64; 2],
+) -> u32
+    ensures { λ r. ⌜ r ≡ ranNumber (seen progress (running (now (state .entry)) (length (now (store .entry))) (length (now (run .entry)))
+        (at (now (run .entry)))
+        (length (now (out .entry))) (at (now (store .entry))) (heightsAt (now (out .entry))))) ⌝ }
+    ensures { λ _. ⌜ now (state .exit) ≡ ranWords (seen progress (running (now (state .entry)) (length (now (store .entry))) (length (now (run .entry)))
+        (at (now (run .entry)))
+        (length (now (out .entry))) (at (now (store .entry))) (heightsAt (now (out .entry))))) (now (state .entry)) ⌝ }
+    ensures { λ _. ⌜ at (now (store .exit)) ≡ leftBy (λ p. p .world .store) (at (now (store .entry)))
+        (running (now (state .entry)) (length (now (store .entry))) (length (now (run .entry))) (at (now (run .entry)))
+        (length (now (out .entry))) (at (now (store .entry))) (heightsAt (now (out .entry)))) ⌝ }
+    ensures { λ _. ⌜ heightsAt (now (out .exit)) ≡ leftBy (λ p. p .area) (heightsAt (now (out .entry)))
+        (running (now (state .entry)) (length (now (store .entry))) (length (now (run .entry))) (at (now (run .entry)))
+        (length (now (out .entry))) (at (now (store .entry))) (heightsAt (now (out .entry)))) ⌝ }
+    ensures { λ _. ⌜ now (counts .exit) ≡ countsOf (seen progress (running (now (state .entry)) (length (now (store .entry)))
+        (length (now (run .entry))) (at (now (run .entry)))
+        (length (now (out .entry))) (at (now (store .entry))) (heightsAt (now (out .entry))))) (now (counts .entry)) ⌝ }
+{
+    if !reader_state::is_reader(state) {
+        return 1;
+    }
+    let s = reader_state::unpack_reader(state);
+    reader_state::pack_ran(runs::run(s, store, run, out), state, counts)
 }

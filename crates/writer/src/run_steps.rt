@@ -1,6 +1,6 @@
-// The steps of an offer and of a draw that a run takes, the same as `offers::stretch` and `after::draw_and_move` but for the module that they stand in. A compiler
-// puts a step into the one call that has it and leaves one that two calls share a function of its own: shared, these cost a run and a single call 13 % each at
-// 17 columns. The module is private, as theirs are.
+// The steps of an offer and of a draw that a run takes, the same as `offers::stretch` and `after::draw_and_move` but for the module that they stand in. A
+// compiler puts a step into the one call that has it and leaves one that two calls share a function of its own: shared, these cost a run and a single call
+// 13 % each at 17 columns. The module is private, as theirs are.
 use crate::Writer;
 use crate::cascade;
 use crate::closing;
