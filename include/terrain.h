@@ -57,8 +57,9 @@
 #define TERRAIN_READERS 16
 #define TERRAIN_NO_READER 16
 
-/* A ground file: how many numbers a saver has, how many bytes the header; the largest step of a rounded plane. */
+/* A ground file: how many numbers a saver has and a loader, how many bytes the header; the largest step of a rounded plane. */
 #define TERRAIN_SAVER_LENGTH 32
+#define TERRAIN_LOADER_LENGTH 32
 #define TERRAIN_HEADER_LENGTH 24
 #define TERRAIN_MAX_STEP 64
 
@@ -406,6 +407,37 @@ uint32_t terrain_save(uint64_t state[32], const int32_t *plane, size_t plane_len
  * then 2, 3, 18, 4, 20 of what they say. Where a question says no, `header` stays. */
 TERRAIN_CHECKED
 uint32_t terrain_file_header(const uint8_t *bytes, size_t bytes_len, uint64_t header[7]);
+
+/* The heights of a ground file, row by row while its bytes come in. A loader is the caller's array of thirty-two numbers; each call is lent the
+ * line store of a reader of that shape (`terrain_reader_store_length`), and a taking call also a row area of at least (width + 1) / 2 numbers.
+ * Between calls both are the loader's: lend them as they were left. 1 as for the streams: the array is no loader. */
+
+/* A loader that has taken nothing, of a file with that shape and step, as `terrain_file_header` says them; the needed part of the line store is
+ * zeroed. 2 (width), 3 (height), 18 (filter), 4 (levels), 20 (the step is not 1 to 64), 22 (a step above 1 is not loaded yet), 5 (the line
+ * store is too short). Where a question says no, state and store stay. */
+TERRAIN_CHECKED
+uint32_t terrain_load_set_up(uint64_t state[32], terrain_shape shape, size_t step, int32_t *store, size_t store_len);
+
+/* What the loader wants: *want is 0 for bytes, 1 for a draw, 2 where the file is over and all heights are drawn, 3 where 14 ended it. 1. */
+TERRAIN_CHECKED
+uint32_t terrain_load_want(const uint64_t state[32], uint32_t *want);
+
+/* The next bytes of the file, from its first on, in runs cut anywhere. They are taken until a height row can be drawn, the file is over or the
+ * run is used up, and *taken is how many: offer the rest again after the draw.
+ * 1; 5 (line store or row area is too short), 9 (the loader has ended), 8 (no bytes are wanted). Then, byte by byte: 22 (a header byte is not
+ * the set-up's, or no map's file goes on with that byte), 7 (a coefficient is out of its level's range): the call ends before that byte and
+ * gives what it took, and if that is nothing it answers the number and changes nothing. 14 (no map has these rows): the loader has ended, the
+ * line store is zeroed and *taken is how many bytes came before. Heights drawn before *want is 2 come from a file whose checksum is still
+ * to be read. */
+TERRAIN_CHECKED
+uint32_t terrain_load_take(uint64_t state[32], int32_t *store, size_t store_len, int32_t *row, size_t row_len,
+                           const uint8_t *run, size_t run_len, size_t *taken);
+
+/* A height row at the front of `out`, and how many heights in *drawn; 0 where none can be drawn, and then nothing changes.
+ * 1; 5 (the line store is too short), 9 (the loader has ended), 12 (the row does not fit `out`), 14 (no map has these rows: the loader has
+ * ended and the line store is zeroed, `out` and *drawn stay). */
+TERRAIN_CHECKED
+uint32_t terrain_load_draw(uint64_t state[32], int32_t *store, size_t store_len, uint16_t *out, size_t out_len, size_t *drawn);
 
 #ifdef __cplusplus
 }

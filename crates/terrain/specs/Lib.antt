@@ -10,3 +10,4 @@ pub mod TurnsCalls
 pub mod TurnsLists
 pub mod RoundTrips
 pub mod SaverCalls
+pub mod LoaderCalls

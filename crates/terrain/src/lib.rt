@@ -2,6 +2,7 @@
 mod file_calls;
 mod fixed_form;
 mod line;
+mod loader_calls;
 mod map;
 mod near;
 mod reader_calls;
