@@ -42,7 +42,7 @@ CRATES := crates.txt $(shell find crates -path '*/must-fail' -prune -o -type f -
 # What is built over an archive of one's own is built each time, apart from the rest.
 BUILT := target/command$(if $(TERRAIN_LIB),/own)
 # A document that is installed names what is installed beside it, and says of the rest where it is.
-INSTALLED = sed -E -e 's,docs/(STUDIOS|STATE)[.]md,\1.md,g' -e 's,`((docs|bench|crates|bindings|tests|tools)/[^`]*)`,`\1` (in the repository),g'
+INSTALLED = sed -E -e 's,docs/(STUDIOS|STATE|FORMAT)[.]md,\1.md,g' -e 's,`((docs|bench|crates|bindings|tests|tools)/[^`]*)`,`\1` (in the repository),g'
 
 # What is written into the files of packaging/: an installed tree may be moved as a whole, so they name folders from where they stand.
 FILL = sed -e 's|@VERSION@|$(VERSION)|' -e 's|@INCLUDE@|$(shell realpath -m --relative-to='$(1)' '$(INCLUDEDIR)')|' \
@@ -116,7 +116,7 @@ install-library: proved
 	for name in TerrainConfig TerrainConfigVersion; do \
 	    $(call FILL,$(CMAKEDIR)) packaging/$$name.cmake.in >'$(DESTDIR)$(CMAKEDIR)'/$$name.cmake || exit 1; \
 	done
-	for file in docs/STUDIOS.md docs/STATE.md CHANGELOG.md; do $(INSTALLED) $$file >'$(DESTDIR)$(DOCDIR)'/$${file##*/} || exit 1; done
+	for file in docs/STUDIOS.md docs/STATE.md docs/FORMAT.md CHANGELOG.md; do $(INSTALLED) $$file >'$(DESTDIR)$(DOCDIR)'/$${file##*/} || exit 1; done
 	cp -r examples '$(DESTDIR)$(DOCDIR)'
 
 install-command: proved target/install/terrain $(PROGRAMS)/list $(PROGRAMS)/rewrite

@@ -16,8 +16,9 @@ int far(const Words *words);
 int rounding(const Words *words); /* round.c: C has a function of that name */
 int convert(const Words *words);
 int tile(const Words *words);
-int pack(const Words *words); /* ground.c */
-int info(const Words *words); /* ground.c */
+int pack(const Words *words);   /* ground.c */
+int unpack(const Words *words); /* ground.c */
+int info(const Words *words);   /* ground.c */
 
 /* help.c: what the program does, what one command does; how a command is called. */
 void help(void);

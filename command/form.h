@@ -10,6 +10,13 @@ typedef void PutBytes(void *to, const void *bytes, size_t count);
 
 void form_bytes(const Map *map, PutBytes *put, void *to);
 
+/* The same in parts, for heights that come row by row: what stands before them, and a row; `bytes` has room for two a height. */
+void form_head(size_t width, size_t height, PutBytes *put, void *to);
+void form_row(const uint16_t *heights, size_t width, uint8_t *bytes, PutBytes *put, void *to);
+
+/* Bytes that go to an output. */
+void put_output(void *out, const void *bytes, size_t count);
+
 void form_write(Output *out, const Map *map);
 
 /* Whether a name ends in that, in either case. */

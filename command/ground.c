@@ -1,10 +1,12 @@
-/* terrain pack: a map saved as a ground file (docs/FORMAT.md). terrain info: what the header of one says. */
+/* terrain pack: a map saved as a ground file (docs/FORMAT.md). terrain unpack: the map again. terrain info: what the header of one says. */
 #include <stdio.h>
 #include <stdlib.h>
 
 #include "commands.h"
 #include "end.h"
-#include "input.h"
+#include "form.h"
+#include "ground_header.h"
+#include "loading.h"
 #include "output.h"
 #include "plane.h"
 #include "progress.h"
@@ -51,18 +53,42 @@ int pack(const Words *words)
     return STATUS_DONE;
 }
 
+/* Height rows that become a PGM. */
+typedef struct {
+    Output out;
+    uint8_t *bytes;
+} Unpacked;
+
+static void put_heights(void *to, const uint16_t *heights, size_t width)
+{
+    Unpacked *u = (Unpacked *)to;
+    form_row(heights, width, u->bytes, put_output, &u->out);
+}
+
+int unpack(const Words *words)
+{
+    const char *to = words->word[1];
+    if (ends_in(to, ".png") || ends_in(to, ".raw") || ends_in(to, ".r16")) fail(STATUS_USAGE, "%s: a PGM is written; terrain convert writes other forms", to);
+    Input in = input_open(words->word[0]);
+    Loading l = loading_of(&in);
+    terrain_shape s = l.shape;
+    if (was_input(to)) fail(STATUS_USAGE, "%s: the map would be written over the ground file", to);
+    Unpacked u = {output_open(to), (uint8_t *)lent(s.width, 2, to)};
+    FILE *report = output_report(&u.out);
+    form_head(s.width, s.height, put_output, &u.out);
+    loading_rows(&l, put_heights, &u);
+    output_keep(&u.out);
+    fprintf(report, "%zu x %zu heights, %zu level%s: %llu bytes read\n", s.width, s.height, s.levels, s.levels == 1 ? "" : "s", (unsigned long long)in.at);
+    free(u.bytes);
+    input_close(&in);
+    return STATUS_DONE;
+}
+
 int info(const Words *words)
 {
-    uint8_t bytes[TERRAIN_HEADER_LENGTH];
     uint64_t header[7];
     Input in = input_open(words->word[0]);
-    size_t count = 0, more;
-    uint32_t no;
-    while (count < sizeof bytes && (more = input_read(&in, bytes + count, sizeof bytes - count)) > 0) count += more;
-    no = terrain_file_header(bytes, count, header);
-    if (no == TERRAIN_AREA_SHORT) fail(STATUS_REFUSED, "%s: it has %zu bytes, and the header of a ground file 24", in.name, count);
-    if (no == TERRAIN_NO_FILE) fail(STATUS_REFUSED, "%s: it is no ground file of version 1: its first bytes are none's", in.name);
-    passed(in.name, no);
+    ground_header(&in, header);
     printf("ground file, version 1\nheights: %llu x %llu, from column %llu and row %llu on\nfilter: %s, %llu level%s\n", (unsigned long long)header[0],
            (unsigned long long)header[1], (unsigned long long)header[3], (unsigned long long)header[4],
            header[5] == TERRAIN_NINE_SEVEN ? "the integer 9/7" : "the 5/3", (unsigned long long)header[2], header[2] == 1 ? "" : "s");

@@ -9,7 +9,7 @@ typedef struct {
     const char *name; /* what people call it */
     int fd;
     uint64_t size, at; /* of a regular file; 0: not known */
-    uint8_t ahead[16]; /* looked at, not read yet */
+    uint8_t ahead[24]; /* looked at, not read yet */
     size_t looked;
 } Input;
 

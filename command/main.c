@@ -24,6 +24,7 @@ static const Command commands[] = {
     {"convert", "[--from FORM] [--to FORM] [--size WxH] FILE OUT", 2, 2, convert_options, convert},
     {"tile", "[--size WxH] FILE FOLDER, or terrain tile --join FOLDER OUT.pgm", 2, 2, tile_options, tile},
     {"pack", "[--levels N] [--step N] FILE OUT", 2, 2, pack_options, pack},
+    {"unpack", "FILE OUT.pgm", 2, 2, NULL, unpack},
     {"info", "FILE", 1, 1, NULL, info},
     {"list", "LEVELS FILE.pgm", 2, 2, NULL, list},
     {"rewrite", "FILE.pgm OUT.pgm", 2, 2, NULL, rewrite},

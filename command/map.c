@@ -5,6 +5,7 @@
 #include <terrain.h>
 
 #include "end.h"
+#include "loading.h"
 #include "png_file.h"
 #include "progress.h"
 
@@ -14,6 +15,7 @@ static const struct {
     size_t length;
     const char *name;
 } kinds[] = {
+    {"\x89GND\r\n\x1a\n", 8, "a ground file"},
     {"\x89PNG\r\n\x1a\n", 8, "a PNG"}, {"\xff\xd8\xff", 3, "a JPEG"},        {"II*\0", 4, "a TIFF"},
     {"MM\0*", 4, "a TIFF"},            {"GIF8", 4, "a GIF"},                 {"BM", 2, "a BMP"},
     {"v/1\x01", 4, "an OpenEXR"},      {"\x1f\x8b", 2, "packed by gzip"},    {"(\xb5/\xfd", 4, "packed by zstd"},
@@ -35,6 +37,7 @@ const char *no_pgm(Input *in)
     const char *kind = kind_of(first, input_look(in, first, sizeof first));
     if (!kind) return NULL;
     if (strcmp(kind, "a PNG") == 0) return "this is a PNG: terrain convert reads it";
+    if (strcmp(kind, "a ground file") == 0) return "this is a ground file: terrain unpack reads it";
     snprintf(sentence, sizeof sentence, "this is %s, and a binary PGM (P5) is wanted", kind);
     return sentence;
 }
@@ -78,11 +81,31 @@ static Map map_from_pgm(Input *in, size_t most)
     return map;
 }
 
+/* The height rows of a ground file go one behind the other. */
+static void put_row(void *to, const uint16_t *heights, size_t width)
+{
+    Map *map = (Map *)to;
+    if (map->heights) memcpy(map->heights + map->height * map->width, heights, width * sizeof *heights);
+    map->height++;
+}
+
+static Map map_from_ground(Input *in)
+{
+    Loading l = loading_of(in);
+    Map map = {l.shape.width, l.shape.height, 65535, NULL};
+    /* a byte has 16 heights at most: a shorter file will end too early, and is read on only to say where */
+    if (!in->size || (uint64_t)map.width * map.height / 16 <= in->size) map = map_of(in->name, map.width, map.height);
+    map.height = 0;
+    loading_rows(&l, put_row, &map);
+    return map;
+}
+
 Map map_from(Input *in, size_t most)
 {
     uint8_t first[8];
     const char *kind = kind_of(first, input_look(in, first, sizeof first));
     if (!kind) return map_from_pgm(in, most);
+    if (strcmp(kind, "a ground file") == 0) return map_from_ground(in);
     if (strcmp(kind, "a PNG") != 0) fail(STATUS_REFUSED, "%s: %s", in->name, no_pgm(in));
     Map map = png_read(in);
     map_fits(in->name, map.width, most);

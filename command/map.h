@@ -1,4 +1,4 @@
-/* A height map in memory, and how one is read: PGM, or PNG where the program was built with libpng. */
+/* A height map in memory, and how one is read: PGM, a ground file, or PNG where the program was built with libpng. */
 #ifndef MAP_H
 #define MAP_H
 

@@ -52,6 +52,9 @@
 #define TERRAIN_WANT_DONE 2
 #define TERRAIN_WANT_ENDED 3
 
+/* What a loader wants: the bytes that come next, or one of the three above. */
+#define TERRAIN_WANT_BYTES 0
+
 /* A turn-giver: how many numbers it has, how many readers it knows, and the answer for Nothing. */
 #define TERRAIN_TURNS_LENGTH 4
 #define TERRAIN_READERS 16
@@ -418,7 +421,8 @@ uint32_t terrain_file_header(const uint8_t *bytes, size_t bytes_len, uint64_t he
 TERRAIN_CHECKED
 uint32_t terrain_load_set_up(uint64_t state[32], terrain_shape shape, size_t step, int32_t *store, size_t store_len);
 
-/* What the loader wants: *want is 0 for bytes, 1 for a draw, 2 where the file is over and all heights are drawn, 3 where 14 ended it. 1. */
+/* What the loader wants, in *want: TERRAIN_WANT_BYTES, TERRAIN_WANT_DRAW, TERRAIN_WANT_DONE (the bytes taken were a whole file, and its heights
+ * are drawn) or TERRAIN_WANT_ENDED (by 14). 1. */
 TERRAIN_CHECKED
 uint32_t terrain_load_want(const uint64_t state[32], uint32_t *want);
 
@@ -427,7 +431,7 @@ uint32_t terrain_load_want(const uint64_t state[32], uint32_t *want);
  * 1; 5 (line store or row area is too short), 9 (the loader has ended), 8 (no bytes are wanted). Then, byte by byte: 22 (a header byte is not
  * the set-up's, or no map's file goes on with that byte), 7 (a coefficient is out of its level's range): the call ends before that byte and
  * gives what it took, and if that is nothing it answers the number and changes nothing. 14 (no map has these rows): the loader has ended, the
- * line store is zeroed and *taken is how many bytes came before. Heights drawn before *want is 2 come from a file whose checksum is still
+ * line store is zeroed and *taken is how many bytes came before. Heights drawn before TERRAIN_WANT_DONE come from a file whose checksum is still
  * to be read. */
 TERRAIN_CHECKED
 uint32_t terrain_load_take(uint64_t state[32], int32_t *store, size_t store_len, int32_t *row, size_t row_len,

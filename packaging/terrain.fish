@@ -1,5 +1,5 @@
 # fish completion of the command terrain: commands, options, files by what a command takes.
-set -l commands check sum compare shade bands near far round convert tile pack info list rewrite help
+set -l commands check sum compare shade bands near far round convert tile pack unpack info list rewrite help
 complete -c terrain -n "not __fish_seen_subcommand_from $commands" -f -a check -d "there and back through writer and reader"
 complete -c terrain -n "not __fish_seen_subcommand_from $commands" -f -a sum -d "one line that is equal exactly when two maps are"
 complete -c terrain -n "not __fish_seen_subcommand_from $commands" -f -a compare -d "how many heights differ, where and by how much"
@@ -11,6 +11,7 @@ complete -c terrain -n "not __fish_seen_subcommand_from $commands" -f -a round -
 complete -c terrain -n "not __fish_seen_subcommand_from $commands" -f -a convert -d "between PGM, PNG and RAW"
 complete -c terrain -n "not __fish_seen_subcommand_from $commands" -f -a tile -d "a map cut into tiles, and back"
 complete -c terrain -n "not __fish_seen_subcommand_from $commands" -f -a pack -d "the map as a ground file"
+complete -c terrain -n "not __fish_seen_subcommand_from $commands" -f -a unpack -d "the map of a ground file"
 complete -c terrain -n "not __fish_seen_subcommand_from $commands" -f -a info -d "what the header of a ground file says"
 complete -c terrain -n "not __fish_seen_subcommand_from $commands" -f -a list -d "every band row as a line of numbers"
 complete -c terrain -n "not __fish_seen_subcommand_from $commands" -f -a rewrite -d "the map in one fixed form"

@@ -14,6 +14,7 @@ _terrain()
         'convert:between PGM, PNG and RAW'
         'tile:a map cut into tiles, and back'
         'pack:the map as a ground file'
+        'unpack:the map of a ground file'
         'info:what the header of a ground file says'
         'list:every band row as a line of numbers'
         'rewrite:the map in one fixed form'

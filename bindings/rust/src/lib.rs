@@ -46,6 +46,7 @@
 #![deny(unsafe_code)]
 
 mod line;
+mod loader;
 mod map;
 mod nearest_change;
 mod picture;
@@ -60,6 +61,7 @@ mod writer;
 mod owned;
 
 pub use line::{ccsds_line_backward, ccsds_line_forward, line_backward, line_forward};
+pub use loader::{Loader, LoaderWant};
 pub use map::{band_row, error_bound, map_backward, map_forward, map_mend, round, view, Rectangle, Shape};
 pub use nearest_change::{nearest_change, Change};
 pub use picture::{picture_head, picture_row};

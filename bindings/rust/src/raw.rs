@@ -11,6 +11,9 @@ pub type State = [u64; 16];
 /// A saver as the library keeps it.
 pub type SaverState = [u64; 32];
 
+/// A loader as the library keeps it.
+pub type LoaderState = [u64; 32];
+
 use crate::{Rectangle, Shape};
 
 mod c {
@@ -209,6 +212,32 @@ mod c {
             written: *mut usize,
         ) -> u32;
         pub fn terrain_file_header(bytes: *const u8, bytes_len: usize, header: *mut [u64; 7]) -> u32;
+        pub fn terrain_load_set_up(
+            state: *mut [u64; 32],
+            shape: Shape,
+            step: usize,
+            store: *mut i32,
+            store_len: usize,
+        ) -> u32;
+        pub fn terrain_load_want(state: *const [u64; 32], want: *mut u32) -> u32;
+        pub fn terrain_load_take(
+            state: *mut [u64; 32],
+            store: *mut i32,
+            store_len: usize,
+            row: *mut i32,
+            row_len: usize,
+            run: *const u8,
+            run_len: usize,
+            taken: *mut usize,
+        ) -> u32;
+        pub fn terrain_load_draw(
+            state: *mut [u64; 32],
+            store: *mut i32,
+            store_len: usize,
+            out: *mut u16,
+            out_len: usize,
+            drawn: *mut usize,
+        ) -> u32;
     }
 }
 
@@ -392,4 +421,21 @@ pub fn save(state: &mut SaverState, plane: &[i32], out: &mut [u8], written: &mut
 
 pub fn file_header(bytes: &[u8], header: &mut [u64; 7]) -> u32 {
     unsafe { c::terrain_file_header(bytes.as_ptr(), bytes.len(), header) }
+}
+
+pub fn load_set_up(state: &mut LoaderState, shape: Shape, step: usize, store: &mut [i32]) -> u32 {
+    unsafe { c::terrain_load_set_up(state, shape, step, store.as_mut_ptr(), store.len()) }
+}
+
+pub fn load_want(state: &LoaderState, want: &mut u32) -> u32 {
+    unsafe { c::terrain_load_want(state, want) }
+}
+
+pub fn load_take(state: &mut LoaderState, store: &mut [i32], row: &mut [i32], run: &[u8], taken: &mut usize) -> u32 {
+    let (lent, line) = (store.as_mut_ptr(), row.as_mut_ptr());
+    unsafe { c::terrain_load_take(state, lent, store.len(), line, row.len(), run.as_ptr(), run.len(), taken) }
+}
+
+pub fn load_draw(state: &mut LoaderState, store: &mut [i32], out: &mut [u16], drawn: &mut usize) -> u32 {
+    unsafe { c::terrain_load_draw(state, store.as_mut_ptr(), store.len(), out.as_mut_ptr(), out.len(), drawn) }
 }
