@@ -31,15 +31,15 @@ use Rattle.demand_1.specs.Words.{Kept}
 use Rattle.demand_1.specs.Savers.{PlainStep, SaveSetUpAsks, SetUp, Save, CSave, Header, SaverCalls}
 use Rattle.demand_1.proofs.WordLaws.{kept}
 
-apart : (t : Bool) → t ≡ true → t ≡ false → ⊥
+pub apart : (t : Bool) → t ≡ true → t ≡ false → ⊥
 apart t e f = let z : _≡_ {A = ℕ} 1 0 = ap (λ b. pick b 1 0) (sym e ∙ f) in omega arith
 
 -- ---- the set-up
-step-exactly : (k : ℕ) → within 1 maxStep k ≡ true ↔ StepWithin k
+pub step-exactly : (k : ℕ) → within 1 maxStep k ≡ true ↔ StepWithin k
 unfolding maxStep
 step-exactly k = least-most maxStep k
 
-plain-exactly : (sh : Shape) (k : ℕ) → plain sh k ≡ true ↔ PlainStep sh k
+pub plain-exactly : (sh : Shape) (k : ℕ) → plain sh k ≡ true ↔ PlainStep sh k
 unfolding plain
 plain-exactly sh k = (
   λ e. told (eqb k 1) refl e,
