@@ -17,12 +17,12 @@ void kernel_lift(int32_t *line, size_t len, size_t start);
 uint32_t kernel_unlift(int32_t *line, size_t len, size_t start);
 
 /* and those of the integer 9/7 */
-uint32_t ccsds_predict_row(int32_t *area, size_t len, size_t stride, size_t width, size_t target, size_t left, size_t right, size_t before, size_t after);
-uint32_t ccsds_update_row(int32_t *area, size_t len, size_t stride, size_t width, size_t target, size_t left, size_t right);
-uint32_t ccsds_unupdate_row(int32_t *area, size_t len, size_t stride, size_t width, size_t target, size_t left, size_t right);
-uint32_t ccsds_unpredict_row(int32_t *area, size_t len, size_t stride, size_t width, size_t target, size_t left, size_t right, size_t before, size_t after);
-void ccsds_lift(int32_t *line, size_t len, size_t start);
-uint32_t ccsds_unlift(int32_t *line, size_t len, size_t start);
+uint32_t nine_seven_predict_row(int32_t *area, size_t len, size_t stride, size_t width, size_t target, size_t left, size_t right, size_t before, size_t after);
+uint32_t nine_seven_update_row(int32_t *area, size_t len, size_t stride, size_t width, size_t target, size_t left, size_t right);
+uint32_t nine_seven_unupdate_row(int32_t *area, size_t len, size_t stride, size_t width, size_t target, size_t left, size_t right);
+uint32_t nine_seven_unpredict_row(int32_t *area, size_t len, size_t stride, size_t width, size_t target, size_t left, size_t right, size_t before, size_t after);
+void nine_seven_lift(int32_t *line, size_t len, size_t start);
+uint32_t nine_seven_unlift(int32_t *line, size_t len, size_t start);
 
 enum { N = 2049, ROWS = 5, ROUNDS = 401, CALLS = 200, KINDS = 3 };
 
@@ -41,22 +41,22 @@ static int32_t start[ROWS * N], area[KINDS][ROWS * N], line[N], out[KINDS][N];
     static void proved_##name(int k) { if (terrain_line_##name(line, N, 0, out[k], N)) exit(1); }             \
     static void whole_run_##name(int k) { whole_##name(line, out[k], N); }                                 \
     static void short_run_##name(int k) { short_##name(line, out[k], N); }
-#define BY_TWO_97(name)                                                                                    \
-    static void proved_##name##_97(int k) { ccsds_##name(area[k], ROWS * N, N, N, 1, 0, 2); }              \
-    static void whole_run_##name##_97(int k) { whole_##name##_97(area[k] + N, area[k], area[k] + 2 * N, N); } \
-    static void short_run_##name##_97(int k) { short_##name##_97(area[k] + N, area[k], area[k] + 2 * N, N); }
-#define BY_FOUR_97(name)                                                                                   \
-    static void proved_##name##_97(int k) { ccsds_##name(area[k], ROWS * N, N, N, 1, 0, 2, 3, 4); }        \
-    static void whole_run_##name##_97(int k) { whole_##name##_97(area[k] + N, area[k], area[k] + 2 * N, area[k] + 3 * N, area[k] + 4 * N, N); } \
-    static void short_run_##name##_97(int k) { short_##name##_97(area[k] + N, area[k], area[k] + 2 * N, area[k] + 3 * N, area[k] + 4 * N, N); }
-#define LINE_97(name)                                                                                      \
-    static void proved_##name##_97(int k) { ccsds_##name(area[k] + N, N, 0); }                             \
-    static void whole_run_##name##_97(int k) { whole_##name##_97(area[k] + N, N); }                        \
-    static void short_run_##name##_97(int k) { short_##name##_97(area[k] + N, N); }
-#define COPY_97(name)                                                                                      \
-    static void proved_##name##_97(int k) { if (terrain_ccsds_line_##name(line, N, 0, out[k], N)) exit(1); } \
-    static void whole_run_##name##_97(int k) { whole_##name##_97(line, out[k], N); }                       \
-    static void short_run_##name##_97(int k) { short_##name##_97(line, out[k], N); }
+#define BY_TWO_nine_seven(name)                                                                                    \
+    static void proved_##name##_nine_seven(int k) { nine_seven_##name(area[k], ROWS * N, N, N, 1, 0, 2); }              \
+    static void whole_run_##name##_nine_seven(int k) { whole_##name##_nine_seven(area[k] + N, area[k], area[k] + 2 * N, N); } \
+    static void short_run_##name##_nine_seven(int k) { short_##name##_nine_seven(area[k] + N, area[k], area[k] + 2 * N, N); }
+#define BY_FOUR_nine_seven(name)                                                                                   \
+    static void proved_##name##_nine_seven(int k) { nine_seven_##name(area[k], ROWS * N, N, N, 1, 0, 2, 3, 4); }        \
+    static void whole_run_##name##_nine_seven(int k) { whole_##name##_nine_seven(area[k] + N, area[k], area[k] + 2 * N, area[k] + 3 * N, area[k] + 4 * N, N); } \
+    static void short_run_##name##_nine_seven(int k) { short_##name##_nine_seven(area[k] + N, area[k], area[k] + 2 * N, area[k] + 3 * N, area[k] + 4 * N, N); }
+#define LINE_nine_seven(name)                                                                                      \
+    static void proved_##name##_nine_seven(int k) { nine_seven_##name(area[k] + N, N, 0); }                             \
+    static void whole_run_##name##_nine_seven(int k) { whole_##name##_nine_seven(area[k] + N, N); }                        \
+    static void short_run_##name##_nine_seven(int k) { short_##name##_nine_seven(area[k] + N, N); }
+#define COPY_nine_seven(name)                                                                                      \
+    static void proved_##name##_nine_seven(int k) { if (terrain_ccsds_line_##name(line, N, 0, out[k], N)) exit(1); } \
+    static void whole_run_##name##_nine_seven(int k) { whole_##name##_nine_seven(line, out[k], N); }                       \
+    static void short_run_##name##_nine_seven(int k) { short_##name##_nine_seven(line, out[k], N); }
 
 ROW(predict_row)
 ROW(update_row)
@@ -66,14 +66,14 @@ LINE(lift)
 LINE(unlift)
 COPY(forward)
 COPY(backward)
-BY_FOUR_97(predict_row)
-BY_TWO_97(update_row)
-BY_TWO_97(unupdate_row)
-BY_FOUR_97(unpredict_row)
-LINE_97(lift)
-LINE_97(unlift)
-COPY_97(forward)
-COPY_97(backward)
+BY_FOUR_nine_seven(predict_row)
+BY_TWO_nine_seven(update_row)
+BY_TWO_nine_seven(unupdate_row)
+BY_FOUR_nine_seven(unpredict_row)
+LINE_nine_seven(lift)
+LINE_nine_seven(unlift)
+COPY_nine_seven(forward)
+COPY_nine_seven(backward)
 
 struct Call {
     const char *name;
@@ -86,8 +86,8 @@ struct Call {
 static const struct Call calls[] = {
     CALL(predict_row, 1.2), CALL(update_row, 1.2), CALL(unupdate_row, 1.2), CALL(unpredict_row, 1.2),
     CALL(lift, 1.5),        CALL(unlift, 1.5),     CALL(forward, 0),        CALL(backward, 0),
-    CALL(predict_row_97, 1.5), CALL(update_row_97, 1.5), CALL(unupdate_row_97, 1.5), CALL(unpredict_row_97, 1.5),
-    CALL(lift_97, 1.5),        CALL(unlift_97, 1.5),     CALL(forward_97, 0),        CALL(backward_97, 0),
+    CALL(predict_row_nine_seven, 1.5), CALL(update_row_nine_seven, 1.5), CALL(unupdate_row_nine_seven, 1.5), CALL(unpredict_row_nine_seven, 1.5),
+    CALL(lift_nine_seven, 1.5),        CALL(unlift_nine_seven, 1.5),     CALL(forward_nine_seven, 0),        CALL(backward_nine_seven, 0),
 };
 enum { COUNT = sizeof calls / sizeof calls[0] };
 

@@ -2,8 +2,8 @@
 //! call has made, or look at what a call turned away has left.
 pub mod areas;
 pub mod built;
-pub mod ccsds_back;
-pub mod ccsds_level;
+pub mod nine_seven_back;
+pub mod nine_seven_level;
 pub mod filter;
 pub mod grid;
 pub mod ground;

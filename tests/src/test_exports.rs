@@ -93,22 +93,22 @@ pair_calls!(
 );
 
 /// The calls of the integer 9/7 that the C interface leaves out.
-pub mod ccsds {
+pub mod nine_seven_calls {
     use super::Rows;
 
     extern "C" {
-        fn ccsds_lift(line: *mut i32, line_len: usize, start: usize);
-        fn ccsds_unlift(line: *mut i32, line_len: usize, start: usize) -> u32;
+        fn nine_seven_lift(line: *mut i32, line_len: usize, start: usize);
+        fn nine_seven_unlift(line: *mut i32, line_len: usize, start: usize) -> u32;
     }
 
     pub fn lift(line: &mut [i32], start: usize) {
         // SAFETY: the area is a whole slice.
-        unsafe { ccsds_lift(line.as_mut_ptr(), line.len(), start) }
+        unsafe { nine_seven_lift(line.as_mut_ptr(), line.len(), start) }
     }
 
     pub fn unlift(line: &mut [i32], start: usize) -> u32 {
         // SAFETY: as above.
-        unsafe { ccsds_unlift(line.as_mut_ptr(), line.len(), start) }
+        unsafe { nine_seven_unlift(line.as_mut_ptr(), line.len(), start) }
     }
 
     macro_rules! row_calls {
@@ -126,10 +126,10 @@ pub mod ccsds {
     }
 
     row_calls!(
-        predict_row => ccsds_predict_row(before, after),
-        unpredict_row => ccsds_unpredict_row(before, after),
-        update_row => ccsds_update_row(),
-        unupdate_row => ccsds_unupdate_row()
+        predict_row => nine_seven_predict_row(before, after),
+        unpredict_row => nine_seven_unpredict_row(before, after),
+        update_row => nine_seven_update_row(),
+        unupdate_row => nine_seven_unupdate_row()
     );
 
     /// The rows of a level: how they stand, and where they start on the grid.
@@ -154,7 +154,7 @@ pub mod ccsds {
     }
 
     column_calls!(
-        lift_columns => ccsds_lift_columns,
-        unlift_columns => ccsds_unlift_columns
+        lift_columns => nine_seven_lift_columns,
+        unlift_columns => nine_seven_unlift_columns
     );
 }

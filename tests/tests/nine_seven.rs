@@ -2,8 +2,8 @@
 //! 02's formulas, and its row calls, number by number.
 use terrain::raw::{ccsds_line_backward as line_backward, ccsds_line_forward as line_forward};
 use terrain_tests::areas::{lengths, lines, Guarded};
-use terrain_tests::test_exports::ccsds::Level;
-use terrain_tests::test_exports::{ccsds, Rows};
+use terrain_tests::test_exports::nine_seven_calls::Level;
+use terrain_tests::test_exports::{nine_seven_calls, Rows};
 use terrain_tests::random::Random;
 use terrain_tests::{grid, nine_seven};
 
@@ -55,11 +55,11 @@ fn in_place_too() {
     each(|lent, start| {
         let (n, i0) = (lent.len(), parity(start));
         let mut area = Guarded::new(&grid::in_halves(lent, i0));
-        ccsds::lift(area.lent(), start);
+        nine_seven_calls::lift(area.lent(), start);
         assert_eq!(area.content(), grid::in_halves(&nine_seven::forward(lent, i0), i0), "{n} numbers from {start}");
 
         let mut area = Guarded::new(lent);
-        let answer = ccsds::unlift(area.lent(), start);
+        let answer = nine_seven_calls::unlift(area.lent(), start);
         match nine_seven::backward(&grid::interleaved(lent, i0), i0) {
             Some(line) => assert_eq!((answer, area.content()), (0, &grid::in_halves(&line, i0)[..]), "{n} numbers from {start}"),
             None => assert_eq!((answer, area.content()), (14, lent)),
@@ -137,10 +137,10 @@ fn the_row_calls() {
         for call in 0..4 {
             let mut lent = Guarded::new(&area);
             let answer = match call {
-                0 => ccsds::predict_row(lent.lent(), r, rows[3], rows[4]),
-                1 => ccsds::unpredict_row(lent.lent(), r, rows[3], rows[4]),
-                2 => ccsds::update_row(lent.lent(), r),
-                _ => ccsds::unupdate_row(lent.lent(), r),
+                0 => nine_seven_calls::predict_row(lent.lent(), r, rows[3], rows[4]),
+                1 => nine_seven_calls::unpredict_row(lent.lent(), r, rows[3], rows[4]),
+                2 => nine_seven_calls::update_row(lent.lent(), r),
+                _ => nine_seven_calls::unupdate_row(lent.lent(), r),
             };
             let mut after = area.clone();
             let fits = fit(if call < 2 { &rows } else { &rows[..3] });
@@ -190,7 +190,7 @@ fn all_columns_are_lifted_as_lines() {
                     let i0 = parity(y);
 
                     let mut area = Guarded::new(&whole);
-                    assert_eq!(ccsds::lift_columns(area.lent(), l), 0);
+                    assert_eq!(nine_seven_calls::lift_columns(area.lent(), l), 0);
                     let expected: Vec<_> = columns(&whole, l)
                         .iter()
                         .map(|halves| grid::in_halves(&nine_seven::forward(&grid::interleaved(halves, i0), i0), i0))
@@ -198,7 +198,7 @@ fn all_columns_are_lifted_as_lines() {
                     assert_eq!(area.content(), with_columns(&whole, l, &expected), "{l:?}");
 
                     let mut area = Guarded::new(&whole);
-                    let answer = ccsds::unlift_columns(area.lent(), l);
+                    let answer = nine_seven_calls::unlift_columns(area.lent(), l);
                     match columns(&whole, l).iter().map(|c| nine_seven::backward(c, i0)).collect::<Option<Vec<_>>>() {
                         Some(expected) => {
                             assert_eq!(answer, 0, "{l:?}");
@@ -221,7 +221,7 @@ fn columns_that_do_not_fit_give_five() {
     let l = Level { stride: 4, width: 3, y: 0, height: 5 };
     for (n, l) in [(18, l), (19, Level { stride: 2, ..l }), (19, Level { height: usize::MAX, ..l }), (19, Level { stride: usize::MAX, ..l })] {
         let whole: Vec<i32> = (0..n).collect();
-        for call in [ccsds::lift_columns, ccsds::unlift_columns] {
+        for call in [nine_seven_calls::lift_columns, nine_seven_calls::unlift_columns] {
             let mut area = Guarded::new(&whole);
             assert_eq!(call(area.lent(), l), 5, "{l:?}");
             assert_eq!(area.content(), whole);

@@ -1,7 +1,7 @@
 //! One level of the integer 9/7 on the way back, in eight rows: every row that a set makes, and 14, against the rows and then the columns lifted back by
 //! document 02's formulas, for starts of either parity both ways.
 use terrain_tests::areas::Guarded;
-use terrain_tests::ccsds_back::{row_place, work_set, Level};
+use terrain_tests::nine_seven_back::{row_place, work_set, Level};
 use terrain_tests::random::Random;
 use terrain_tests::{grid, nine_seven};
 

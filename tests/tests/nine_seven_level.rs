@@ -1,7 +1,7 @@
 //! One level of the integer 9/7 on the way forward, in eight rows: every set's band rows against the columns and then the rows lifted by document
 //! 02's formulas, for starts of either parity both ways.
 use terrain_tests::areas::Guarded;
-use terrain_tests::ccsds_level::{slot, Level};
+use terrain_tests::nine_seven_level::{slot, Level};
 use terrain_tests::random::Random;
 use terrain_tests::{grid, nine_seven};
 

@@ -5,7 +5,7 @@ use crate::near;
 use crate::slots;
 use level::moves;
 use lifting::rows;
-use nine_seven::rows as ccsds_rows;
+use nine_seven::rows as nine_seven_rows;
 ghost use mathlib.Core.Path.{_≡_};
 ghost use mathlib.Core.Bool.{true};
 ghost use Prim.Native.Nat.{_+_, _*_, _<_, _≤_};
@@ -32,7 +32,7 @@ fn predict_row(store: &mut [i32], filter: usize, w: usize, y: usize, m: usize, n
     }
     let high = slots::slot_on(1, n, 1);
     let by = near::around_high(1, y, m, n);
-    ccsds_rows::predict_row(store, w, w, high, by.left, by.right, by.before, by.after);
+    nine_seven_rows::predict_row(store, w, w, high, by.left, by.right, by.before, by.after);
 }
 
 // What stands where the low row of set n waits, a copy of row 2n, by the high rows beside that row; an only row stays.
@@ -52,7 +52,7 @@ fn update_row(store: &mut [i32], filter: usize, w: usize, y: usize, m: usize, n:
     }
     let t = slots::low_waits(1, n);
     let by = near::beside_low(1, y, m, n);
-    ccsds_rows::update_row(store, w, w, t, by.left, by.right);
+    nine_seven_rows::update_row(store, w, w, t, by.left, by.right);
 }
 
 // Row 2n to where the low row waits. The 5/3 needs it no more, and its low row waits where it stands.

@@ -124,7 +124,7 @@ pub fn deliver(filter: usize, store: &mut [i32], w: usize, x: usize, n: usize, q
         let v = sizes::low_count(x, w);
         let from = slots::low_waits(filter, n) * w;
         let to = filters::rows_kept(filter) * w + slots::slot(filter, q) * v;
-        return moves::part_row(store, from, to, sizes::next_start(x), v);
+        return moves::deinterleave_row(store, from, to, sizes::next_start(x), v);
     }
     5
 }

@@ -6,7 +6,7 @@ use crate::slots;
 use level::moves;
 use lifting::line;
 use lifting::pairs;
-use nine_seven::line as ccsds_line;
+use nine_seven::line as nine_seven_line;
 ghost use mathlib.Core.Path.{_≡_};
 ghost use Prim.Native.Nat.{_+_, _*_, _%_, _≤_, _<_};
 ghost use lib.ListN.{length};
@@ -26,7 +26,7 @@ fn lift_line(line: &mut [i32], filter: usize, x: usize)
         line::lift(line, x);
         return;
     }
-    ccsds_line::lift(line, x);
+    nine_seven_line::lift(line, x);
 }
 
 // The row in slot s lifted along the row, if the set has it.

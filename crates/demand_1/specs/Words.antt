@@ -7,7 +7,8 @@ use lib.IntN.{ℤ, pos}
 abbrev pub Kept : {A : Type 0} → ℕ → A → A → Type 0
 Kept q before after = (q ≡ 0 → ⊥) → after ≡ before
 
--- of what 14 changes: "Here a no zeroes ..."
+-- of what 14 changes: "Here a no zeroes the needed line store and ends the reader, in a feed or a draw, with the output untouched; in the whole-map engine it
+-- zeroes heights and work area."
 abbrev pub KeptBut14 : {A : Type 0} → ℕ → A → A → Type 0
 KeptBut14 q before after = (q ≡ 0 → ⊥) → (q ≡ 14 → ⊥) → after ≡ before
 

@@ -27,7 +27,7 @@ fn tell_stuck(name: &[u8]) {
 }
 
 // Whether there may be another write after one that took no byte: `got` is what it answered.
-fn goes_on(got: isize, name: &[u8]) -> bool {
+fn continues(got: isize, name: &[u8]) -> bool {
     if got == 0 {
         tell_stuck(name);
         return false;
@@ -57,7 +57,7 @@ fn try_write(fd: i32, name: &[u8], bytes: &[u8], from: usize) -> Put
     Put {
         got,
         to: from,
-        open: goes_on(got, name),
+        open: continues(got, name),
     }
 }
 

@@ -35,7 +35,7 @@ fn first_place(start: usize, low: usize) -> usize
 
 // The v numbers from `from` on, a row that starts at coordinate `start`, deinterleaved into its halves from place `to` on, past what is read: pairs, and the
 // last by itself where v is odd.
-pub fn part_row(store: &mut [i32], from: usize, to: usize, start: usize, v: usize)
+pub fn deinterleave_row(store: &mut [i32], from: usize, to: usize, start: usize, v: usize)
     requires { ⌜ (from + v ≤ to) × (to + v ≤ length (now store)) ⌝ }
     ensures { λ _. ⌜ at (now (store .exit)) ≡
         spliced to v (deinterleavedInto (side start v) (λ i. at (now (store .entry)) (from + i)) (at (now (store .entry)))) (at (now (store .entry))) ⌝ }

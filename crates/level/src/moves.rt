@@ -35,14 +35,14 @@ fn part_fits(n: usize, from: usize, to: usize, v: usize) -> bool
 }
 
 // The v numbers from place `from` on, a row that starts at coordinate `start`, deinterleaved into its halves from place `to` on, past what is read.
-pub fn part_row(store: &mut [i32], from: usize, to: usize, start: usize, v: usize) -> u8
+pub fn deinterleave_row(store: &mut [i32], from: usize, to: usize, start: usize, v: usize) -> u8
     ensures { λ r. ⌜ r ≡ pick (both (leb (from + v) to) (leb (to + v) (length (now (store .entry))))) 0 5 ⌝ }
     ensures { λ r. ⌜ at (now (store .exit)) ≡ pick (both (leb (from + v) to) (leb (to + v) (length (now (store .entry)))))
         (spliced to v (deinterleavedInto (side start v) (λ i. at (now (store .entry)) (from + i)) (at (now (store .entry)))) (at (now (store .entry))))
         (at (now (store .entry))) ⌝ }
 {
     if part_fits(store.len(), from, to, v) {
-        copies::part_row(store, from, to, start, v);
+        copies::deinterleave_row(store, from, to, start, v);
         return 0;
     }
     5

@@ -20,7 +20,7 @@ use Rattle.text.specs.Refusal.{refusedLine, answerLine}
 use Rattle.listing.specs.Lines.{linesOf, sizeLine}
 
 -- ---- the head: "one digit for L, a newline, then a binary PGM"
--- question 15: "is the header as below, with L 1 to 5, width 1 to 1,025, height 1 to 65,535?"
+-- question 15: "Listing program, asked before all others: is the header as below, with L 1 to 5, width 1 to 1,025, height 1 to 65,535?"
 pub record Shape : Type 0 where
   pub width : ℕ
   pub height : ℕ

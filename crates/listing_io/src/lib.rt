@@ -38,10 +38,10 @@ fn is_over(listing: Listing) -> bool
     round::is_over(line.part, input.phase)
 }
 
-fn goes_on(run: Run) -> bool
+fn continues(run: Run) -> bool
     ensures { λ r. ⌜ r ≡ going (overAt (run .listing .line .part) (run .listing .input .phase)) (run .outcome) ⌝ }
 {
-    round::goes_on(is_over(run.listing), run.outcome)
+    round::continues(is_over(run.listing), run.outcome)
 }
 
 // What is left of the chunk is fed.
@@ -120,7 +120,7 @@ fn all_rounds(
         outcome: round::start(),
     };
     let mut turns = u64::MAX;
-    while turns > 0 && goes_on(now) {
+    while turns > 0 && continues(now) {
         now = one_round(now, fd, name, chunk, store, row, out);
         turns -= 1;
     }

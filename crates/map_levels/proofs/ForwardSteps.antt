@@ -16,14 +16,14 @@ use Rattle.wavelet.specs.Plane.{cells, flat}
 use Rattle.wavelet.specs.Levels.{next}
 use Rattle.map_levels.specs.Passes.{Rows, KeptFrom, gridHalved, gridCopied}
 use Rattle.map_levels.specs.ByFilter.{levelLiftedBy}
-use Rattle.map_levels.specs.LevelPasses.{cornerGrid, planeWritten, goesOn}
+use Rattle.map_levels.specs.LevelPasses.{cornerGrid, planeWritten, hasNext}
 use Rattle.map_levels.proofs.CellLaws.{copied-out, kept-flat, kept-then}
 use Rattle.map_levels.proofs.LevelsMath.{forward-last, forward-more}
 
 -- more levels follow: there are some, and the low-low part is not empty
-pub goes-on : (L w h : ℕ) → goesOn L w h ≡ true → (1 < L) × (0 < w) × (0 < h)
-unfolding goesOn
-goes-on L w h e =
+pub has-next : (L w h : ℕ) → hasNext L w h ≡ true → (1 < L) × (0 < w) × (0 < h)
+unfolding hasNext
+has-next L w h e =
     let a = both _ _ e in
     let b = both _ _ (a .1) in
     (ltb-true 1 L (a .0), ltb-true 0 w (b .0), ltb-true 0 h (b .1))
@@ -47,7 +47,7 @@ own-rows n n′ W H w′ h′ size ew eh sw sh R =
 -- ---- forward: z₁ is the plane with the level lifted
 module _ (F : Filter) (laws : FilterLaws F) (A : ℕ) (W H : Side) (z₀ z₁ : ℕ → ℤ) (wa : W .length ≤ A) (some : 0 < A)
     (f₁ : z₁ ≡ flat A (levelLiftedBy F W H (cells A z₀))) where
-  pub forward-end : (L w′ h′ : ℕ) → 0 < L → w′ ≡ count lo W → h′ ≡ count lo H → goesOn L w′ h′ ≡ false →
+  pub forward-end : (L w′ h′ : ℕ) → 0 < L → w′ ≡ count lo W → h′ ≡ count lo H → hasNext L w′ h′ ≡ false →
       z₁ ≡ flat A (planeWritten F L W H (cornerGrid W H (cells A z₀)) (cells A z₀))
   forward-end L w′ h′ a ew eh e = forward-last F laws A W H z₀ z₁ wa some f₁ L a (rw (ew, eh) at e)
 

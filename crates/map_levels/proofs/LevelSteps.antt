@@ -25,7 +25,7 @@ use Rattle.wavelet.proofs.GridLaws.{flat-at}
 use Rattle.wavelet.specs.Levels.{next}
 use Rattle.map_levels.specs.Rowwise.{interleavedInPlace}
 use Rattle.map_levels.specs.Passes.{Rows, KeptFrom, rowsMapped}
-use Rattle.map_levels.specs.LevelPasses.{levelGrid, Rebuilt, goesOn, rowsBetween, regionInRange, Doubling, LevelMadeBy, LevelsBack}
+use Rattle.map_levels.specs.LevelPasses.{levelGrid, Rebuilt, hasNext, rowsBetween, regionInRange, Doubling, LevelMadeBy, LevelsBack}
 use Rattle.map_levels.proofs.CellLaws.{mapped-out, kept-flat, kept-then, next-end, next-rows, fewer-rows, fewer-columns}
 use Rattle.map_levels.proofs.GridSweep.{row-room}
 use Rattle.map_levels.proofs.LevelsMath.{bandsBack, bands-fetched, level-rebuilt, interleaved-in}
@@ -108,7 +108,7 @@ module _ (F : Filter) (laws : FilterLaws F) where
         rw k at g
 
   -- no more levels follow
-  pub back-end : (s A k L : ℕ) (W H : Side) (ok : Bool) (z y₀ y : ℕ → ℤ) → W .length ≤ s → 0 < L → goesOn L (count lo W) (count lo H) ≡ false →
+  pub back-end : (s A k L : ℕ) (W H : Side) (ok : Bool) (z y₀ y : ℕ → ℤ) → W .length ≤ s → 0 < L → hasNext L (count lo W) (count lo H) ≡ false →
       LevelMadeBy F ok 0 s W H (cells A z) y₀ y → LevelsBack F ok k L s A W H z y₀ y
   back-end s A k L W H ok z y₀ y ws some e m =
       let x = cells A z in
@@ -292,6 +292,6 @@ module _ (F : Filter) (laws : FilterLaws F) where
           rw eh at ed in
           below ∙ sym (region-more F laws k L W H x one more ∙ rw (← low-test, yes′, ← beside-test, yes″))
 
-  pub range-end : (k L : ℕ) (W H : Side) (x : Grid) (d : Bool) → 0 < k → 0 < L → goesOn L (count lo W) (count lo H) ≡ false →
+  pub range-end : (k L : ℕ) (W H : Side) (x : Grid) (d : Bool) → 0 < k → 0 < L → hasNext L (count lo W) (count lo H) ≡ false →
       d ≡ rowsBetween 0 (H .length) 0 (W .length) (negℤ (pos (range F k))) (pos (range F k)) x → d ≡ regionInRange F k L W H x
   range-end k L W H x d one some go e = e ∙ sym (region-last F laws k L W H x one some go)

@@ -21,7 +21,7 @@ use Rattle.wavelet.proofs.LevelTheory.{plane-reads}
 use Rattle.map_levels.specs.Rowwise.{cut, interleavedInPlace}
 use Rattle.map_levels.specs.Passes.{within, rowsMapped, rowsFetched, gridHalved, gridCopied}
 use Rattle.map_levels.specs.ByFilter.{liftedBy, columnsLiftedBy, levelLiftedBy, levelUnliftedBy}
-use Rattle.map_levels.specs.LevelPasses.{levelGrid, cornerGrid, planeWritten, goesOn, Rebuilt}
+use Rattle.map_levels.specs.LevelPasses.{levelGrid, cornerGrid, planeWritten, hasNext, Rebuilt}
 use Rattle.map_levels.proofs.GridSweep.{mapped-in}
 use Rattle.map_levels.proofs.CellLaws.{halved-out, halved-grid, copied-in, mapped-out, fetched-new, fetched-made, made-low, made-high}
 use Rattle.map_levels.proofs.CellLaws.{placed-low, placed-high, flat-same, placed, placed-in, joined-at, grid-at, half-low, cut-in, within-in, by-within}
@@ -46,7 +46,7 @@ module _ (F : Filter) (keep : ℤ → ℤ) (W H : Side) (g : Grid) (r c : ℕ) w
   plane-none L z = rw z refl
 
   -- the last level: the corner is its low-low band, or empty
-  pub plane-last : (L : ℕ) → 0 < L → goesOn L (count lo W) (count lo H) ≡ false →
+  pub plane-last : (L : ℕ) → 0 < L → hasNext L (count lo W) (count lo H) ≡ false →
       planeCell F keep L W H g r c ≡ subband F keep W H g (bandOf (halfAt W c) (halfAt H r)) (placeIn H r) (placeIn W c)
   unfolding bandOf
   plane-last zero some e = absurd (omega arith)
@@ -85,7 +85,7 @@ module _ (F : Filter) (laws : FilterLaws F) (A : ℕ) (W H : Side) (z₀ z₁ : 
   unfolding levelLiftedBy
   level-out r c o = mapped-out (W .length) (H .length) _ r c o (liftedBy F W) ∙ columns-out F (W .length) H (cells A z₀) r c o
 
-  pub forward-last : (L : ℕ) → 0 < L → goesOn L (count lo W) (count lo H) ≡ false → z₁ ≡ flat A (planeWritten F L W H g (cells A z₀))
+  pub forward-last : (L : ℕ) → 0 < L → hasNext L (count lo W) (count lo H) ≡ false → z₁ ≡ flat A (planeWritten F L W H g (cells A z₀))
   forward-last L l e =
       f₁ ∙ flat-same A _ _ some
       (λ r c _.

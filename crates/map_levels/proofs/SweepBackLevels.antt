@@ -28,7 +28,7 @@ use Rattle.wavelet.proofs.GridLaws.{place-below}
 use Rattle.wavelet.proofs.LevelTheory.{OnCells, OnBands, SameBands, bandIn, over, plane-bands, placed, placed-in, level-at, level-back-reads, level-has-reads}
 use Rattle.wavelet.proofs.MapTheorems.{cells-each, cells-same}
 use Rattle.map_levels.specs.Passes.{KeptFrom}
-use Rattle.map_levels.specs.LevelPasses.{goesOn, regionInRange}
+use Rattle.map_levels.specs.LevelPasses.{hasNext, regionInRange}
 use Rattle.map_levels.specs.Sweep.{LowSaved}
 use Rattle.map_levels.specs.SweepBack.{lowPlace, lowPart, bandsIn, SmallBands, LevelSweptBack, SweptBack}
 use Rattle.map_levels.specs.BackLines.{BackRoom}
@@ -130,7 +130,7 @@ module _ (F : Filter) (laws : FilterLaws F) where
           ])
 
       -- the last level: the low-low part is the plane's
-      pub last-within : goesOn L (count lo W) (count lo H) ≡ false → OnBands (λ v. natAbs v ≤ range F (k + 1)) W H (bandsIn A W H z y₁)
+      pub last-within : hasNext L (count lo W) (count lo H) ≡ false → OnBands (λ v. natAbs v ≤ range F (k + 1)) W H (bandsIn A W H z y₁)
       unfolding next mapBack
       last-within e =
           let l = counts W in
@@ -196,7 +196,7 @@ module _ (k n l m o A : ℕ) (W H : Side) (R : BackRoom k n l m o A W H) where
 
 -- the low-low part of the plane, saved
 pub low-plane : (F : Filter) (L A : ℕ) (W H : Side) (a m : ℕ) (z y₀ y₁ p₀ p : ℕ → ℤ) → a ≡ lowPlace W H → m ≡ W .length * H .length - a →
-    y₁ ≡ spliced a m p y₀ → goesOn L (count lo W) (count lo H) ≡ false → LowSaved A W H z p₀ p → LowIs F L A W H z y₁
+    y₁ ≡ spliced a m p y₀ → hasNext L (count lo W) (count lo H) ≡ false → LowSaved A W H z p₀ p → LowIs F L A W H z y₁
 unfolding mapBack
 low-plane F L A W H a m z y₀ y₁ p₀ p ea em e go S r c rb cb =
     let f = goes-no L (count lo W) (count lo H) go (omega arith) (omega arith) in
@@ -225,7 +225,7 @@ module _ (k L A a m : ℕ) (W H : Side) (z y₀ y₁ p₀ p : ℕ → ℤ) (some
   F = fiveThreeFilter
 
   -- no more levels follow
-  module _ (go : goesOn L (count lo W) (count lo H) ≡ false) (S : LowSaved A W H z p₀ p) where
+  module _ (go : hasNext L (count lo W) (count lo H) ≡ false) (S : LowSaved A W H z p₀ p) where
     last-low : LowIs F L A W H z y₁
     last-low = low-plane F L A W H a m z y₀ y₁ p₀ p ea em e₁ go S
 

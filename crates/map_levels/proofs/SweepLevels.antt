@@ -23,7 +23,7 @@ use Rattle.wavelet.proofs.LevelTheory.{plane-reads}
 use Rattle.wavelet.proofs.Bridge.{subband-range, subband-exact}
 use Rattle.areas.specs.Areas.{heightsAt}
 use Rattle.map_levels.specs.Passes.{Rows, KeptFrom, within, gridHalved, gridCopied}
-use Rattle.map_levels.specs.LevelPasses.{cornerGrid, levelLifted, columnsLiftedInPlace, planeWritten, goesOn}
+use Rattle.map_levels.specs.LevelPasses.{cornerGrid, levelLifted, columnsLiftedInPlace, planeWritten, hasNext}
 use Rattle.map_levels.specs.Sweep.{levelWritten, sourceGrid, LevelArea, Small, Growing, LowSaved, LevelSwept}
 use Rattle.map_levels.proofs.CellLaws.{by-within, half-low, halved-grid, halved-out, mapped-out, column-out, copied-in, copied-out, kept-flat}
 use Rattle.map_levels.proofs.LevelMath.{level-forward}
@@ -44,8 +44,8 @@ all-rows w zero g = absurd (omega arith)
 all-rows w (suc h) g = let k : suc h - 1 ≡ h = omega arith in rw k (sym (suc-mul h w))
 
 -- after one level none follows
-one-level : (w h : ℕ) → goesOn 1 w h ≡ false
-unfolding goesOn
+one-level : (w h : ℕ) → hasNext 1 w h ≡ false
+unfolding hasNext
 one-level w h = refl
 
 four-some : (L : ℕ) → 1 ≤ 4 ^ L
@@ -109,7 +109,7 @@ module _ (A : ℕ) (W H : Side) (z x₀ : ℕ → ℤ) (w h : ℕ) (ew : w ≡ c
         kept = λ j b. k .kept j (omega arith);
       }
 
-  pub low-none : goesOn 2 w h ≡ false → LowSaved A W H z x₀ x₀
+  pub low-none : hasNext 2 w h ≡ false → LowSaved A W H z x₀ x₀
   low-none e =
       record {
         made = λ r c rb cb. absurd (omega (arith, goes-no 2 w h e (omega arith) (omega arith)));
@@ -176,10 +176,10 @@ module _ (first : Bool) (A : ℕ) (W H : Side) (g z₀ x₀ z₁ x₁ : ℕ → 
       let t = all-rows (W .length) (H .length) sh in
       record { kept = λ j b. T .kept j (omega arith) }
 
-  pub sweep-last : (L w′ h′ : ℕ) → 0 < L → 0 < H .length → w′ ≡ count lo W → h′ ≡ count lo H → goesOn L w′ h′ ≡ false →
+  pub sweep-last : (L w′ h′ : ℕ) → 0 < L → 0 < H .length → w′ ≡ count lo W → h′ ≡ count lo H → hasNext L w′ h′ ≡ false →
       (z₁ ≡ flat A (planeWritten fiveThreeFilter L W H grid (cells A z₀))) × KeptFrom ((H .length - 1) * W .length + W .length) x₀ x₁
   sweep-last L w′ h′ l sh ew eh e =
-      let e′ : goesOn L (count lo W) (count lo H) ≡ false = rw (ew, eh) at e in (
+      let e′ : hasNext L (count lo W) (count lo H) ≡ false = rw (ew, eh) at e in (
         all-cells A z₁ _ some
             (λ r c ca.
             T .cells-are r c ca

@@ -31,7 +31,7 @@ use Rattle.wavelet.specs.Levels.{next}
 use Rattle.wavelet.proofs.SideLaws.{count-none}
 use Rattle.map_levels.specs.Rowwise.{cut, between}
 use Rattle.map_levels.specs.Passes.{within, rowsMapped}
-use Rattle.map_levels.specs.LevelPasses.{Rebuilt, goesOn, rowsEven, columnsEven, rowsBetween, regionInRange}
+use Rattle.map_levels.specs.LevelPasses.{Rebuilt, hasNext, rowsEven, columnsEven, rowsBetween, regionInRange}
 use Rattle.map_levels.proofs.RowwiseLaws.{cut-in}
 use Rattle.map_levels.proofs.CellLaws.{placed, placed-in, placed-low, placed-high, grid-at, by-within}
 use Rattle.map_levels.proofs.LevelMath.{BandsIn, row-back}
@@ -72,23 +72,23 @@ every-placed S p =
 
 -- ---- whether more levels follow
 module _ (L w h : ℕ) where
-  pub goes-no : goesOn L w h ≡ false → 0 < w → 0 < h → L < 2
-  unfolding goesOn
+  pub goes-no : hasNext L w h ≡ false → 0 < w → 0 < h → L < 2
+  unfolding hasNext
   goes-no e a b = elim (decLt 1 L) [
     | yes l ↦ absurd (false-true (sym e ∙ simp (lt-ltb 1 L l, lt-ltb 0 w a, lt-ltb 0 h b)))
     | no l ↦ omega arith
   ]
 
-  pub goes-yes : goesOn L w h ≡ true → (2 ≤ L) × (0 < w) × (0 < h)
-  unfolding goesOn
+  pub goes-yes : hasNext L w h ≡ true → (2 ≤ L) × (0 < w) × (0 < h)
+  unfolding hasNext
   goes-yes e =
       let one = both (ltb 1 L) _ e in
       let two = both (ltb 0 w) (ltb 0 h) (one .1) in
       (ltb-true 1 L (one .0), ltb-true 0 w (two .0), ltb-true 0 h (two .1))
 
 -- the test, where the sizes are those of the low-low part
-pub goes-as : (L w h w′ h′ : ℕ) (r b : Bool) → w ≡ w′ → h ≡ h′ → r ≡ goesOn L w h → r ≡ b → goesOn L w′ h′ ≡ b
-goes-as L w h w′ h′ r b ew eh e f = let g : r ≡ goesOn L w′ h′ = rw (ew, eh) at e in sym g ∙ f
+pub goes-as : (L w h w′ h′ : ℕ) (r b : Bool) → w ≡ w′ → h ≡ h′ → r ≡ hasNext L w h → r ≡ b → hasNext L w′ h′ ≡ b
+goes-as L w h w′ h′ r b ew eh e f = let g : r ≡ hasNext L w′ h′ = rw (ew, eh) at e in sym g ∙ f
 
 -- ---- ranges
 abs-between : (N : ℕ) (m v : ℤ) → m ≡ pos N → leZ (negℤ m) v ≡ true → leZ v m ≡ true → natAbs v ≤ N
@@ -215,7 +215,7 @@ module _ (F : Filter) (laws : FilterLaws F) where
       (both-is _ _ (no-rows-have W H _ z) (each-cells (W .length) (H .length) _ (λ r c rh cw. absurd (omega arith))))
 
   -- nothing is asked of a low-low part where no more levels follow
-  pub fits-none : (k L : ℕ) (W H : Side) (x : Grid) → 0 < L → goesOn L (count lo W) (count lo H) ≡ false
+  pub fits-none : (k L : ℕ) (W H : Side) (x : Grid) → 0 < L → hasNext L (count lo W) (count lo H) ≡ false
       → rebuiltFits F k (L - 1) (next W) (next H) x ≡ true
   unfolding next rebuiltFits
   fits-none k L W H x some e =
@@ -314,7 +314,7 @@ module _ (F : Filter) (laws : FilterLaws F) where
     level-rest e = simp e
 
   -- where no more levels follow
-  pub level-last : (L : ℕ) (W H : Side) (r c : ℕ) → 0 < L → goesOn L (count lo W) (count lo H) ≡ false → levelAt L W H r c ≡ 1
+  pub level-last : (L : ℕ) (W H : Side) (r c : ℕ) → 0 < L → hasNext L (count lo W) (count lo H) ≡ false → levelAt L W H r c ≡ 1
   unfolding levelAt
   level-last zero W H r c some e = absurd (omega arith)
   level-last (suc L) W H r c some e =
@@ -331,7 +331,7 @@ module _ (F : Filter) (laws : FilterLaws F) where
   abbrev rangeTest : Grid → ℕ → ℕ → ℕ → Bool
   rangeTest x r c k = leb (natAbs (x r c)) (range F k)
 
-  pub region-last : (k L : ℕ) (W H : Side) (x : Grid) → 0 < k → 0 < L → goesOn L (count lo W) (count lo H) ≡ false →
+  pub region-last : (k L : ℕ) (W H : Side) (x : Grid) → 0 < k → 0 < L → hasNext L (count lo W) (count lo H) ≡ false →
       regionInRange F k L W H x ≡ rowsBetween 0 (H .length) 0 (W .length) (negℤ (pos (range F k))) (pos (range F k)) x
   unfolding regionInRange
   region-last k L W H x b some e =

@@ -60,8 +60,8 @@ pub record Rebuilt (F : Filter) (L : ℕ) (W H : Side) (x X : Grid) : Type 0 whe
   pub cell : (r c : ℕ) → r < H .length → c < W .length → levelGrid W X r c ≡ mapBack F wrap32 L W H x r c
 
 -- whether more levels follow on a low-low part of w columns and h rows: levels are left, and it is not empty
-unfoldable pub goesOn : ℕ → ℕ → ℕ → Bool
-goesOn L w h = both (ltb 1 L) (both (ltb 0 w) (ltb 0 h))
+unfoldable pub hasNext : ℕ → ℕ → ℕ → Bool
+hasNext L w h = both (ltb 1 L) (both (ltb 0 w) (ltb 0 h))
 
 -- Q-3: "such a value that is odd when it is due to be halved belongs to no map": h rows of a single high column, as they stand in the plane z; and a single
 -- high row X of w numbers, lifted back

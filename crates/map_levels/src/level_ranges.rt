@@ -96,7 +96,7 @@ fn in_range(
 {
     let w = sizes::low_count(x, width);
     let h = sizes::low_count(y, height);
-    if !levels::goes_on(levels, w, h) {
+    if !levels::has_next(levels, w, h) {
         return rows_in_range(plane, across, 0, height, 0, width, level, filter);
     }
     let u = sizes::next_start(x);

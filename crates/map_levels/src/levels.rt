@@ -13,7 +13,7 @@ ghost use Rattle.lifting.specs.Grid.{side, singleHigh, isEven};
 ghost use Rattle.wavelet.specs.Plane.{cells, flat};
 ghost use Rattle.map_levels.specs.Rowwise.{deinterleavedInPlace, halvedInPlace};
 ghost use Rattle.map_levels.specs.Passes.{Rows, levelRow, gridHalved, gridCopied};
-ghost use Rattle.map_levels.specs.LevelPasses.{goesOn, rowsEven};
+ghost use Rattle.map_levels.specs.LevelPasses.{hasNext, rowsEven};
 
 // The level's row for row r of the plane.
 fn level_row(y: usize, height: usize, r: usize) -> usize
@@ -28,8 +28,8 @@ fn level_row(y: usize, height: usize, r: usize) -> usize
 }
 
 // Whether more levels follow on a low-low part of this width and height: an empty one has none.
-pub fn goes_on(levels: usize, width: usize, height: usize) -> bool
-    ensures { λ r. ⌜ r ≡ goesOn levels width height ⌝ }
+pub fn has_next(levels: usize, width: usize, height: usize) -> bool
+    ensures { λ r. ⌜ r ≡ hasNext levels width height ⌝ }
 {
     if levels < 2 {
         return false;

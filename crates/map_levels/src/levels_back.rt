@@ -125,7 +125,7 @@ pub fn sweep_back(
     let h = sizes::low_count(y, height);
     let a = back_rows::low_place(x, width, y, height);
     let n = width * height;
-    if !levels::goes_on(levels, w, h) {
+    if !levels::has_next(levels, w, h) {
         sweep::save_low(plane, &mut work[a..n], across, x, width, y, height);
         return level_back(
             plane,

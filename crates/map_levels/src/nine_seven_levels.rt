@@ -68,7 +68,7 @@ pub fn forward_levels(
     passes::lift_nine_seven(plane, across, x, width, y, height);
     let w = sizes::low_count(x, width);
     let h = sizes::low_count(y, height);
-    if !levels::goes_on(levels, w, h) {
+    if !levels::has_next(levels, w, h) {
         return;
     }
     let u = sizes::next_start(x);
@@ -207,7 +207,7 @@ pub fn back_levels(
 {
     let w = sizes::low_count(x, width);
     let h = sizes::low_count(y, height);
-    if !levels::goes_on(levels, w, h) {
+    if !levels::has_next(levels, w, h) {
         return nine_seven_back(plane, work, across, stride, 0, x, width, y, height);
     }
     let u = sizes::next_start(x);

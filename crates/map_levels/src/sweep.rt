@@ -261,7 +261,7 @@ pub fn save_low(
 {
     let w = sizes::low_count(x, width);
     let h = sizes::low_count(y, height);
-    if !levels::goes_on(2, w, h) {
+    if !levels::has_next(2, w, h) {
         return;
     }
     levels::save(plane, work, across, w, h);
@@ -336,7 +336,7 @@ pub fn sweep_levels(
     lift_level(heights, plane, work, first, across, x, width, y, height);
     let w = sizes::low_count(x, width);
     let h = sizes::low_count(y, height);
-    if !levels::goes_on(levels, w, h) {
+    if !levels::has_next(levels, w, h) {
         return;
     }
     let u = sizes::next_start(x);

@@ -11,7 +11,7 @@ use Rattle.pgm.specs.Runs.{sampleSize, samplesOf, exceeds, heightsOf}
 unfoldable pub heightsTaken : ℕ → ℕ → List ℕ → List ℕ
 heightsTaken m n r = take n (heightsOf m r)
 
--- question 16: "asked of each sample as it is read, if the sample exceeds the largest value"
+-- question 16: "Refused: 16, asked of each sample as it is read, after 15's header question, if the sample exceeds the largest value."
 unfoldable pub tooLarge : ℕ → ℕ → List ℕ → Bool
 tooLarge m n r = exceeds m (take n (samplesOf m r))
 

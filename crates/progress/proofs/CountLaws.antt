@@ -166,8 +166,8 @@ pub made-open : (a s m : ℕ) → 1 ≤ a → made a 0 s m ≡ (s % 2 + (m - 1))
 made-open a s m one = omega (arith, made-is a 0 s m)
 
 -- by all steps of the closing
-pub made-shut : (a c s m : ℕ) → 1 ≤ a → a ≤ c → made a c s m ≡ (s % 2 + m + 1) / 2
-made-shut a c s m one h = omega (arith, made-is a c s m)
+pub made-closed : (a c s m : ℕ) → 1 ≤ a → a ≤ c → made a c s m ≡ (s % 2 + m + 1) / 2
+made-closed a c s m one h = omega (arith, made-is a c s m)
 
 -- no more than there are, so no more than the rows, but for a set of a high row alone
 pub made-most : (a c s m : ℕ) → made a c s m ≤ (s % 2 + m + 1) / 2
@@ -175,7 +175,7 @@ made-most a c s m = omega (arith, made-is a c s m)
 
 -- as the code counts them: no sum is more than there are
 pub made-all : (a c s m n : ℕ) → 1 ≤ a → n ≡ m / 2 + (s % 2 + m % 2 + 1) / 2 → a ≤ c → n ≡ made a c s m
-made-all a c s m n one e h = omega (arith, made-shut a c s m one h)
+made-all a c s m n one e h = omega (arith, made-closed a c s m one h)
 
 pub made-few : (a c s m n k : ℕ) → n ≡ m / 2 + (s % 2 + m % 2 + 1) / 2 → k ≡ (s % 2 + (m - 1)) / 2 + 1 - a + c → n < k → n ≡ made a c s m
 made-few a c s m n k e d h = omega (arith, made-is a c s m)
@@ -197,9 +197,9 @@ made-stop a c s m p = omega (arith, made-is a c s m, made-is a (suc c) s m)
 pub low-le : (a c s m : ℕ) → made a c s m - s % 2 ≤ m
 low-le a c s m = omega (arith, made-most a c s m)
 
-pub low-shut : (a c s m : ℕ) → 1 ≤ a → a ≤ c → made a c s m - s % 2 ≡ count lo (side s m)
+pub low-closed : (a c s m : ℕ) → 1 ≤ a → a ≤ c → made a c s m - s % 2 ≡ count lo (side s m)
 unfolding count
-low-shut a c s m one h = omega (arith, made-shut a c s m one h)
+low-closed a c s m one h = omega (arith, made-closed a c s m one h)
 
 pub low-none : (a c s m : ℕ) → m ≡ 0 → made a c s m - s % 2 ≡ 0
 low-none a c s m e = omega (arith, made-most a c s m)

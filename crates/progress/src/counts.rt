@@ -61,7 +61,7 @@ pub fn makes_set(filter: usize, l: usize, y: usize, m: usize) -> bool
 }
 
 // Whether set n gives a row to the l levels below.
-pub fn goes_on(l: usize, y: usize, n: usize) -> bool
+pub fn gives_row(l: usize, y: usize, n: usize) -> bool
     ensures { λ r. ⌜ r ≡ both (ltb 0 l) (leb (y % 2) n) ⌝ }
 {
     if l == 0 {

@@ -714,11 +714,11 @@ module _ (ad f base : ℕ) (W H : Side) (l : ℕ) (P : Rows) where
           ∙ needed-on f H k (waiting f H k n) n (makes-set k n (r .there k refl) (r .asks k refl (ap firstCode e))) (suc j) (omega arith)
       go (c ∷ cs) e ih = rw (lt-ltb (code c) 4 (code-lt c)) (λ j q. refl)
 
-  pub settle-holds : (d lev n b : ℕ) (x : ℕ → ℤ) → lev ≤ suc l → Ready f W H (suc l) d (spot lev n b) → Held lev n b x →
+  pub work-due-holds : (d lev n b : ℕ) (x : ℕ → ℤ) → lev ≤ suc l → Ready f W H (suc l) d (spot lev n b) → Held lev n b x →
       Outcome (NextFits d (nextUp f W H (suc l) lev n b)) (HeldNext d (nextUp f W H (suc l) lev n b))
       (settled ad f base W H (suc l) (nextUp f W H (suc l) lev n b .level) lev n x)
   unfolding nextUp settled bandAt nextBand look firstCode
-  settle-holds d zero n b x h r s = goes x (subst (λ i. Held 0 i 4 x) (top-is r) (record {
+  work-due-holds d zero n b x h r s = goes x (subst (λ i. Held 0 i 4 x) (top-is r) (record {
     below = s .below;
     before = λ k _ q. absurd (omega arith);
     got = λ k _ e c _ _. absurd (omega arith);
@@ -726,8 +726,8 @@ module _ (ad f base : ℕ) (W H : Side) (l : ℕ) (P : Rows) where
     where
       top-is : Ready f W H (suc l) d (spot 0 n b) → n ≡ d
       top-is r = unfold waitsAt in r .top
-  settle-holds d (suc k) n b x h r s = go (those p (bandsFrom b)) refl
-      (λ z y. settle-holds d k (waiting f H k n) 1 y (omega arith) (ready-up f W H l d k n b (omega arith) r z))
+  work-due-holds d (suc k) n b x h r s = go (those p (bandsFrom b)) refl
+      (λ z y. work-due-holds d k (waiting f H k n) 1 y (omega arith) (ready-up f W H l d k n b (omega arith) r z))
     where
       p : Band → Bool
       p = asked (eqb (suc k) (suc l)) (sideAt k W) (sideAt k H) n

@@ -29,7 +29,7 @@ use Rattle.reader.specs.Calls.{heightRow}
 use Rattle.reader.specs.Limited.{shown, drawnAs}
 use Rattle.level.proofs.TriedRows.{Outcome, stops, goes, bind-outcome}
 use Rattle.reader_steps.proofs.CellLaws.{asked-has}
-use Rattle.reader.proofs.Holds.{by-outcome, Held, HeldAt, HeldNext, NextFits, FedHeld, settle-holds, fed-holds, height-made, height-fit}
+use Rattle.reader.proofs.Holds.{by-outcome, Held, HeldAt, HeldNext, NextFits, FedHeld, work-due-holds, fed-holds, height-made, height-fit}
 use Rattle.reader.proofs.CallViews.{here, at, nextOf, nameOf, Due}
 
 pub outcome-failed : {N : Type 0} {P : (ℕ → ℤ) → Type 0} → Outcome N P failed → N → ⊥
@@ -81,7 +81,7 @@ module _ (ad f base spare : ℕ) (W H : Side) (l d : ℕ) (p : Place) (level-le 
   settles-outcome e q z =
       subst (λ u. Outcome (NextFits ad f base W H l P d u) (HeldNext ad f base W H l P d u)
       (settled ad f base W H (suc l) (nextOf f W H l d p .level) (p .level) (at f W H l d p .set) x)) z
-      (settle-holds ad f base W H l P d (p .level) (at f W H l d p .set) (p .band) x level-le ready held)
+      (work-due-holds ad f base W H l P d (p .level) (at f W H l d p .set) (p .band) x level-le ready held)
 
   pub feeds-worked : (e : Bool) (k n : ℕ) (c : Band) → Due f W H l d p k n c → (v : ℕ → ℤ) →
       ((i : ℕ) → i < bandColumns W (suc k) c → v i ≡ P (nameOf f W H l k n c) i) →
@@ -94,7 +94,7 @@ module _ (ad f base spare : ℕ) (W H : Side) (l d : ℕ) (p : Place) (level-le 
       let named = band-named ad f base W H l P k c (setRow (sideAt k H) c n) (ask .0) in
       let set = subst (λ q. Outcome (NextFits ad f base W H l P d q) (HeldNext ad f base W H l P d q)
       (settled ad f base W H (suc l) (q .level) (p .level) (at f W H l d p .set) x)) (o .is)
-      (settle-holds ad f base W H l P d (p .level) (at f W H l d p .set) (p .band) x level-le ready held) in
+      (work-due-holds ad f base W H l P d (p .level) (at f W H l d p .set) (p .band) x level-le ready held) in
       subst (λ q. Outcome (FeedDue ad f base W H (suc l) P k n (code c)) (FedHeld ad f base W H l P k n (code c))
       (bind (settled ad f base W H (suc l) (q .level) (p .level) (at f W H l d p .set) x) (fedOn ad f base W H (suc l) (q .level) (q .set) (q .band) v)))
       (sym (o .is))

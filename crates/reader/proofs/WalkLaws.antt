@@ -84,23 +84,23 @@ module _ (f : ℕ) (W H : Side) (L : ℕ) where
 
 module _ (ad f base : ℕ) (W H : Side) (L : ℕ) where
   -- ---- the sets on the way
-  pub settle-none : (to k n : ℕ) (x : ℕ → ℤ) → k ≤ to → passed x ≡ settled ad f base W H L to k n x
+  pub work-due-none : (to k n : ℕ) (x : ℕ → ℤ) → k ≤ to → passed x ≡ settled ad f base W H L to k n x
   unfolding settled
-  settle-none to zero n x h = refl
-  settle-none to (suc k) n x h = rw (le-ltb to (suc k) h)
+  work-due-none to zero n x h = refl
+  work-due-none to (suc k) n x h = rw (le-ltb to (suc k) h)
 
-  pub settle-failed : (to k n : ℕ) (x : ℕ → ℤ) → to < k → failed ≡ workedAt ad f base W H L (k - 1) n x → failed ≡ settled ad f base W H L to k n x
+  pub work-due-failed : (to k n : ℕ) (x : ℕ → ℤ) → to < k → failed ≡ workedAt ad f base W H L (k - 1) n x → failed ≡ settled ad f base W H L to k n x
   unfolding settled
-  settle-failed to zero n x h e = absurd (omega arith)
-  settle-failed to (suc k) n x h e =
+  work-due-failed to zero n x h e = absurd (omega arith)
+  work-due-failed to (suc k) n x h e =
       let i : suc k - 1 ≡ k = omega arith in
       rw (lt-ltb to (suc k) h) (bind-failed _ _ (e ∙ ap (λ (j : ℕ). workedAt ad f base W H L j n x) i))
 
-  pub settle-on : (to k n m : ℕ) (x y : ℕ → ℤ) → to < k → (0 < k - 1 → m ≡ waiting f H (k - 1) n) → passed y ≡ workedAt ad f base W H L (k - 1) n x →
+  pub work-due-on : (to k n m : ℕ) (x y : ℕ → ℤ) → to < k → (0 < k - 1 → m ≡ waiting f H (k - 1) n) → passed y ≡ workedAt ad f base W H L (k - 1) n x →
       settled ad f base W H L to (k - 1) m y ≡ settled ad f base W H L to k n x
   unfolding settled
-  settle-on to zero n m x y h w e = absurd (omega arith)
-  settle-on to (suc k) n m x y h w e =
+  work-due-on to zero n m x y h w e = absurd (omega arith)
+  work-due-on to (suc k) n m x y h w e =
       let i : suc k - 1 ≡ k = omega arith in
       rw (lt-ltb to (suc k) h, i)
       (same k (rw i at w) ∙ bind-passed _ (settled ad f base W H L to k (waiting f H k n)) y (e ∙ ap (λ (j : ℕ). workedAt ad f base W H L j n x) i))

@@ -114,8 +114,8 @@ levelQuestion f w h L k =
 unfoldable pub wantQuestion : Reader → ℕ
 wantQuestion s = ask (countsFit s) 1 0
 
--- the store x of n numbers; the run v of m numbers. 9, "not ended by 14?"; 8, "is a band row wanted?"; 13, "Feed: has the run exactly the wanted length?";
--- 7, "where it is asked after 13"
+-- the store x of n numbers; the run v of m numbers. 9, "Feed and draw of the reader: not ended by 14?", "asked before 8"; 8, "Feed: is a band row wanted?";
+-- 13, "Feed: has the run exactly the wanted length?"; 7, "feed, where it is asked after 13"
 unfoldable pub feedQuestion : Reader → ℕ → (ℕ → ℤ) → ℕ → (ℕ → ℤ) → ℕ
 feedQuestion s n x m v =
     ask (countsFit s) 1
@@ -127,7 +127,7 @@ feedQuestion s n x m v =
     (ask (fits (feeds s v x)) 14
     0))))))
 
--- the output area of m heights. 12: "Draw with a row to give: does the output area hold it?"
+-- the output area of m heights. 9 as above; 12: "Draw with a row to give: does the output area hold it?"
 unfoldable pub drawQuestion : Reader → ℕ → (ℕ → ℤ) → ℕ → ℕ
 drawQuestion s n x m =
     ask (countsFit s) 1

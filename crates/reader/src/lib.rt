@@ -289,7 +289,7 @@ impl Reader {
         let l = steps::own_level(self);
         let c = steps::own_band(self, l);
         if c < 4 {
-            return self.told(Next {
+            return self.want_for(Next {
                 spot: Spot {
                     level: self.level,
                     set: l.set,
@@ -298,7 +298,7 @@ impl Reader {
                 at: l,
             });
         }
-        self.told(walk::next_up(
+        self.want_for(walk::next_up(
             self.filter,
             self.x,
             self.width,
@@ -313,7 +313,7 @@ impl Reader {
     }
 
     // What is wanted, n being the row wanted if there is one.
-    fn told(self, n: Next) -> Wanted
+    fn want_for(self, n: Next) -> Wanted
         requires { ⌜ Due self n × (self .ended ≡ false) × (self .drawn < self .height) × Counts self ⌝ }
         ensures { λ r. ⌜ ofWanted r ≡ gives (wants self) ⌝ }
     {
@@ -372,7 +372,7 @@ impl Reader {
         if steps::feed_row(self, store, next, complete, run) {
             return Fed::Passed(self.moved(self.drawn, steps::spot_fed(self, next, complete)));
         }
-        Fed::Impossible(self.over(store))
+        Fed::Impossible(self.ending(store))
     }
 
     // A height row is drawn, if one can be. The questions are 1, 5, 9 and, with a row to give, 12 and 14.
@@ -417,10 +417,10 @@ impl Reader {
         if out.len() < self.width {
             return Drawn::Refused(12);
         }
-        if steps::settle_all(self, store) {
+        if steps::work_all_due(self, store) {
             return Drawn::Heights(self.width, self.hand_out(store, out));
         }
-        Drawn::Impossible(self.over(store))
+        Drawn::Impossible(self.ending(store))
     }
 
     // The height row that stands in the store, drawn, and the reader then.
@@ -470,7 +470,7 @@ impl Reader {
     }
 
     // The reader ended by 14: the needed part of the line store is zeroed, its other numbers stay.
-    pub fn over(self, store: &mut [i32]) -> Reader
+    pub fn ending(self, store: &mut [i32]) -> Reader
         requires { ⌜ Counts self × (needs self ≤ length (now store)) ⌝ }
         ensures { λ r. ⌜ r ≡ endedReader self ⌝ }
         ensures { λ _. ⌜ at (now (store .exit)) ≡ zeroed (needs self) (at (now (store .entry))) ⌝ }

@@ -238,7 +238,7 @@ fn spot_past(s: Reader, n: Next) -> Spot
 }
 
 // The sets that wait, down to the level of the row wanted, worked out; most often none does.
-fn settle(s: Reader, l: Level, store: &mut [i32], to: usize) -> bool
+fn work_due(s: Reader, l: Level, store: &mut [i32], to: usize) -> bool
     requires { ⌜ Counts s × Own s l × (to ≡ next s .level) × (storeBy (s .filter) (columns s) (s .levels) ≤ length (now store)) ⌝ }
     ensures { λ ok. ⌜ outcome ok (at (now (store .exit))) ≡ settles s (at (now (store .entry))) ⌝ }
     ensures { λ _. ⌜ Kept (storeBy (s .filter) (columns s) (s .levels)) (at (now (store .entry))) (at (now (store .exit))) ⌝ }
@@ -246,7 +246,7 @@ fn settle(s: Reader, l: Level, store: &mut [i32], to: usize) -> bool
     if s.level <= to {
         return true;
     }
-    walk::settle(
+    walk::work_due(
         s.admission,
         s.filter,
         s.stop,
@@ -270,7 +270,7 @@ fn feed_row(s: Reader, l: Level, store: &mut [i32], n: Next, complete: bool, run
     ensures { λ ok. ⌜ outcome ok (at (now (store .exit))) ≡ feeds s (at (now (run .entry))) (at (now (store .entry))) ⌝ }
     ensures { λ _. ⌜ Kept (storeBy (s .filter) (columns s) (s .levels)) (at (now (store .entry))) (at (now (store .exit))) ⌝ }
 {
-    if !settle(s, l, store, n.spot.level) {
+    if !work_due(s, l, store, n.spot.level) {
         return false;
     }
     let k = n.spot.level - 1;
@@ -307,7 +307,7 @@ fn feed_row(s: Reader, l: Level, store: &mut [i32], n: Next, complete: bool, run
 }
 
 // Where the reader is ended by 14: the needed part of the line store is zeroed.
-fn over(s: Reader, l: Level, store: &mut [i32]) -> Place
+fn ending(s: Reader, l: Level, store: &mut [i32]) -> Place
     requires { ⌜ Counts s × (needs s ≤ length (now store)) × Own s l ⌝ }
     ensures { λ p. ⌜ (readerAt s p ≡ endedReader s) × (p .ended ≡ true) × Own (readerAt s p) (p .at) ⌝ }
     ensures { λ _. ⌜ at (now (store .exit)) ≡ zeroed (needs s) (at (now (store .entry))) ⌝ }
@@ -361,7 +361,7 @@ pub fn feed(s: Reader, l: Level, store: &mut [i32], n: Next, run: &[i32]) -> Pla
     if feed_row(s, l, store, n, complete, run) {
         return place_past(s, n, complete);
     }
-    over(s, l, store)
+    ending(s, l, store)
 }
 
 // The height row that stands in the store, drawn, and where the reader is then.
@@ -392,8 +392,8 @@ pub fn draw(s: Reader, l: Level, store: &mut [i32], out: &mut [u16]) -> Place
         (needs s ≤ length (now store)) × (s .width ≤ length (now out)) ⌝ }
     ensures { λ p. ⌜ DrawnTo s (at (now (store .entry))) (at (now (store .exit))) (heightsAt (now (out .entry))) (heightsAt (now (out .exit))) p ⌝ }
 {
-    if settle(s, l, store, 0) {
+    if work_due(s, l, store, 0) {
         return hand_out(s, store, out);
     }
-    over(s, l, store)
+    ending(s, l, store)
 }

@@ -117,7 +117,7 @@ pub fn completes(s: Reader, n: Next) -> bool
 }
 
 // The sets that wait, down to the level of the row wanted, worked out; most often none does.
-pub fn settle(s: Reader, store: &mut [i32], to: usize) -> bool
+pub fn work_due(s: Reader, store: &mut [i32], to: usize) -> bool
     requires { ⌜ Counts s × (to ≡ next s .level) × (storeBy (s .filter) (columns s) (s .levels) ≤ length (now store)) ⌝ }
     ensures { λ ok. ⌜ outcome ok (at (now (store .exit))) ≡ settles s (at (now (store .entry))) ⌝ }
     ensures { λ _. ⌜ Kept (storeBy (s .filter) (columns s) (s .levels)) (at (now (store .entry))) (at (now (store .exit))) ⌝ }
@@ -125,7 +125,7 @@ pub fn settle(s: Reader, store: &mut [i32], to: usize) -> bool
     if s.level <= to {
         return true;
     }
-    walk::settle(
+    walk::work_due(
         s.admission,
         s.filter,
         s.stop,
@@ -143,7 +143,7 @@ pub fn settle(s: Reader, store: &mut [i32], to: usize) -> bool
 }
 
 // The same before a draw, where no row is wanted. A function of its own: each call then has its settling inside.
-pub fn settle_all(s: Reader, store: &mut [i32]) -> bool
+pub fn work_all_due(s: Reader, store: &mut [i32]) -> bool
     requires { ⌜ Counts s × (0 ≡ next s .level) × (storeBy (s .filter) (columns s) (s .levels) ≤ length (now store)) ⌝ }
     ensures { λ ok. ⌜ outcome ok (at (now (store .exit))) ≡ settles s (at (now (store .entry))) ⌝ }
     ensures { λ _. ⌜ Kept (storeBy (s .filter) (columns s) (s .levels)) (at (now (store .entry))) (at (now (store .exit))) ⌝ }
@@ -151,7 +151,7 @@ pub fn settle_all(s: Reader, store: &mut [i32]) -> bool
     if s.level == 0 {
         return true;
     }
-    walk::settle(
+    walk::work_due(
         s.admission,
         s.filter,
         s.stop,
@@ -175,7 +175,7 @@ pub fn feed_row(s: Reader, store: &mut [i32], n: Next, complete: bool, run: &[i3
     ensures { λ ok. ⌜ outcome ok (at (now (store .exit))) ≡ feeds s (at (now (run .entry))) (at (now (store .entry))) ⌝ }
     ensures { λ _. ⌜ Kept (storeBy (s .filter) (columns s) (s .levels)) (at (now (store .entry))) (at (now (store .exit))) ⌝ }
 {
-    if !settle(s, store, n.spot.level) {
+    if !work_due(s, store, n.spot.level) {
         return false;
     }
     let k = n.spot.level - 1;

@@ -317,7 +317,7 @@ pub fn work_at(
 }
 
 // The sets of the levels from `from`, at the set of l, down to above `to`, the coarsest first.
-pub fn settle(
+pub fn work_due(
     admission: usize,
     filter: usize,
     base: usize,

@@ -37,10 +37,10 @@ fn is_over(rewriting: Rewriting) -> bool
     round::is_over(part.kind, input.phase)
 }
 
-fn goes_on(run: Run) -> bool
+fn continues(run: Run) -> bool
     ensures { λ r. ⌜ r ≡ going (overAt (run .rewriting .part .kind) (run .rewriting .input .phase)) (run .outcome) ⌝ }
 {
-    round::goes_on(is_over(run.rewriting), run.outcome)
+    round::continues(is_over(run.rewriting), run.outcome)
 }
 
 // What is left of the chunk is fed.
@@ -98,7 +98,7 @@ fn all_rounds(
         outcome: round::start(),
     };
     let mut turns = u64::MAX;
-    while turns > 0 && goes_on(now) {
+    while turns > 0 && continues(now) {
         now = one_round(now, fd, name, chunk, row, out);
         turns -= 1;
     }

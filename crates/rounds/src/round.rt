@@ -136,7 +136,7 @@ pub fn is_whole(over: bool, outcome: Outcome) -> bool
 }
 
 // Whether there is another round.
-pub fn goes_on(over: bool, outcome: Outcome) -> bool
+pub fn continues(over: bool, outcome: Outcome) -> bool
     ensures { λ r. ⌜ r ≡ going over outcome ⌝ }
 {
     if has_failed(outcome) {

@@ -37,7 +37,7 @@ mendedPlane L W H q g z = flat W (mendedCell L W H q (cells W g) (cells W z))
 unfoldable pub stretchIn : ℕ → ℕ → ℕ → Bool
 stretchIn first n end = both (leb 1 n) (leb (first + n) end)
 
--- question 19: "if the rectangle is empty or leaves the map"
+-- question 19: "Refused: 19, after 5, if the rectangle is empty or leaves the map."
 unfoldable pub liesIn : Rectangle → ℕ → ℕ → Bool
 liesIn q W H = both (stretchIn (q .left) (q .width) W) (stretchIn (q .top) (q .height) H)
 

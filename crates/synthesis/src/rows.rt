@@ -10,8 +10,8 @@ use lifting::line;
 use lifting::pairs;
 use lifting::rows;
 use lifting::single;
-use nine_seven::line as ccsds_line;
-use nine_seven::rows as ccsds_rows;
+use nine_seven::line as nine_seven_line;
+use nine_seven::rows as nine_seven_rows;
 use wavelet::sizes;
 ghost use mathlib.Core.Path.{_≡_};
 ghost use Prim.Native.Nat.{_+_, _*_, _%_, _<_, _≤_, _^_};
@@ -49,7 +49,7 @@ fn unlift_line(line: &mut [i32], filter: usize, x: usize) -> u8
     if filter == 0 {
         return line::unlift(line, x);
     }
-    ccsds_line::unlift(line, x)
+    nine_seven_line::unlift(line, x)
 }
 
 // The row at q, even, by the high rows next to it; an only row stays.
@@ -66,7 +66,7 @@ pub fn undo_even(stretch: &mut [i32], filter: usize, w: usize, h: usize, y: usiz
         rows::unupdate_row(stretch, w, w, q % 4, a % 4, b % 4);
         return;
     }
-    ccsds_rows::unupdate_row(stretch, w, w, q % 8, a % 8, b % 8);
+    nine_seven_rows::unupdate_row(stretch, w, w, q % 8, a % 8, b % 8);
 }
 
 // The row at q, odd, by the even rows one place off, and for the 9/7 by those three places off.
@@ -82,7 +82,7 @@ pub fn undo_odd(stretch: &mut [i32], filter: usize, w: usize, h: usize, y: usize
     }
     let c = neighbours::row_before(h, y, 3, q);
     let e = neighbours::row_after(h, y, 3, q);
-    ccsds_rows::unpredict_row(stretch, w, w, q % 8, a % 8, b % 8, c % 8, e % 8);
+    nine_seven_rows::unpredict_row(stretch, w, w, q % 8, a % 8, b % 8, c % 8, e % 8);
 }
 
 // The even row of set n and the odd row before it, of the 5/3, rebuilt and tested in one pass.

@@ -1,9 +1,9 @@
 // The calls of `lifting` that the C interface leaves out, exported for the tests and the benchmark: the row calls, the pair calls, the in-place line calls,
 // and the line calls with a start. Each has `lifting`'s own promise. The library that a program links is `terrain`, not this.
-mod ccsds;
-mod ccsds_back;
-mod ccsds_columns;
-mod ccsds_level;
+mod nine_seven_back;
+mod nine_seven_columns;
+mod nine_seven_level;
+mod nine_seven_lines;
 
 use lifting::halves;
 use lifting::line;

@@ -22,8 +22,8 @@ use Rattle.writer.specs.declared.Writer.{Writer}
 use Rattle.writer.specs.declared.BandRow.{BandRow}
 use Rattle.progress.specs.declared.waits.Wait.{Wait}
 use Rattle.writer.specs.declared.closing.Closure.{Closure}
-use Rattle.writer.specs.declared.draws.Spot.{Spot}
-use Rattle.writer.specs.Closing.{Shut, shut}
+use Rattle.writer.specs.declared.draws.PlacedRow.{PlacedRow}
+use Rattle.writer.specs.Closing.{Flushed, flush}
 use Rattle.progress.specs.Counts.{startOf}
 use Rattle.writer.specs.Taking.{kind, columnsOf, Taking, none, takes, complete, rowMakes}
 use Rattle.writer.specs.Spare.{spareAt, movedRow, moving, movedOn}
@@ -31,13 +31,13 @@ use Rattle.analysis.specs.Forward.{heightsPut}
 use Rattle.analysis.proofs.ForwardLaws.{height-none}
 use Rattle.writer.specs.SpareSteps.{Holder, Moved}
 use Rattle.writer.specs.Questions.{either, inRanges, longEnough, waitingRow, known, setUpQuestion, rowsTaken, offerQuestion, drawQuestion, finishQuestion}
-use Rattle.writer.specs.Gate.{stateQuestion}
+use Rattle.writer.specs.FirstQuestions.{stateQuestion}
 use Rattle.writer.specs.Answers.{Handed, aRow, nothing}
 use Rattle.writer.specs.Calls.{fresh, setUpReply, setUpStore, waits, closing, finishReply}
-use Rattle.writer.specs.Calls.{finishStore, resumed, pulled, afterDraw, drawnOn, bandRow, handed}
+use Rattle.writer.specs.Calls.{finishStore, resumed, advanced, afterDraw, drawnOn, bandRow, handed}
 use Rattle.writer.specs.Calls.{handedStore, handedArea, drawReply, drawStore, drawArea}
 use Rattle.writer.specs.Steps.{Room, Left, Walk, Found, Closed, Drawable, Drew, Spares, DrewOn}
-use Rattle.writer.proofs.GateLaws.{known-filter, Sound, sound, state-no, state-yes, taken-open}
+use Rattle.writer.proofs.QuestionLaws.{known-filter, Sound, sound, state-no, state-yes, taken-open}
 use Rattle.level.specs.Level.{Memory, rest}
 
 -- ---- by the number of the question
@@ -134,7 +134,7 @@ module _ (s : Writer) (n : ℕ) where
       )
 
 -- ---- finish
-pub waits-same : (f : Bool) (s : Writer) (r : Shut) (c v i o : ℕ) → c ≡ r .closed → v ≡ r .out .level → i ≡ r .out .left →
+pub waits-same : (f : Bool) (s : Writer) (r : Flushed) (c v i o : ℕ) → c ≡ r .closed → v ≡ r .out .level → i ≡ r .out .left →
     o ≡ startOf (s .filter) (columnsOf s) (r .out .level) →
     record {
       x = s .x;
@@ -158,7 +158,7 @@ module _ (s : Writer) (n q : ℕ) (x : Memory) (e : q ≡ finishQuestion s n) wh
   finish-no h = rw (← e) (unless-no q _ h, changed-no q _ x h)
 
   pub finish-yes : (r : Closure) (y : Memory) → q ≡ 0 →
-      Closed (s .filter) (s .levels) (columnsOf s) (shut (kind s) (s .levels) (columnsOf s) (s .y) 0 (s .rows) x) r y →
+      Closed (s .filter) (s .levels) (columnsOf s) (flush (kind s) (s .levels) (columnsOf s) (s .y) 0 (s .rows) x) r y →
       (gives (record {
         x = s .x;
         y = s .y;
@@ -198,26 +198,26 @@ pub sound-spares : (s : Writer) (n : ℕ) → Sound s n → 0 < s .level → Spa
 sound-spares s n f h = record { sized = f .sized; row = f .spare; room = f .whole; may = λ p. f .may h p .1 }
 
 -- ---- what a draw leaves
-module _ (s : Writer) (x y : Memory) (r : Wait) (l : Left (s .filter) (s .levels) (columnsOf s) (pulled s x) r y) where
-  resumed-open : (f : Bool) (v : ℕ) → f ≡ false → resumed f s (pulled s x) v ≡ record { closed = s .closed; out = pulled s x }
+module _ (s : Writer) (x y : Memory) (r : Wait) (l : Left (s .filter) (s .levels) (columnsOf s) (advanced s x) r y) where
+  resumed-open : (f : Bool) (v : ℕ) → f ≡ false → resumed f s (advanced s x) v ≡ record { closed = s .closed; out = advanced s x }
   unfolding resumed
   resumed-open false v e = refl
   resumed-open true v e = let z : _≡_ {A = ℕ} 0 1 = cc in absurd (omega arith)
 
-  resumed-waits : (f : Bool) (v : ℕ) → f ≡ true → 0 < v → resumed f s (pulled s x) v ≡ record { closed = s .closed; out = pulled s x }
+  resumed-waits : (f : Bool) (v : ℕ) → f ≡ true → 0 < v → resumed f s (advanced s x) v ≡ record { closed = s .closed; out = advanced s x }
   unfolding resumed
   resumed-waits false v e h = let z : _≡_ {A = ℕ} 0 1 = cc in absurd (omega arith)
   resumed-waits true zero e h = absurd (omega arith)
   resumed-waits true (suc v) e h = refl
 
-  resumed-closes : (f : Bool) (v : ℕ) → f ≡ true → v ≡ 0 → resumed f s (pulled s x) v ≡ shut (kind s) (s .levels) (columnsOf s) (s .y) (s .closed) (s .rows)
-      (pulled s x .store)
+  resumed-closes : (f : Bool) (v : ℕ) → f ≡ true → v ≡ 0 → resumed f s (advanced s x) v ≡ flush (kind s) (s .levels) (columnsOf s) (s .y) (s .closed) (s .rows)
+      (advanced s x .store)
   unfolding resumed
   resumed-closes false v e h = let z : _≡_ {A = ℕ} 0 1 = cc in absurd (omega arith)
   resumed-closes true zero e h = refl
   resumed-closes true (suc v) e h = absurd (omega arith)
 
-  drew : (c v i o : ℕ) (z : Memory) (q : Shut) → afterDraw s x ≡ q → c ≡ q .closed → v ≡ q .out .level → i ≡ q .out .left →
+  drew : (c v i o : ℕ) (z : Memory) (q : Flushed) → afterDraw s x ≡ q → c ≡ q .closed → v ≡ q .out .level → i ≡ q .out .left →
       o ≡ startOf (s .filter) (columnsOf s) (q .out .level) → z ≡ q .out .store →
       Drew s x (record {
         x = s .x;
@@ -236,7 +236,7 @@ module _ (s : Writer) (x y : Memory) (r : Wait) (l : Left (s .filter) (s .levels
   drew c v i o z q e a b d k g = record {
     writer = waits-same (s .finished) s q c v i o a b d k ∙ ap (waits (s .finished) s) (sym e);
     store = g
-        ∙ ap (λ (q : Shut). q .out .store) (sym e);
+        ∙ ap (λ (q : Flushed). q .out .store) (sym e);
   }
 
   pub drew-open : s .finished ≡ false →
@@ -254,7 +254,7 @@ module _ (s : Writer) (x y : Memory) (r : Wait) (l : Left (s .filter) (s .levels
         offset = r .offset;
         filter = s .filter;
       }) y
-  drew-open e = drew (s .closed) (r .level) (r .left) (r .offset) y _ (resumed-open (s .finished) (pulled s x .level) e) refl (l .level) (l .left)
+  drew-open e = drew (s .closed) (r .level) (r .left) (r .offset) y _ (resumed-open (s .finished) (advanced s x .level) e) refl (l .level) (l .left)
       (l .offset) (l .store)
 
   pub drew-waits : s .finished ≡ true → 0 < r .level →
@@ -272,11 +272,11 @@ module _ (s : Writer) (x y : Memory) (r : Wait) (l : Left (s .filter) (s .levels
         offset = r .offset;
         filter = s .filter;
       }) y
-  drew-waits e h = drew (s .closed) (r .level) (r .left) (r .offset) y _ (resumed-waits (s .finished) (pulled s x .level) e
+  drew-waits e h = drew (s .closed) (r .level) (r .left) (r .offset) y _ (resumed-waits (s .finished) (advanced s x .level) e
       (omega (arith, l .level))) refl (l .level) (l .left) (l .offset) (l .store)
 
   pub drew-closes : (q : Closure) (z : Memory) → s .finished ≡ true → r .level ≡ 0 →
-      Closed (s .filter) (s .levels) (columnsOf s) (shut (kind s) (s .levels) (columnsOf s) (s .y) (s .closed) (s .rows) y) q z →
+      Closed (s .filter) (s .levels) (columnsOf s) (flush (kind s) (s .levels) (columnsOf s) (s .y) (s .closed) (s .rows) y) q z →
       Drew s x (record {
         x = s .x;
         y = s .y;
@@ -293,7 +293,7 @@ module _ (s : Writer) (x y : Memory) (r : Wait) (l : Left (s .filter) (s .levels
       }) z
   drew-closes q z e h f =
       let g = rw (l .store) at f in
-      drew (q .closed) (q .wait .level) (q .wait .left) (q .wait .offset) z _ (resumed-closes (s .finished) (pulled s x .level) e (sym (l .level) ∙ h))
+      drew (q .closed) (q .wait .level) (q .wait .left) (q .wait .offset) z _ (resumed-closes (s .finished) (advanced s x .level) e (sym (l .level) ∙ h))
       (g .closed) (g .left .level) (g .left .left) (g .left .offset) (g .left .store)
 
 -- ---- its heights move on: part of a row, a whole one
@@ -408,9 +408,9 @@ module _ (s : Writer) (n k q : ℕ) (x z : Memory) (e : q ≡ stateQuestion s n)
   pub draw-nothing : q ≡ 0 → s .level ≡ 0 → (gives nothing ≡ drawReply s n k x) × (x ≡ drawStore s n k x) × (z ≡ drawArea s n k x z)
   draw-nothing y h = let t = handed-none s x z (s .level) h in passes nothing x z (draw-none s n k (sym e ∙ y) h) (t .0) (t .1) (t .2)
 
-  module _ (r : Spot) (f : Found (s .filter) (s .levels) (columnsOf s) (waitingRow s) r) (y : q ≡ 0) (h : 0 < s .level) where
+  module _ (r : PlacedRow) (f : Found (s .filter) (s .levels) (columnsOf s) (waitingRow s) r) (y : q ≡ 0) (h : 0 < s .level) where
     long : r .length ≡ waitingRow s .length
-    long = ap (λ (r : Spot). r .length) (f .spot)
+    long = ap (λ (r : PlacedRow). r .length) (f .spot)
 
     pub draw-no-room : k < r .length → (refused 12 ≡ drawReply s n k x) × (x ≡ drawStore s n k x) × (z ≡ drawArea s n k x z)
     draw-no-room g = refuses 12 (draw-short s n k (sym e ∙ y) h (omega (arith, long))) (omega arith)
@@ -421,8 +421,8 @@ module _ (s : Writer) (n k q : ℕ) (x z : Memory) (e : q ≡ stateQuestion s n)
     draw-row v x′ z′ g ez d =
         let t = handed-row s x z (s .level) h in
         let b : _≡_ {A = BandRow} (record { level = r .level; band = r .band; row = r .row; length = r .length }) (bandRow (waitingRow s)) = ap
-        (λ (r : Spot). record { level = r .level; band = r .band; row = r .row; length = r .length }) (f .spot) in
+        (λ (r : PlacedRow). record { level = r .level; band = r .band; row = r .row; length = r .length }) (f .spot) in
         let a : fronted (r .length) (rest (r .start) x) z ≡ fronted (waitingRow s .length) (rest (waitingRow s .start) x) z = ap
-        (λ (r : Spot). fronted (r .length) (rest (r .start) x) z) (f .spot) in
+        (λ (r : PlacedRow). fronted (r .length) (rest (r .start) x) z) (f .spot) in
         passes _ x′ z′ (draw-long s n k (sym e ∙ y) h (omega (arith, long)))
         (ap (λ (b : BandRow). aRow b v) b ∙ ap (aRow (bandRow (waitingRow s))) (d .writer) ∙ t .0) (d .store ∙ t .1) (ez ∙ a ∙ t .2)

@@ -36,8 +36,8 @@ use Rattle.analysis.specs.Forward.{kindOf, heldOf, endedOf}
 use Rattle.analysis.proofs.ForwardLaws.{laws-of}
 use Rattle.progress.specs.Counts.{mostLeft, startOf}
 use Rattle.writer.specs.Machine.{Out, arrive}
-use Rattle.writer.specs.Draws.{Waiting, waiting, pull}
-use Rattle.writer.specs.Closing.{Shut, shut}
+use Rattle.writer.specs.Draws.{Waiting, waiting, advance}
+use Rattle.writer.specs.Closing.{Flushed, flush}
 use Rattle.writer.specs.Taking.{Taking, takes, offering}
 use Rattle.writer.specs.Questions.{inRanges}
 use Rattle.writer.specs.Calls.{resumed, bandRow}
@@ -45,8 +45,8 @@ use Rattle.writer.specs.Holds.{Holds}
 use Rattle.writer.specs.History.{DrawnRow}
 use Rattle.writer.specs.Demand3.{answered, isNone}
 use Rattle.writer.proofs.Waiting.{pend, later, pend-none, later-all, later-none}
-use Rattle.writer.proofs.CascadeHolds.{Good, Pulled, level-le, closed-le}
-use Rattle.writer.proofs.StateHolds.{differ, st, fresh-holds, pulled-by, shut-on, draw-holds, shut-first, finish-holds, begun-holds, arrived-by}
+use Rattle.writer.proofs.CascadeHolds.{Good, Advanced, level-le, closed-le}
+use Rattle.writer.proofs.StateHolds.{differ, st, fresh-holds, advanced-by, flush-on, draw-holds, flush-first, finish-holds, begun-holds, arrived-by}
 use Rattle.writer.proofs.StateHolds.{complete-holds}
 use Rattle.level.specs.Level.{Memory, LevelKind, Meaning, Ending}
 
@@ -312,8 +312,8 @@ module _ (φ : ℕ) where
         s : Sound L W top (own-height f r) (own W ts) f ds r c cl (suc v) i x
         s = own-sound a
 
-        P : Pulled K Held Ended laws L 1 W (side top (own-height f r)) (own W ts) cl v i r x
-        P = pulled-by φ _ _ W top L r c f cl v i x (s .holds)
+        P : Advanced K Held Ended laws L 1 W (side top (own-height f r)) (own W ts) cl v i r x
+        P = advanced-by φ _ _ W top L r c f cl v i x (s .holds)
 
         go : (t : Bool) → isNone (coming L W top t cl (suc v) i r) ≡ false
         go false = ap isNone (coming-open L W top cl (suc v) i r ∙ P .first)
@@ -437,17 +437,17 @@ module _ (φ : ℕ) where
       q = waiting K L W top cl (suc v) i r
 
       abbrev out : Out
-      out = pull K L W top cl (suc v) i r x
+      out = advance K L W top cl (suc v) i r x
 
-      abbrev left : Shut
+      abbrev left : Flushed
       left = resumed f (st φ W top L r c f cl (suc v) i) out (out .level)
 
       module _ (H : ℕ) (g : Grid) (t : Fits W H g ts f) where
         abbrev s : Sound L W top H g f ds r c cl (suc v) i x
         s = a .sound H g t
 
-        P : Pulled K Held Ended laws L 1 W (side top H) g cl v i r x
-        P = pulled-by φ H g W top L r c f cl v i x (s .holds)
+        P : Advanced K Held Ended laws L 1 W (side top H) g cl v i r x
+        P = advanced-by φ H g W top L r c f cl v i x (s .holds)
 
         abbrev name : RowName
         name = rowName (1 + P .depth) (q .band) (q .row)
@@ -478,10 +478,10 @@ module _ (φ : ℕ) where
                 coming L W top true (k .closed) (k .out .level) (k .out .left) r ≡ P .todo ++ later A L 1 W (side top r) cl)
             go zero y =
                 unfold resumed in
-                (let k : Shut = shut K L W top cl r (out .store) in
+                (let k : Flushed = flush K L W top cl r (out .store) in
                 coming-closed L W top _ _ _ r
                 ∙ ap (λ m. pend A L 1 W top (k .closed) (k .out .level) (k .out .left) r ++ later A L 1 W (side top m) (k .closed)) ended
-                ∙ shut-on φ H g W top L r c cl v i x h y .rows
+                ∙ flush-on φ H g W top L r c cl v i x h y .rows
                 ∙ ap (λ m. later A L 1 W (side top m) cl) (sym ended)
                 ∙ ap (λ l. l ++ later A L 1 W (side top r) cl)
                 (sym (sym (P .good .rows) ∙ ap (λ b. pend A L 1 W top cl b (out .left) r) y ∙ pend-none A L 1 W top cl (out .left) r)))
@@ -532,8 +532,8 @@ module _ (φ : ℕ) where
 
     -- ---- the finish
     module _ (ts : List ℕ) (r c cl v i : ℕ) (x : Memory) (a : At L W top ts false ds r c cl v i x) (z : v ≡ 0) (p : 0 < r) (n : c ≡ 0) where
-      abbrev k : Shut
-      k = shut K L W top 0 r x
+      abbrev k : Flushed
+      k = flush K L W top 0 r x
 
       made-whole : (names : List RowName) → names ++ coming L W top false cl v i r ≡ made A W top L r false → (l : List RowName) →
           l ≡ closing A L 1 W (side top r) → names ++ l ≡ made A W top L r true
@@ -554,7 +554,7 @@ module _ (φ : ℕ) where
                 made-whole (s .names) (s .order) _
                 (coming-closed L W top (k .closed) (k .out .level) (k .out .left) r
                 ∙ ap (λ m. pend A L 1 W top (k .closed) (k .out .level) (k .out .left) r ++ later A L 1 W (side top m) (k .closed)) e
-                ∙ shut-first φ H g W top L r c cl v i x (s .holds) z p n e .rows
+                ∙ flush-first φ H g W top L r c cl v i x (s .holds) z p n e .rows
                 ∙ later-none A L 1 W (side top H) ahead-some
                 ∙ ap (λ m. closing A L 1 W (side top m)) (sym e));
             values = s .values;

@@ -30,8 +30,8 @@ use Rattle.analysis.proofs.ForwardLaws.{height-more, height-none}
 use Rattle.writer.specs.declared.Writer.{Writer}
 use Rattle.writer.specs.declared.BandRow.{BandRow}
 use Rattle.writer.specs.Machine.{Out, arrive}
-use Rattle.writer.specs.Draws.{Waiting, pull}
-use Rattle.writer.specs.Closing.{Shut}
+use Rattle.writer.specs.Draws.{Waiting, advance}
+use Rattle.writer.specs.Closing.{Flushed}
 use Rattle.writer.specs.Taking.{kind, columnsOf, Taking, takes, atColumn, offering}
 use Rattle.writer.specs.Spare.{spareAt, spareRoom, holding, movedRow, moving, movedOn}
 use Rattle.writer.specs.Questions.{setUpQuestion, waitingRow, offerQuestion, drawQuestion, finishQuestion}
@@ -42,7 +42,7 @@ use Rattle.writer.specs.Calls.{handedArea, drawReply, drawStore, drawAre
 use Rattle.writer.specs.Holds.{begunCount, spareCount, Holds, Stands, Keeps, AnyMap, GoesOn}
 use Rattle.writer.specs.Holds.{MapRow, left, after, tookOf, DrawKeeps, FinishKeeps, OfferKeeps, SetUpHolds}
 use Rattle.progress.proofs.CountLaws.{code-one}
-use Rattle.writer.proofs.StateHolds.{st, placed-st, fresh-st, fresh-holds, pulled-by, draw-holds, finish-holds, begun-holds, complete-holds}
+use Rattle.writer.proofs.StateHolds.{st, placed-st, fresh-st, fresh-holds, advanced-by, draw-holds, finish-holds, begun-holds, complete-holds}
 use Rattle.writer.proofs.CallList.{rows-of, column-of, rows-below}
 use Rattle.writer.proofs.CallLaws.{offer-sound, draw-sound, finish-may, offer-may}
 use Rattle.writer.proofs.AtReads.{holds-reads}
@@ -156,7 +156,7 @@ handed-stands : (φ H : ℕ) (g : Grid) (W : Side) (top L r c : ℕ) (f : Bool) 
 handed-stands φ H g W top zero r c f cl v i x deep some few may h = absurd (omega arith)
 handed-stands φ H g W top (suc l) r c f cl zero i x deep some few may h = h
 handed-stands φ H g W top (suc l) r c f cl (suc v) i x deep some few may h =
-    subst (λ (R : Shut). let k = movedOn (R .out .level) (waits f (st φ W top (suc l) r c f cl (suc v) i) R) (R .out .store) in
+    subst (λ (R : Flushed). let k = movedOn (R .out .level) (waits f (st φ W top (suc l) r c f cl (suc v) i) R) (R .out .store) in
     Stands H g (k .writer) (k .store))
     (any f (out .level))
     (on-stands φ H g W top l r c f (R₀ .closed) (R₀ .out .left) (R₀ .out .store) (R₀ .out .level) few some
@@ -167,9 +167,9 @@ handed-stands φ H g W top (suc l) r c f cl (suc v) i x deep some few may h =
     s₀ = st φ W top (suc l) r 0 f cl (suc v) i
 
     out : Out
-    out = pull (kindOf φ) (suc l) W top cl (suc v) i r x
+    out = advance (kindOf φ) (suc l) W top cl (suc v) i r x
 
-    R₀ : Shut
+    R₀ : Flushed
     R₀ = resumed f s₀ out (out .level)
 
     any : (b : Bool) (u : ℕ) → resumed b s₀ out u ≡ resumed b (st φ W top (suc l) r c f cl (suc v) i) out u
@@ -200,7 +200,7 @@ draw-values s x H g h p = go (s .level) (subst (λ t. Holds H g t x) (placed-st 
         (waitingRow s′ .level) (waitingRow s′ .band) (waitingRow s′ .row) i)
     go zero h p i b = absurd (omega arith)
     go (suc v) h p i b =
-        let P = pulled-by (s .filter) H g (columnsOf s) (s .y) (s .levels) (s .rows) (s .column) (s .finished) (s .closed) v (s .left) x h in
+        let P = advanced-by (s .filter) H g (columnsOf s) (s .y) (s .levels) (s .rows) (s .column) (s .finished) (s .closed) v (s .left) x h in
         let q : Waiting = waitingRow (st (s .filter) (columnsOf s) (s .y) (s .levels) (s .rows) (s .column) (s .finished) (s .closed) (suc v) (s .left)) in
         P .is .values i b ∙ ap (λ k. levelBand (filterOf (s .filter)) wrap32 (columnsOf s) (side (s .y) H) g k (q .band) (q .row) i) (sym (P .is .level-is))
 

@@ -2,8 +2,8 @@
 -- grid g of the rows H.
 --     cell-good     a number of the row begun
 --     arrive-good   a row is complete
---     pull-good     a row is drawn
---     shut-good     levels close
+--     advance-good     a row is drawn
+--     flush-good     levels close
 -- Assumes nothing.
 use mathlib.Core.Bool.{Bool, true, false}
 use mathlib.Core.Path.{_≡_, refl, sym, ap, ap₂, subst, subst₂, _∙_, fun-ext}
@@ -32,13 +32,13 @@ use Rattle.level.proofs.RestLaws.{rest-join, join-below}
 use Rattle.level.proofs.LevelLaws.{LevelLaws}
 use Rattle.progress.specs.Counts.{deeper, made, lowRows, most, mostLeft, bandAt, skip}
 use Rattle.writer.specs.Machine.{Out, still, under, passed, settled, arrived, arrive, passOn}
-use Rattle.writer.specs.Draws.{Waiting, lower, waiting, pull}
-use Rattle.writer.specs.Closing.{Shut, stepped, onward, closeStep, closeLevel, shut}
+use Rattle.writer.specs.Draws.{Waiting, lower, waiting, advance}
+use Rattle.writer.specs.Closing.{Flushed, stepped, onward, closeStep, closeLevel, flush}
 use Rattle.writer.specs.Holds.{below, LevelHolds, SetWaits, LevelsHold}
-use Rattle.progress.proofs.CountLaws.{left-first, left-under, left-next, made-is, made-open, made-shut, made-most, made-step, made-stop, low-shut}
+use Rattle.progress.proofs.CountLaws.{left-first, left-under, left-next, made-is, made-open, made-closed, made-most, made-step, made-stop, low-closed}
 use Rattle.progress.proofs.CountLaws.{low-none, completes-set, completes-no}
 use Rattle.writer.proofs.Waiting.{lasts, lasts-most, rows-yes, skip-rows, skip-has, skip-le, onwards, pend, later, pend-none, pend-under, later-step}
-use Rattle.writer.proofs.Waiting.{later-still, later-empty, later-shut, made-still, made-set}
+use Rattle.writer.proofs.Waiting.{later-still, later-empty, later-closed, made-still, made-set}
 
 -- ---- the store from a place on
 pub rest-same : (a : ℕ) (x y : Memory) → ((j : ℕ) → a ≤ j → y j ≡ x j) → rest a y ≡ rest a x
@@ -439,20 +439,20 @@ module _ (K : LevelKind) (Held : Meaning) (Ended : Ending) (laws : LevelLaws K H
   closed-le (suc l) W H g c v i m j x s = let h = closed-le l _ _ _ (c - A) _ i _ 0 _ (s .2) in omega (arith, mul-suc A l)
 
   -- ---- a row is drawn
-  pub record Pulled (L k : ℕ) (W H : Side) (g : Grid) (c v i m : ℕ) (x : Memory) : Type 0 where
+  pub record Advanced (L k : ℕ) (W H : Side) (g : Grid) (c v i m : ℕ) (x : Memory) : Type 0 where
     pub depth : ℕ
     pub deep : depth < L
     pub todo : List RowName
     pub is : IsRow (K .filter) W H g (waiting K L W (H .start) c (suc v) i m) depth x
     pub first : pend A L k W (H .start) c (suc v) i m ≡ rowName (k + depth) (waiting K L W (H .start) c (suc v) i m .band)
         (waiting K L W (H .start) c (suc v) i m .row) ∷ todo
-    pub good : Good L k W H g c m (pull K L W (H .start) c (suc v) i m x) todo
+    pub good : Good L k W H g c m (advance K L W (H .start) c (suc v) i m x) todo
 
-  pull-here : (l k : ℕ) (W H : Side) (g : Grid) (c i m j : ℕ) (x : Memory) → i ≤ mostLeft (suc l) 1 → j ≡ 0 → Inv (suc l) W H g c 1 i m j x →
-      Pulled (suc l) k W H g c 0 i m x
-  unfolding LevelsHold SetWaits waiting pull pend below
-  pull-here l k W H g c zero m j x f z v = let e : 1 ≤ 0 = v .1 .some-left in absurd (omega arith)
-  pull-here l k W H g c (suc i) m j x f z v = record {
+  advance-here : (l k : ℕ) (W H : Side) (g : Grid) (c i m j : ℕ) (x : Memory) → i ≤ mostLeft (suc l) 1 → j ≡ 0 → Inv (suc l) W H g c 1 i m j x →
+      Advanced (suc l) k W H g c 0 i m x
+  unfolding LevelsHold SetWaits waiting advance pend below
+  advance-here l k W H g c zero m j x f z v = let e : 1 ≤ 0 = v .1 .some-left in absurd (omega arith)
+  advance-here l k W H g c (suc i) m j x f z v = record {
     depth = 0;
     deep = omega arith;
     todo = rowsOf k W M n (lasts i) ++ later-rows;
@@ -497,14 +497,14 @@ module _ (K : LevelKind) (Held : Meaning) (Ended : Ending) (laws : LevelLaws K H
       row-there : setRow M b n < count (down b) H
       row-there = omega (arith, has .1, count-up (down b) (H .start) m (H .length) (here-le W H g c m j x (v .0)))
 
-  pub pull-good : (L k : ℕ) (W H : Side) (g : Grid) (c v i m j : ℕ) (x : Memory) → i ≤ mostLeft L (suc v) → j ≡ 0 → Inv L W H g c (suc v) i m j x →
-      Pulled L k W H g c v i m x
-  unfolding LevelsHold waiting pull pend below next
-  pull-good zero k W H g c v i m j x f z s = let e : suc v ≡ 0 = s .1 in absurd (omega arith)
-  pull-good (suc l) k W H g c zero i m j x f z s = pull-here l k W H g c i m j x f z s
-  pull-good (suc l) k W H g c (suc v) i m j x f z s =
+  pub advance-good : (L k : ℕ) (W H : Side) (g : Grid) (c v i m j : ℕ) (x : Memory) → i ≤ mostLeft L (suc v) → j ≡ 0 → Inv L W H g c (suc v) i m j x →
+      Advanced L k W H g c v i m x
+  unfolding LevelsHold waiting advance pend below next
+  advance-good zero k W H g c v i m j x f z s = let e : suc v ≡ 0 = s .1 in absurd (omega arith)
+  advance-good (suc l) k W H g c zero i m j x f z s = advance-here l k W H g c i m j x f z s
+  advance-good (suc l) k W H g c (suc v) i m j x f z s =
       let m′ : ℕ = lowRows (H .start) (made A c (H .start) m) in
-      let r = pull-good l (suc k) (next W) (next H) (lowMap W H g) (c - A) v i m′ 0 (rest (K .stretch W) x)
+      let r = advance-good l (suc k) (next W) (next H) (lowMap W H g) (c - A) v i m′ 0 (rest (K .stretch W) x)
       (omega (arith, left-next l v)) refl (s .2) in
       let q : Waiting = waiting K l (next W) (next H .start) (c - A) (suc v) i m′ in
       record {
@@ -530,17 +530,17 @@ module _ (K : LevelKind) (Held : Meaning) (Ended : Ending) (laws : LevelLaws K H
   here-next W H g c m x e h = (e, refl, h)
 
   -- after all its steps it stays as it is
-  here-shut : (W H : Side) (g : Grid) (c b m : ℕ) (x : Memory) → A ≤ c → A ≤ b → Here W H g c m 0 x → Here W H g b m 0 x
+  here-closed : (W H : Side) (g : Grid) (c b m : ℕ) (x : Memory) → A ≤ c → A ≤ b → Here W H g c m 0 x → Here W H g b m 0 x
   unfolding LevelHolds
-  here-shut W H g zero b m x p q v = absurd (omega (arith, ahead-some))
-  here-shut W H g (suc c) zero m x p q v = absurd (omega (arith, ahead-some))
-  here-shut W H g (suc c) (suc b) m x p q v = (
+  here-closed W H g zero b m x p q v = absurd (omega (arith, ahead-some))
+  here-closed W H g (suc c) zero m x p q v = absurd (omega (arith, ahead-some))
+  here-closed W H g (suc c) (suc b) m x p q v = (
     v .0,
     refl,
-    λ r. subst (λ a. Ended W H g a x) (made-shut A (suc c) (H .start) m ahead-some p ∙ sym (made-shut A (suc b) (H .start) m ahead-some q)) (v .2 r),
+    λ r. subst (λ a. Ended W H g a x) (made-closed A (suc c) (H .start) m ahead-some p ∙ sym (made-closed A (suc b) (H .start) m ahead-some q)) (v .2 r),
   )
 
-  pub record Closed (L k : ℕ) (W H : Side) (g : Grid) (c m : ℕ) (r : Shut) : Type 0 where
+  pub record Closed (L k : ℕ) (W H : Side) (g : Grid) (c m : ℕ) (r : Flushed) : Type 0 where
     pub inv : Inv L W H g (r .closed) (r .out .level) (r .out .left) m 0 (r .out .store)
     pub rows : pend A L k W (H .start) (r .closed) (r .out .level) (r .out .left) m ++ later A L k W H (r .closed) ≡ later A L k W H c
     pub all : r .out .level ≡ 0 → r .closed ≡ A * L
@@ -666,7 +666,7 @@ module _ (K : LevelKind) (Held : Meaning) (Ended : Ending) (laws : LevelLaws K H
           ]
 
     -- ---- the steps from step c on
-    pub record LevelClosed (c : ℕ) (r : Shut) : Type 0 where
+    pub record LevelClosed (c : ℕ) (r : Flushed) : Type 0 where
       pub inv : Inv (suc l) W H g (r .closed) (r .out .level) (r .out .left) m 0 (r .out .store)
       pub rows : pend A (suc l) k W (H .start) (r .closed) (r .out .level) (r .out .left) m ++ later A (suc l) k W H (r .closed) ≡ later A (suc l) k W H c
       pub done : r .out .level ≡ 0 → r .closed ≡ A + (c - A)
@@ -713,28 +713,28 @@ module _ (K : LevelKind) (Held : Meaning) (Ended : Ending) (laws : LevelLaws K H
     }
     steps-good (suc f) c i x h v = steps-more f c i x (omega arith) v (λ i x u. steps-good f (suc c) i x (omega arith) u)
 
-  abbrev Shuts : ℕ → Type 0
-  Shuts L = (k : ℕ) (W H : Side) (g : Grid) (c m i : ℕ) (x : Memory) → m ≡ H .length → Inv L W H g c 0 i m 0 x →
-      Closed L k W H g c m (shut K L W (H .start) c m x)
+  abbrev Flushes : ℕ → Type 0
+  Flushes L = (k : ℕ) (W H : Side) (g : Grid) (c m i : ℕ) (x : Memory) → m ≡ H .length → Inv L W H g c 0 i m 0 x →
+      Closed L k W H g c m (flush K L W (H .start) c m x)
 
   -- the rows of the level below, once this one is closed
   next-rows : (H : Side) (m : ℕ) → m ≡ H .length → count lo (side (H .start) m) ≡ next H .length
   next-rows H m e = ap (λ a. count lo (side (H .start) a)) e ∙ sym (next-length H)
 
   -- ---- the level is closed: those below it close
-  module _ (l : ℕ) (ih : Shuts l) (k : ℕ) (W H : Side) (g : Grid) (c m : ℕ) (e : m ≡ H .length) (r : Shut) (d : LevelClosed l k W H g m e c r)
+  module _ (l : ℕ) (ih : Flushes l) (k : ℕ) (W H : Side) (g : Grid) (c m : ℕ) (e : m ≡ H .length) (r : Flushed) (d : LevelClosed l k W H g m e c r)
       (z : r .out .level ≡ 0) where
     abbrev T : ℕ
     T = K .stretch W
 
-    abbrev f : Memory → Shut
-    f = shut K l (next W) ((H .start + 1) / 2) (c - A) (count lo (side (H .start) m))
+    abbrev f : Memory → Flushed
+    f = flush K l (next W) ((H .start + 1) / 2) (c - A) (count lo (side (H .start) m))
 
-    abbrev q : Shut
+    abbrev q : Flushed
     q = f (rest T (r .out .store))
 
-    shut-now : A ≤ r .closed
-    shut-now = omega (arith, d .done z)
+    flush-now : A ≤ r .closed
+    flush-now = omega (arith, d .done z)
 
     same : r .closed - A ≡ c - A
     same = omega (arith, d .done z)
@@ -749,11 +749,11 @@ module _ (K : LevelKind) (Held : Meaning) (Ended : Ending) (laws : LevelLaws K H
     unfolding LevelsHold below
     below-is =
         subst₂ (λ a b. Inv l (next W) (next H) (lowMap W H g) a 0 (r .out .left) b 0 (rest T (r .out .store))) same
-        (low-shut A (r .closed) (H .start) m ahead-some shut-now) (closed-inv .2)
+        (low-closed A (r .closed) (H .start) m ahead-some flush-now) (closed-inv .2)
 
     here-now : Here W H g (A + q .closed) m 0 (r .out .store)
     unfolding LevelsHold
-    here-now = here-shut W H g (r .closed) (A + q .closed) m (r .out .store) shut-now (omega arith) (closed-inv .0)
+    here-now = here-closed W H g (r .closed) (A + q .closed) m (r .out .store) flush-now (omega arith) (closed-inv .0)
 
     below-closed : Closed l (suc k) (next W) (next H) (lowMap W H g) (c - A) (count lo (side (H .start) m)) q
     unfolding next
@@ -761,7 +761,7 @@ module _ (K : LevelKind) (Held : Meaning) (Ended : Ending) (laws : LevelLaws K H
         ih (suc k) (next W) (next H) (lowMap W H g) (c - A) (count lo (side (H .start) m)) (r .out .left) (rest T (r .out .store)) (next-rows H m e) below-is
 
     low : lowRows (H .start) (made A (A + q .closed) (H .start) m) ≡ count lo (side (H .start) m)
-    low = low-shut A (A + q .closed) (H .start) m ahead-some (omega arith)
+    low = low-closed A (A + q .closed) (H .start) m ahead-some (omega arith)
 
     closed-rows : pend A (suc l) k W (H .start) (A + q .closed) (deeper (q .out .level)) (q .out .left) m ++ later A (suc l) k W H (A + q .closed)
         ≡ later A (suc l) k W H c
@@ -770,10 +770,10 @@ module _ (K : LevelKind) (Held : Meaning) (Ended : Ending) (laws : LevelLaws K H
         ap₂ _++_
         (pend-under A l k W (H .start) (A + q .closed) (q .out .level) (q .out .left) m
         ∙ ap₂ (λ a b. pend A l (suc k) (next W) ((H .start + 1) / 2) a (q .out .level) (q .out .left) b) again low)
-        (later-shut A l k W H (A + q .closed) ahead-some (omega arith) ∙ ap (later A l (suc k) (next W) (next H)) again)
+        (later-closed A l k W H (A + q .closed) ahead-some (omega arith) ∙ ap (later A l (suc k) (next W) (next H)) again)
         ∙ below-closed .rows
         ∙ ap (later A l (suc k) (next W) (next H)) (sym same)
-        ∙ sym (later-shut A l k W H (r .closed) ahead-some shut-now)
+        ∙ sym (later-closed A l k W H (r .closed) ahead-some flush-now)
         ∙ ap (λ t. t ++ later A (suc l) k W H (r .closed)) (sym (none-pend l k W H g m e (r .closed) (r .out) z))
         ∙ d .rows
 
@@ -788,22 +788,22 @@ module _ (K : LevelKind) (Held : Meaning) (Ended : Ending) (laws : LevelLaws K H
       few = omega (arith, below-closed .few, left-under l (q .out .level));
     }
 
-  shut-first : (l : ℕ) → Shuts l → Shuts (suc l)
-  unfolding shut next
-  shut-first l ih k W H g c m i x e v = go (r .out .level) refl
+  flush-first : (l : ℕ) → Flushes l → Flushes (suc l)
+  unfolding flush next
+  flush-first l ih k W H g c m i x e v = go (r .out .level) refl
     where
-      r : Shut
+      r : Flushed
       r = closeLevel K (A - c) l W (H .start) c m x
 
       d : LevelClosed l k W H g m e c r
       d = steps-good l k W H g m e (A - c) c i x refl v
 
       go : (a : ℕ) → r .out .level ≡ a → Closed (suc l) k W H g c m
-          (onward A (K .stretch W) (shut K l (next W) ((H .start + 1) / 2) (c - A) (count lo (side (H .start) m))) r a)
+          (onward A (K .stretch W) (flush K l (next W) ((H .start + 1) / 2) (c - A) (count lo (side (H .start) m))) r a)
       go zero z = closed-on l ih k W H g c m e r d z
       go (suc a) z = unfold onward in record { inv = d .inv; rows = d .rows; all = λ y. absurd (omega arith); few = d .few }
 
-  pub shut-good : (L : ℕ) → Shuts L
-  shut-good zero k W H g c m i x e v =
-      unfold shut LevelsHold pend later in record { inv = (v .0, refl); rows = refl; all = λ _. v .0 ∙ omega arith; few = omega arith }
-  shut-good (suc l) k W H g c m i x e v = shut-first l (shut-good l) k W H g c m i x e v
+  pub flush-good : (L : ℕ) → Flushes L
+  flush-good zero k W H g c m i x e v =
+      unfold flush LevelsHold pend later in record { inv = (v .0, refl); rows = refl; all = λ _. v .0 ∙ omega arith; few = omega arith }
+  flush-good (suc l) k W H g c m i x e v = flush-first l (flush-good l) k W H g c m i x e v

@@ -18,28 +18,28 @@ use Rattle.writer.specs.declared.closing.Closure.{Closure}
 use Rattle.progress.specs.Counts.{made, most, skip}
 use Rattle.progress.specs.Waits.{noWait, seenFrom}
 use Rattle.writer.specs.Machine.{Out, still, under, settled, passOn}
-use Rattle.writer.specs.Closing.{Shut, stepped, onward, closeStep, closeLevel, shut}
+use Rattle.writer.specs.Closing.{Flushed, stepped, onward, closeStep, closeLevel, flush}
 use Rattle.writer.specs.Steps.{Left, LevelClosed, Closed}
 use Rattle.progress.proofs.CountLaws.{steps-more}
 use Rattle.writer.proofs.CascadeLaws.{left-still, left-waits, left-same, left-fits, left-under, settled-waits, settled-goes}
 
 -- ---- the steps of a level
-stepped-waits : (c : ℕ) (f : Memory → Shut) (o : Out) (v : ℕ) → 0 < v → stepped c f o v ≡ record { closed = suc c; out = o }
+stepped-waits : (c : ℕ) (f : Memory → Flushed) (o : Out) (v : ℕ) → 0 < v → stepped c f o v ≡ record { closed = suc c; out = o }
 unfolding stepped
 stepped-waits c f o zero h = absurd (omega arith)
 stepped-waits c f o (suc v) h = refl
 
-stepped-goes : (c : ℕ) (f : Memory → Shut) (o : Out) (v : ℕ) → v ≡ 0 → stepped c f o v ≡ f (o .store)
+stepped-goes : (c : ℕ) (f : Memory → Flushed) (o : Out) (v : ℕ) → v ≡ 0 → stepped c f o v ≡ f (o .store)
 unfolding stepped
 stepped-goes c f o zero h = refl
 stepped-goes c f o (suc v) h = absurd (omega arith)
 
-onward-waits : (a t : ℕ) (f : Memory → Shut) (o : Shut) (v : ℕ) → 0 < v → onward a t f o v ≡ o
+onward-waits : (a t : ℕ) (f : Memory → Flushed) (o : Flushed) (v : ℕ) → 0 < v → onward a t f o v ≡ o
 unfolding onward
 onward-waits a t f o zero h = absurd (omega arith)
 onward-waits a t f o (suc v) h = refl
 
-onward-goes : (a t : ℕ) (f : Memory → Shut) (o : Shut) (v : ℕ) → v ≡ 0 → onward a t f o v
+onward-goes : (a t : ℕ) (f : Memory → Flushed) (o : Flushed) (v : ℕ) → v ≡ 0 → onward a t f o v
     ≡ record { closed = a + f (rest t (o .out .store)) .closed; out = under t (o .out .store) (f (rest t (o .out .store)) .out) }
 unfolding onward
 onward-goes a t f o zero h = refl
@@ -84,7 +84,7 @@ module _ (φ : ℕ) where
       step-goes r y g f = left-same φ (l + 1) w _ _ r y (closes ∙ settled-goes _ n i x₁ g) f
 
   module _ (l : ℕ) (w : Side) (s m : ℕ) where
-    abbrev pub from : ℕ → Memory → Shut
+    abbrev pub from : ℕ → Memory → Flushed
     from c x = closeLevel K (A - c) l w s c m x
 
     from-done : (c : ℕ) (x : Memory) → A ≤ c → from c x ≡ record { closed = c; out = still x }
@@ -115,44 +115,44 @@ module _ (φ : ℕ) where
             rw (d, f .store) (sym (stepped-goes k (from (suc k)) (closeStep K l w s k m x) _ (sym (f .level) ∙ g)) ∙ sym (from-step k x h) ∙ e)
 
   -- ---- all of them
-  pub shut-none : (l : ℕ) (w : Side) (s c m : ℕ) (x : Memory) (r : Wait) → r ≡ noWait → l ≡ 0 → c ≤ A * l →
-      Closed φ l w (shut K l w s c m x) (record { closed = c; wait = r }) x
-  unfolding shut
-  shut-none zero w s c m x r d e h = record { closed = refl; left = left-still φ 0 w _ r x d refl; all = h }
-  shut-none (suc l) w s c m x r d e h = absurd (omega arith)
+  pub flush-none : (l : ℕ) (w : Side) (s c m : ℕ) (x : Memory) (r : Wait) → r ≡ noWait → l ≡ 0 → c ≤ A * l →
+      Closed φ l w (flush K l w s c m x) (record { closed = c; wait = r }) x
+  unfolding flush
+  flush-none zero w s c m x r d e h = record { closed = refl; left = left-still φ 0 w _ r x d refl; all = h }
+  flush-none (suc l) w s c m x r d e h = absurd (omega arith)
 
-  shut-more : (l : ℕ) (w : Side) (s c m : ℕ) (x : Memory) →
-      shut K (suc l) w s c m x ≡ onward A (R * w .length) (shut K l (next w) ((s + 1) / 2) (c - A) (count lo (side s m)))
+  flush-more : (l : ℕ) (w : Side) (s c m : ℕ) (x : Memory) →
+      flush K (suc l) w s c m x ≡ onward A (R * w .length) (flush K l (next w) ((s + 1) / 2) (c - A) (count lo (side s m)))
       (closeLevel K (A - c) l w s c m x) (closeLevel K (A - c) l w s c m x .out .level)
-  unfolding shut
-  shut-more l w s c m x = refl
+  unfolding flush
+  flush-more l w s c m x = refl
 
-  shut-is : (l : ℕ) (w : Side) (s c m : ℕ) (x : Memory) → 0 < l →
-      shut K l w s c m x ≡ onward A (R * w .length) (shut K (l - 1) (next w) ((s + 1) / 2) (c - A) (count lo (side s m)))
+  flush-is : (l : ℕ) (w : Side) (s c m : ℕ) (x : Memory) → 0 < l →
+      flush K l w s c m x ≡ onward A (R * w .length) (flush K (l - 1) (next w) ((s + 1) / 2) (c - A) (count lo (side s m)))
       (closeLevel K (A - c) (l - 1) w s c m x) (closeLevel K (A - c) (l - 1) w s c m x .out .level)
-  shut-is zero w s c m x h = absurd (omega arith)
-  shut-is (suc l) w s c m x h = let p : suc l - 1 ≡ l = omega arith in rw p (shut-more l w s c m x)
+  flush-is zero w s c m x h = absurd (omega arith)
+  flush-is (suc l) w s c m x h = let p : suc l - 1 ≡ l = omega arith in rw p (flush-more l w s c m x)
 
   module _ (l : ℕ) (w : Side) (s c m : ℕ) (x y : Memory) (r : Closure) (h : 0 < l)
       (f : LevelClosed φ (l - 1 + 1) w (closeLevel K (A - c) (l - 1) w s c m x) r y) where
-    abbrev o : Shut
+    abbrev o : Flushed
     o = closeLevel K (A - c) (l - 1) w s c m x
 
-    pub shut-waits : 0 < r .wait .level → Closed φ l w (shut K l w s c m x) r y
-    shut-waits g =
-        let e : shut K l w s c m x ≡ o = shut-is l w s c m x h ∙ onward-waits _ _ _ o (o .out .level) (omega (arith, f .left .level)) in
+    pub flush-waits : 0 < r .wait .level → Closed φ l w (flush K l w s c m x) r y
+    flush-waits g =
+        let e : flush K l w s c m x ≡ o = flush-is l w s c m x h ∙ onward-waits _ _ _ o (o .out .level) (omega (arith, f .left .level)) in
         let k : l - 1 + 1 ≡ l = omega arith in
         rw e (record { closed = f .closed; left = rw k at (f .left); all = omega (arith, f .some g, steps-more A l h) })
 
-    pub shut-goes : (v : Side) (a p k e j : ℕ) (t z : Memory) (q : Closure) (u : Wait) → w .length < 2 ^ 16 → l < 2 ^ 16 → r .wait .level ≡ 0 →
+    pub flush-goes : (v : Side) (a p k e j : ℕ) (t z : Memory) (q : Closure) (u : Wait) → w .length < 2 ^ 16 → l < 2 ^ 16 → r .wait .level ≡ 0 →
         j ≡ K .stretch w → v ≡ next w → a ≡ (s + 1) / 2 → p ≡ c - A → k ≡ count lo (side s m) →
-        Closed φ (l - 1) v (shut K (l - 1) v a p k (rest j y)) q t → z ≡ joinAt j y t →
+        Closed φ (l - 1) v (flush K (l - 1) v a p k (rest j y)) q t → z ≡ joinAt j y t →
         e ≡ A → ((1 + q .wait .level < 2 ^ 64) × (j + q .wait .offset < 2 ^ 64) → u ≡ seenFrom 1 j (q .wait)) →
-        Closed φ l w (shut K l w s c m x) (record { closed = e + q .closed; wait = u }) z
-    shut-goes v a p k e j t z q u wide deep g ej ev ea ep ek d ez ee eu =
-        let below : Closed φ (l - 1) (next w) (shut K (l - 1) (next w) ((s + 1) / 2) (c - A) (count lo (side s m))
+        Closed φ l w (flush K l w s c m x) (record { closed = e + q .closed; wait = u }) z
+    flush-goes v a p k e j t z q u wide deep g ej ev ea ep ek d ez ee eu =
+        let below : Closed φ (l - 1) (next w) (flush K (l - 1) (next w) ((s + 1) / 2) (c - A) (count lo (side s m))
         (rest (R * w .length) (o .out .store))) q t = rw (ev, ea, ep, ek, ej, f .left .store) at d in
-        let is = shut-is l w s c m x h ∙ onward-goes _ _ _ o (o .out .level) (sym (f .left .level) ∙ g) in
+        let is = flush-is l w s c m x h ∙ onward-goes _ _ _ o (o .out .level) (sym (f .left .level) ∙ g) in
         let seen : u ≡ seenFrom 1 (R * w .length) (q .wait) = (rw ej at eu) (left-fits φ (l - 1) w _ (q .wait) t wide (omega arith) (below .left)) in
         let join = ez ∙ ap (λ (i : ℕ). joinAt i y t) ej ∙ ap (λ (m : Memory). joinAt (R * w .length) m t) (f .left .store) in
         rw is (record {

@@ -14,12 +14,12 @@ use Rattle.numbers.proofs.Sweep as sweep
 use Rattle.wavelet.specs.Limits.{maxHeight}
 use Rattle.level.specs.Level.{Memory, LevelKind}
 use Rattle.writer.specs.declared.Writer.{Writer}
-use Rattle.writer.specs.Closing.{Shut}
+use Rattle.writer.specs.Closing.{Flushed}
 use Rattle.writer.specs.Taking.{kind, Taking, none, oneMore, takes, begun, atColumn, complete, heightPut, rowMakes, offering}
 use Rattle.writer.specs.Spare.{spareRoom, holding, moving, movedOn}
 use Rattle.writer.specs.Questions.{mostColumn, offerQuestion, drawQuestion, finishQuestion}
 use Rattle.writer.specs.Calls.{offeredAt, waits, closing, afterDraw, drawnOn}
-use Rattle.writer.proofs.GateLaws.{Sound, most-open, taken-open}
+use Rattle.writer.proofs.QuestionLaws.{Sound, most-open, taken-open}
 use Rattle.writer.proofs.CallLaws.{offer-sound, draw-sound, offer-may, finish-may, moving-part, moving-whole}
 
 abbrev pub InRange : Writer → Type 0

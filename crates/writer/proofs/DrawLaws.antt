@@ -20,16 +20,16 @@ use Rattle.analysis.proofs.ForwardLaws.{place-room}
 use Rattle.writer.specs.declared.Writer.{Writer}
 use Rattle.progress.specs.declared.waits.Wait.{Wait}
 use Rattle.progress.specs.declared.levels.Level.{Level}
-use Rattle.writer.specs.declared.draws.Spot.{Spot}
+use Rattle.writer.specs.declared.draws.PlacedRow.{PlacedRow}
 use Rattle.progress.specs.Levels.{levelAt}
 use Rattle.progress.specs.Waits.{seenFrom}
 use Rattle.progress.specs.Counts.{deeperBy, further, made, lowRows, bandAt, skip, startOf}
 use Rattle.writer.specs.Machine.{Out, under, settled, passOn}
-use Rattle.writer.specs.Draws.{lower, rowOf, waiting, pull}
+use Rattle.writer.specs.Draws.{lower, rowOf, waiting, advance}
 use Rattle.writer.specs.Taking.{kind, columnsOf}
 use Rattle.writer.specs.Questions.{waitingRow}
-use Rattle.writer.specs.Calls.{pulled, bandRow}
-use Rattle.writer.specs.Steps.{Left, Found, Reaches, columns, received, waitingAt, pullAt, from, spotOf, Walk}
+use Rattle.writer.specs.Calls.{advanced, bandRow}
+use Rattle.writer.specs.Steps.{Left, Found, Reaches, columns, received, waitingAt, advanceAt, from, placedOf, Walk}
 use Rattle.progress.proofs.CountLaws.{start-first, start-deeper, further-none, further-some, deeper-by-same, deeper-by-more, deeper-by-none}
 use Rattle.progress.proofs.CountLaws.{deeper-by-some, deeper-by-le, made-le, low-le, start-more}
 use Rattle.writer.proofs.CascadeLaws.{left-same, left-small, settled-waits, settled-goes}
@@ -113,21 +113,21 @@ module _ (φ : ℕ) where
         let q : suc (suc v) - 1 ≡ suc v = omega arith in
         rw (p, q) refl
 
-    pub pull-here : (l v : ℕ) (x : Memory) → 0 < l → v ≡ 1 → pull K l w s c v i m x ≡ settled (passOn K (l - 1) w s) (prev (made A c s m)) x
+    pub advance-here : (l v : ℕ) (x : Memory) → 0 < l → v ≡ 1 → advance K l w s c v i m x ≡ settled (passOn K (l - 1) w s) (prev (made A c s m)) x
         (skip w (side s m) (prev (made A c s m)) (prev i))
-    unfolding pull
-    pull-here zero v x h e = absurd (omega arith)
-    pull-here (suc l) zero x h e = absurd (omega arith)
-    pull-here (suc l) (suc zero) x h e = let p : suc l - 1 ≡ l = omega arith in rw p refl
-    pull-here (suc l) (suc (suc v)) x h e = absurd (omega arith)
+    unfolding advance
+    advance-here zero v x h e = absurd (omega arith)
+    advance-here (suc l) zero x h e = absurd (omega arith)
+    advance-here (suc l) (suc zero) x h e = let p : suc l - 1 ≡ l = omega arith in rw p refl
+    advance-here (suc l) (suc (suc v)) x h e = absurd (omega arith)
 
-    pub pull-below : (l v : ℕ) (x : Memory) → 0 < l → 1 < v → pull K l w s c v i m x ≡ under (R * w .length) x (pull K (l - 1) (next w)
+    pub advance-below : (l v : ℕ) (x : Memory) → 0 < l → 1 < v → advance K l w s c v i m x ≡ under (R * w .length) x (advance K (l - 1) (next w)
         ((s + 1) / 2) (c - A) (v - 1) i (lowRows s (made A c s m)) (rest (R * w .length) x))
-    unfolding pull
-    pull-below zero v x h e = absurd (omega arith)
-    pull-below (suc l) zero x h e = absurd (omega arith)
-    pull-below (suc l) (suc zero) x h e = absurd (omega arith)
-    pull-below (suc l) (suc (suc v)) x h e =
+    unfolding advance
+    advance-below zero v x h e = absurd (omega arith)
+    advance-below (suc l) zero x h e = absurd (omega arith)
+    advance-below (suc l) (suc zero) x h e = absurd (omega arith)
+    advance-below (suc l) (suc (suc v)) x h e =
         let p : suc l - 1 ≡ l = omega arith in
         let q : suc (suc v) - 1 ≡ suc v = omega arith in
         rw (p, q) refl
@@ -142,10 +142,10 @@ module _ (φ : ℕ) where
         let k : 0 + K .place w s (prev (made A c s m)) (bandAt (prev i)) ≡ K .place w s (prev (made A c s m)) (bandAt (prev i)) = omega arith in
         rw (z, e, k) refl
 
-    pull-first : (x : Memory) → pullAt φ l v a first i x ≡ settled (passOn K l w s)
+    advance-first : (x : Memory) → advanceAt φ l v a first i x ≡ settled (passOn K l w s)
         (prev (made A c s m)) x (skip w (side s m) (prev (made A c s m)) (prev i))
-    unfolding pullAt
-    pull-first x = rw (z, e, rest-first x) (from-first x _)
+    unfolding advanceAt
+    advance-first x = rw (z, e, rest-first x) (from-first x _)
 
   starts-here : (w : Side) (v u : ℕ) → v ≡ 1 → startOf φ w (deeperBy (prev v) u) ≡ further u (startOf φ w v) (startOf φ w u)
   starts-here w v zero e =
@@ -164,9 +164,9 @@ module _ (φ : ℕ) where
       let b : l - 1 ≡ l - v = omega arith in
       record {
         waits = λ i. waiting-here w s c i m l v h e ∙ sym (at-first w s c m (l - 1) v (startOf φ w v) i e z);
-        pulls =
-            λ i x. pull-here w s c i m l v x h e ∙ sym (pull-first w s c m (l - 1) v (startOf φ w v) i e z x)
-            ∙ ap (λ (b : ℕ). pullAt φ b v (startOf φ w v) (first w s c m (l - 1) v (startOf φ w v) i e z) i x) b;
+        advances =
+            λ i x. advance-here w s c i m l v x h e ∙ sym (advance-first w s c m (l - 1) v (startOf φ w v) i e z x)
+            ∙ ap (λ (b : ℕ). advanceAt φ b v (startOf φ w v) (first w s c m (l - 1) v (startOf φ w v) i e z) i x) b;
         starts = λ u. starts-here w v u e;
         room = rw (z, k) (omega arith);
         wide = g;
@@ -185,10 +185,10 @@ module _ (φ : ℕ) where
         let q : R * w .length + (a + d) ≡ startOf φ w v + d = omega (arith, start-more φ w v g) in
         rw (e, q) refl
 
-    pull-more : (b : ℕ) (x : Memory) → under (R * w .length) x (pullAt φ b (v - 1) (startOf φ (next w) (v - 1)) r i (rest (R * w .length) x))
-        ≡ pullAt φ b v (startOf φ w v) r i x
-    unfolding pullAt
-    pull-more b x =
+    advance-more : (b : ℕ) (x : Memory) → under (R * w .length) x (advanceAt φ b (v - 1) (startOf φ (next w) (v - 1)) r i (rest (R * w .length) x))
+        ≡ advanceAt φ b v (startOf φ w v) r i x
+    unfolding advanceAt
+    advance-more b x =
         from-under (prev (v - 1)) (R * w .length) (startOf φ (next w) (v - 1)) x _
         ∙ rw (rest-rest (R * w .length) (startOf φ (next w) (v - 1)) x, start-more φ w v g, prev-more v g) refl
 
@@ -217,9 +217,9 @@ module _ (φ : ℕ) where
       let e : l - 1 - (v - 1) ≡ l - v = omega arith in
       record {
         waits = λ i. waiting-below w s c i m l v (omega arith) g ∙ ap (lower (R * w .length)) (below .waits i) ∙ at-below w v r i g;
-        pulls =
-            λ i x. pull-below w s c i m l v x (omega arith) g ∙ ap (under (R * w .length) x) (below .pulls i (rest (R * w .length) x))
-            ∙ pull-more w v r i g (l - 1 - (v - 1)) x ∙ ap (λ (b : ℕ). pullAt φ b v (startOf φ w v) r i x) e;
+        advances =
+            λ i x. advance-below w s c i m l v x (omega arith) g ∙ ap (under (R * w .length) x) (below .advances i (rest (R * w .length) x))
+            ∙ advance-more w v r i g (l - 1 - (v - 1)) x ∙ ap (λ (b : ℕ). advanceAt φ b v (startOf φ w v) r i x) e;
         starts = λ u. starts-below w v (columns r) u g (below .starts u);
         room =
             omega (arith, below .room, ap (λ (b : ℕ). storeBy φ (columns r) (b + 1)) e, start-more φ w v g, store-back R w l (omega arith));
@@ -254,14 +254,15 @@ module _ (φ : ℕ) where
   -- ---- the row that waits, and what the draw of it leaves
   module _ (v a : ℕ) (r : Level) (i : ℕ) where
     at-is : (j b n d p : ℕ) → j ≡ prev i → b ≡ code (bandAt j) → n ≡ setRow (received r) (bandAt j) (r .set) → d ≡ count (across (bandAt j)) (columns r) →
-        p ≡ K .place (columns r) (r .y) (r .set) (bandAt j) → record { level = v; band = b; row = n; length = d; start = a + p } ≡ spotOf (waitingAt φ v a r i)
+        p ≡ K .place (columns r) (r .y) (r .set) (bandAt j) → record { level = v; band = b; row = n; length = d; start = a + p } ≡ placedOf
+        (waitingAt φ v a r i)
     unfolding waitingAt
     at-is j b n d p ej eb en ed ep = cc
 
-    pull-is : (x : Memory) (b p j : ℕ) → p ≡ prev i → j ≡ skip (columns r) (received r) (r .set) p →
-        pullAt φ b v a r i x ≡ from (prev v) a x (settled (passOn K b (columns r) (r .y)) (r .set) (rest a x) j)
-    unfolding pullAt
-    pull-is x b p j ep ej = cc
+    advance-is : (x : Memory) (b p j : ℕ) → p ≡ prev i → j ≡ skip (columns r) (received r) (r .set) p →
+        advanceAt φ b v a r i x ≡ from (prev v) a x (settled (passOn K b (columns r) (r .y)) (r .set) (rest a x) j)
+    unfolding advanceAt
+    advance-is x b p j ep ej = cc
 
 module _ (s : Writer) (r : Level) (f : Reaches (s .filter) (s .levels) (columnsOf s) (s .y) (s .closed) (s .level) (s .rows) r)
     (placed : s .offset ≡ startOf (s .filter) (columnsOf s) (s .level)) where
@@ -276,7 +277,7 @@ module _ (s : Writer) (r : Level) (f : Reaches (s .filter) (s .levels) (columnsO
       let q = place-room (s .filter) (columns r) (r .y) (r .set) (bandAt i) in
       let g = store-next (filterOf (s .filter) .rows) (columns r) (s .levels - s .level) in
       record {
-        spot = at-is (s .filter) (s .level) (s .offset) r (s .left) i b n d p ei eb en ed ep ∙ ap spotOf (sym row-is);
+        spot = at-is (s .filter) (s .level) (s .offset) r (s .left) i b n d p ei eb en ed ep ∙ ap placedOf (sym row-is);
         room = omega (arith, placed, f .room);
         within = f .last;
       }
@@ -285,21 +286,21 @@ module _ (s : Writer) (r : Level) (f : Reaches (s .filter) (s .levels) (columnsO
   pub told : (i b n d : ℕ) → i ≡ prev (s .left) → b ≡ code (bandAt i) → n ≡ setRow (received r) (bandAt i) (r .set) →
       d ≡ count (across (bandAt i)) (columns r) → record { level = s .level; band = b; row = n; length = d } ≡ bandRow (waitingRow s)
   told i b n d ei eb en ed =
-      ap (λ (r : Spot). record { level = r .level; band = r .band; row = r .row; length = r .length })
-      (at-is (s .filter) (s .level) (s .offset) r (s .left) i b n d _ ei eb en ed refl ∙ ap spotOf (sym row-is))
+      ap (λ (r : PlacedRow). record { level = r .level; band = r .band; row = r .row; length = r .length })
+      (at-is (s .filter) (s .level) (s .offset) r (s .left) i b n d _ ei eb en ed refl ∙ ap placedOf (sym row-is))
 
   module _ (x : Memory) (p i : ℕ) (ep : p ≡ prev (s .left)) (ei : i ≡ skip (columns r) (received r) (r .set) p) where
-    draw-is : pulled s x
+    draw-is : advanced s x
         ≡ from (prev (s .level)) (s .offset) x (settled (passOn (kind s) (s .levels - s .level) (columns r) (r .y)) (r .set) (rest (s .offset) x) i)
     draw-is =
-        f .pulls (s .left) x
-        ∙ ap (λ (a : ℕ). pullAt (s .filter) (s .levels - s .level) (s .level) a r (s .left) x) (sym placed)
-        ∙ pull-is (s .filter) (s .level) (s .offset) r (s .left) x (s .levels - s .level) p i ep ei
+        f .advances (s .left) x
+        ∙ ap (λ (a : ℕ). advanceAt (s .filter) (s .levels - s .level) (s .level) a r (s .left) x) (sym placed)
+        ∙ advance-is (s .filter) (s .level) (s .offset) r (s .left) x (s .levels - s .level) p i ep ei
 
     -- the next band of the set waits
-    pub pull-waits : 0 < s .level → 0 < i →
-        Left (s .filter) (s .levels) (columnsOf s) (pulled s x) (record { level = s .level; left = i; offset = s .offset }) x
-    pull-waits h g =
+    pub advance-waits : 0 < s .level → 0 < i →
+        Left (s .filter) (s .levels) (columnsOf s) (advanced s x) (record { level = s .level; left = i; offset = s .offset }) x
+    advance-waits h g =
         let q = settled-waits (passOn (kind s) (s .levels - s .level) (columns r) (r .y)) (r .set) i (rest (s .offset) x) g in
         let v : 1 + prev (s .level) ≡ s .level = omega (arith, prev-is (s .level)) in
         let d : deeperBy (prev (s .level)) 1 ≡ s .level = sym (deeper-by-some (prev (s .level)) 1 (omega arith)) ∙ v in
@@ -313,13 +314,13 @@ module _ (s : Writer) (r : Level) (f : Reaches (s .filter) (s .levels) (columnsO
         })
 
     -- its LL row goes on
-    pub pull-goes : (o q : Wait) (t z : Memory) → Walk (s .levels) (columnsOf s) (s .level) (s .rows) → i ≡ 0 →
+    pub advance-goes : (o q : Wait) (t z : Memory) → Walk (s .levels) (columnsOf s) (s .level) (s .rows) → i ≡ 0 →
         Left (s .filter) (s .levels - s .level + 1) (columns r)
         (passOn (kind s) (s .levels - s .level) (columns r) (r .y) (r .set) (rest (s .offset) x)) o t →
         z ≡ joinAt (s .offset) x t →
         ((s .level - 1 + o .level < 2 ^ 64) × (s .offset + o .offset < 2 ^ 64) → q ≡ seenFrom (s .level - 1) (s .offset) o) →
-        Left (s .filter) (s .levels) (columnsOf s) (pulled s x) q z
-    pull-goes o q t z h g a ez eq =
+        Left (s .filter) (s .levels) (columnsOf s) (advanced s x) q z
+    advance-goes o q t z h g a ez eq =
         let k : s .level - 1 ≡ prev (s .level) = omega (arith, prev-is (s .level)) in
         let u : Out = passOn (kind s) (s .levels - s .level) (columns r) (r .y) (r .set) (rest (s .offset) x) in
         let few = store-few (s .filter) (columnsOf s) (s .levels) in

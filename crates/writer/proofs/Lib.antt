@@ -18,7 +18,7 @@ pub mod LookLaws
 pub mod CascadeLaws
 pub mod DrawLaws
 pub mod ClosingLaws
-pub mod GateLaws
+pub mod QuestionLaws
 pub mod SetUpPasses
 pub mod CallLaws
 pub mod Surplus

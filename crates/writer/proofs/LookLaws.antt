@@ -20,11 +20,11 @@ use Rattle.writer.specs.declared.BandRow.{BandRow}
 use Rattle.writer.specs.Taking.{columnsOf}
 use Rattle.writer.specs.Questions.{either, inRanges, longEnough, waitingRow, setUpQuestion, drawQuestion, waitsQuestion}
 use Rattle.writer.specs.Answers.{Handed, nothing}
-use Rattle.writer.specs.Gate.{stateQuestion}
+use Rattle.writer.specs.FirstQuestions.{stateQuestion}
 use Rattle.writer.specs.Calls.{handed, drawReply, bandRow, noRow, awaited, waitsReply, rowHanded}
 use Rattle.writer.specs.History.{Call, event, events, final, freshWorld}
 use Rattle.writer.specs.Demand3.{waitingOf, nextRow}
-use Rattle.writer.proofs.GateLaws.{Sound, sound}
+use Rattle.writer.proofs.QuestionLaws.{Sound, sound}
 use Rattle.writer.proofs.Demand3.{demand-3}
 
 -- ---- the call

@@ -33,9 +33,9 @@ use Rattle.filters.specs.Figures.{storeBy, streamable}
 use Rattle.filters.proofs.FigureLaws.{Streams, streams}
 use Rattle.writer.specs.Calls.{offeredAt, offerReply, offerStore}
 use Rattle.writer.specs.Steps.{Left}
-use Rattle.writer.proofs.GateLaws.{Sound, few-levels}
+use Rattle.writer.proofs.QuestionLaws.{Sound, few-levels}
 use Rattle.writer.proofs.CallLaws.{offer-takes, moving-part, moving-whole, sound-room, unless-no, unless-yes, changed-no, changed-yes}
-use Rattle.writer.specs.Stretch.{nextCount, Roomy, Taker, Reaching, Stretched}
+use Rattle.writer.specs.OfferSteps.{nextCount, Roomy, Taker, Reaching, HeightsTaken}
 
 -- n heights more
 abbrev pub plus : ℕ → Taking → Taking
@@ -191,7 +191,7 @@ module _ (run : List ℕ) (s₀ : Writer) (x₀ : Memory) (k : ℕ) (s : Writer)
 
   -- a stretch goes n heights on
   pub gone-on : (n l : ℕ) (r : Writer) (y : Memory) → takes s ≡ true → 0 < n → k + n ≤ length run → s .column + n ≤ s .width →
-      Stretched s run k n x r y l → Gone run s₀ x₀ (k + n) r y
+      HeightsTaken s run k n x r y l → Gone run s₀ x₀ (k + n) r y
   gone-on n l r y t h a b f =
       elim (decLt (s .column + n) (s .width)) [
         | yes d ↦
@@ -235,7 +235,7 @@ offer-start run s m n t e =
     record { gone = plus-none _; taker = t; size = refl; within = omega arith; next = rw k e }
 
 pub offer-turn : (run : List ℕ) (s₀ : Writer) (m₀ m : List ℤ) (s : Writer) (k n : ℕ) (r : Writer) (m′ : List ℤ) (n′ : ℕ) →
-    Offering run s₀ m₀ m s k n → 0 < n → Stretched s run k n (at m) r (at m′) (length m) → length m′ ≡ length m →
+    Offering run s₀ m₀ m s k n → 0 < n → HeightsTaken s run k n (at m) r (at m′) (length m) → length m′ ≡ length m →
     n′ ≡ nextCount r (length run - (k + n)) → Offering run s₀ m₀ m′ r (k + n) n′
 offer-turn run s₀ m₀ m s k n r m′ n′ o h f z e =
     let q = next-is s (length run - k) n (o .next) h (o .taker .column) in
@@ -333,10 +333,10 @@ module _ (s : Writer) (c : ℕ) (x : Memory) (l : ℕ) (t : Roomy s l) where
       }
 
 -- a stretch: heights put, and what they come to
-pub stretched : (s : Writer) (run : List ℕ) (k n : ℕ) (x z : Memory) (r : Writer) (y : Memory) (l m : ℕ) →
+pub heights-taken : (s : Writer) (run : List ℕ) (k n : ℕ) (x z : Memory) (r : Writer) (y : Memory) (l m : ℕ) →
     z ≡ heightsPut (s .filter) (columnsOf s) (s .y % 2 + s .rows) (s .column) n (λ j. heightAt run (k + j)) x → m ≡ l →
-    Reaching s (s .column + n) z r y m → Stretched s run k n x r y l
-stretched s run k n x z r y l m e d f = record { reaching = subst₂ (λ v i. Reaching s (s .column + n) v r y i) e d f }
+    Reaching s (s .column + n) z r y m → HeightsTaken s run k n x r y l
+heights-taken s run k n x z r y l m e d f = record { reaching = subst₂ (λ v i. Reaching s (s .column + n) v r y i) e d f }
 
 -- ---- the spare row
 module _ (s : Writer) (n l : ℕ) (h : Holder s n l) where

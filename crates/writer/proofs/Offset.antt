@@ -17,7 +17,7 @@ use Rattle.writer.specs.declared.Writer.{Writer}
 use Rattle.progress.specs.Counts.{startOf}
 use Rattle.writer.specs.Machine.{Out}
 use Rattle.writer.specs.Taking.{kind, columnsOf, Taking, takes, offering}
-use Rattle.writer.specs.Closing.{Shut}
+use Rattle.writer.specs.Closing.{Flushed}
 use Rattle.writer.specs.Spare.{holding, moving, movedOn}
 use Rattle.writer.specs.Questions.{mostColumn, inRanges, longEnough, setUpQuestion, offerQuestion, drawQuestion, waitsQuestion, finishQuestion}
 use Rattle.writer.specs.Holds.{left, after}
@@ -161,8 +161,8 @@ module _ (b : Before) (x : Memory) where
       ≡ carries (before.world (changedUnless q (before.handedWriter v b x) b) (changedUnless q (before.handedStore v b x) x))
   draw-next zero zero = refl
   draw-next zero (suc v) =
-      ap (λ (r : Shut). let t = movedOn (r .out .level) (waits (b .finished) (carry b) r) (r .out .store) in record { writer = t .writer; store = t .store })
-      (same-resumed b (b .finished) (before.pulled b x) (before.pulled b x .level))
+      ap (λ (r : Flushed). let t = movedOn (r .out .level) (waits (b .finished) (carry b) r) (r .out .store) in record { writer = t .writer; store = t .store })
+      (same-resumed b (b .finished) (before.advanced b x) (before.advanced b x .level))
       ∙ ap (λ (t : Taking). record { writer = t .writer; store = t .store })
       (same-moved (before.afterDraw b x .out .level) (before.waits (b .finished) b (before.afterDraw b x)) (before.afterDraw b x .out .store))
   draw-next (suc q) v = refl

@@ -22,14 +22,14 @@ use Rattle.writer.specs.declared.Writer.{Writer}
 use Rattle.writer.specs.Taking.{kind, columnsOf, Taking, atColumn, complete, rowMakes}
 use Rattle.writer.specs.Spare.{movedRow, moving, movedOn}
 use Rattle.writer.specs.Questions.{mostColumn, inRanges, longEnough}
-use Rattle.writer.specs.Gate.{stateQuestion}
-use Rattle.writer.specs.Calls.{waits, resumed, pulled, afterDraw, drawnOn}
-use Rattle.writer.specs.Stretch.{Reaching}
+use Rattle.writer.specs.FirstQuestions.{stateQuestion}
+use Rattle.writer.specs.Calls.{waits, resumed, advanced, afterDraw, drawnOn}
+use Rattle.writer.specs.OfferSteps.{Reaching}
 use Rattle.writer.specs.Machine.{Out, still, under, passed, settled, arrived, arrive, passOn}
-use Rattle.writer.specs.Draws.{pull}
-use Rattle.writer.specs.Closing.{Shut, stepped, onward, closeStep, closeLevel, shut}
+use Rattle.writer.specs.Draws.{advance}
+use Rattle.writer.specs.Closing.{Flushed, stepped, onward, closeStep, closeLevel, flush}
 use Rattle.writer.proofs.Waiting.{skip-le}
-use Rattle.writer.proofs.GateLaws.{ranges-last, sound}
+use Rattle.writer.proofs.QuestionLaws.{ranges-last, sound}
 use Rattle.writer.proofs.CallLaws.{moving-part, moving-whole}
 
 pub false-true : {A : Type 0} → false ≡ true → A
@@ -78,11 +78,11 @@ module _ (K : LevelKind) where
   pass-within : (l : ℕ) (W : Side) (s n : ℕ) (x : Memory) → Within (suc l) (passOn K l W s n x)
   pass-within l W s n x = passed-within l _ (arrive-within l (next W) ((s + 1) / 2)) W s n x
 
-  pub pull-within : (L : ℕ) (W : Side) (s c v i m : ℕ) (x : Memory) → i ≤ mostLeft L v → Within L (pull K L W s c v i m x)
-  unfolding pull
-  pull-within zero W s c v i m x h = still-within 0 x
-  pull-within (suc l) W s c zero i m x h = still-within (suc l) x
-  pull-within (suc l) W s c (suc zero) i m x h =
+  pub advance-within : (L : ℕ) (W : Side) (s c v i m : ℕ) (x : Memory) → i ≤ mostLeft L v → Within L (advance K L W s c v i m x)
+  unfolding advance
+  advance-within zero W s c v i m x h = still-within 0 x
+  advance-within (suc l) W s c zero i m x h = still-within (suc l) x
+  advance-within (suc l) W s c (suc zero) i m x h =
       let n = prev (made (ahead K) c s m) in
       settled-within l n _ (passOn K l W s) x
       (omega (arith, skip-le W (side s m) n (prev i), prev-le i, left-first l)) (pass-within l W s n x)
@@ -90,8 +90,8 @@ module _ (K : LevelKind) where
       prev-le : (i : ℕ) → prev i ≤ i
       prev-le zero = omega arith
       prev-le (suc i) = omega arith
-  pull-within (suc l) W s c (suc (suc v)) i m x h =
-      under-within l (K .stretch W) x _ (pull-within l (next W) ((s + 1) / 2) (c - ahead K) (suc v) i (lowRows s (made (ahead K) c s m))
+  advance-within (suc l) W s c (suc (suc v)) i m x h =
+      under-within l (K .stretch W) x _ (advance-within l (next W) ((s + 1) / 2) (c - ahead K) (suc v) i (lowRows s (made (ahead K) c s m))
       (rest (K .stretch W) x) (omega (arith, left-next l v)))
 
   -- ---- the finish, c steps of the closing being done
@@ -102,34 +102,34 @@ module _ (K : LevelKind) where
       (settled-within l _ _ _ _ (skip-le W (side s m) (made (ahead K) c s m) (most l)) (pass-within l W s _ _))
       (still-within (suc l) x)
 
-  pub record Shuts (L c : ℕ) (r : Shut) : Type 0 where
+  pub record Flushes (L c : ℕ) (r : Flushed) : Type 0 where
     pub within : Within L (r .out)
     pub closed : r .closed ≤ c
 
-  level-shuts : (f l : ℕ) (W : Side) (s c m : ℕ) (x : Memory) → Shuts (suc l) (c + f) (closeLevel K f l W s c m x)
+  level-flushes : (f l : ℕ) (W : Side) (s c m : ℕ) (x : Memory) → Flushes (suc l) (c + f) (closeLevel K f l W s c m x)
   unfolding closeLevel stepped
-  level-shuts zero l W s c m x = record { within = still-within (suc l) x; closed = omega arith }
-  level-shuts (suc f) l W s c m x = go (closeStep K l W s c m x) (step-within l W s c m x) (closeStep K l W s c m x .level)
-      (λ y. subst (λ k. Shuts (suc l) k (closeLevel K f l W s (suc c) m y)) (omega arith) (level-shuts f l W s (suc c) m y))
+  level-flushes zero l W s c m x = record { within = still-within (suc l) x; closed = omega arith }
+  level-flushes (suc f) l W s c m x = go (closeStep K l W s c m x) (step-within l W s c m x) (closeStep K l W s c m x .level)
+      (λ y. subst (λ k. Flushes (suc l) k (closeLevel K f l W s (suc c) m y)) (omega arith) (level-flushes f l W s (suc c) m y))
     where
-      go : (o : Out) → Within (suc l) o → (v : ℕ) → ((y : Memory) → Shuts (suc l) (c + suc f) (closeLevel K f l W s (suc c) m y)) →
-          Shuts (suc l) (c + suc f) (stepped c (closeLevel K f l W s (suc c) m) o v)
+      go : (o : Out) → Within (suc l) o → (v : ℕ) → ((y : Memory) → Flushes (suc l) (c + suc f) (closeLevel K f l W s (suc c) m y)) →
+          Flushes (suc l) (c + suc f) (stepped c (closeLevel K f l W s (suc c) m) o v)
       go o w zero h = h (o .store)
       go o w (suc v) h = record { within = w; closed = omega arith }
 
-  pub shut-shuts : (L : ℕ) (W : Side) (s c m : ℕ) (x : Memory) → c ≤ ahead K * L → Shuts L (ahead K * L) (shut K L W s c m x)
-  unfolding shut onward
-  shut-shuts zero W s c m x h = record { within = still-within 0 x; closed = h }
-  shut-shuts (suc l) W s c m x h =
+  pub flush-flushes : (L : ℕ) (W : Side) (s c m : ℕ) (x : Memory) → c ≤ ahead K * L → Flushes L (ahead K * L) (flush K L W s c m x)
+  unfolding flush onward
+  flush-flushes zero W s c m x h = record { within = still-within 0 x; closed = h }
+  flush-flushes (suc l) W s c m x h =
       let A = ahead K in
       let r = closeLevel K (A - c) l W s c m x in
-      go r (level-shuts (A - c) l W s c m x) (r .out .level)
-      (λ y. shut-shuts l (next W) ((s + 1) / 2) (c - A) (count lo (side s m)) y (omega arith))
+      go r (level-flushes (A - c) l W s c m x) (r .out .level)
+      (λ y. flush-flushes l (next W) ((s + 1) / 2) (c - A) (count lo (side s m)) y (omega arith))
     where
-      go : (r : Shut) → Shuts (suc l) (c + (ahead K - c)) r → (v : ℕ) →
-          ((y : Memory) → Shuts l (ahead K * l) (shut K l (next W) ((s + 1) / 2) (c - ahead K) (count lo (side s m)) y)) →
-          Shuts (suc l) (ahead K * suc l)
-          (onward (ahead K) (K .stretch W) (shut K l (next W) ((s + 1) / 2) (c - ahead K) (count lo (side s m))) r v)
+      go : (r : Flushed) → Flushes (suc l) (c + (ahead K - c)) r → (v : ℕ) →
+          ((y : Memory) → Flushes l (ahead K * l) (flush K l (next W) ((s + 1) / 2) (c - ahead K) (count lo (side s m)) y)) →
+          Flushes (suc l) (ahead K * suc l)
+          (onward (ahead K) (K .stretch W) (flush K l (next W) ((s + 1) / 2) (c - ahead K) (count lo (side s m))) r v)
       go r d zero f =
           let b = f (rest (K .stretch W) (r .out .store)) in
           record { within = under-within l (K .stretch W) (r .out .store) _ (b .within); closed = omega (arith, b .closed) }
@@ -217,20 +217,20 @@ unfolding movedOn
 moved-passes s n x zero e a c may = moving-passes s n x a (sym e) c (λ p. may p .1)
 moved-passes s n x (suc v) e a c may = passes s n a (record { begun = λ z. absurd (omega arith); spare = c; may = λ _ p. may p })
 
-resumed-shuts : (f : Bool) (s : Writer) (o : Out) (v : ℕ) → Within (s .levels) o → s .closed ≤ ahead (kind s) * s .levels →
-    Shuts (kind s) (s .levels) (ahead (kind s) * s .levels) (resumed f s o v)
+resumed-flushes : (f : Bool) (s : Writer) (o : Out) (v : ℕ) → Within (s .levels) o → s .closed ≤ ahead (kind s) * s .levels →
+    Flushes (kind s) (s .levels) (ahead (kind s) * s .levels) (resumed f s o v)
 unfolding resumed
-resumed-shuts false s o v w c = record { within = w; closed = c }
-resumed-shuts true s o zero w c = shut-shuts (kind s) (s .levels) (columnsOf s) (s .y) (s .closed) (s .rows) (o .store) c
-resumed-shuts true s o (suc v) w c = record { within = w; closed = c }
+resumed-flushes false s o v w c = record { within = w; closed = c }
+resumed-flushes true s o zero w c = flush-flushes (kind s) (s .levels) (columnsOf s) (s .y) (s .closed) (s .rows) (o .store) c
+resumed-flushes true s o (suc v) w c = record { within = w; closed = c }
 
 -- after a draw of the row that waits
 pub draw-passes : (s : Writer) (n : ℕ) (x : Memory) → stateQuestion s n ≡ 0 → 0 < s .level → stateQuestion (drawnOn s x .writer) n ≡ 0
 draw-passes s n x q h =
     let f = sound s n q in
-    let d : Shuts (kind s) (s .levels) (ahead (kind s) * s .levels) (afterDraw s x) =
-    resumed-shuts (s .finished) s (pulled s x) (pulled s x .level)
-    (pull-within (kind s) (s .levels) (columnsOf s) (s .y) (s .closed) (s .level) (s .left) (s .rows) x (f .left)) (f .closed) in
+    let d : Flushes (kind s) (s .levels) (ahead (kind s) * s .levels) (afterDraw s x) =
+    resumed-flushes (s .finished) s (advanced s x) (advanced s x .level)
+    (advance-within (kind s) (s .levels) (columnsOf s) (s .y) (s .closed) (s .level) (s .left) (s .rows) x (f .left)) (f .closed) in
     moved-passes (waits (s .finished) s (afterDraw s x)) n (afterDraw s x .out .store) (afterDraw s x .out .level) refl
     (record {
       across = f .across;

@@ -25,8 +25,8 @@ use Rattle.filters.specs.Figures.{storeBy, streamable}
 use Rattle.analysis.specs.Forward.{kindOf}
 use Rattle.writer.specs.declared.Writer.{Writer}
 use Rattle.writer.specs.Machine.{Out}
-use Rattle.writer.specs.Draws.{Waiting, waiting, pull}
-use Rattle.writer.specs.Closing.{Shut, shut}
+use Rattle.writer.specs.Draws.{Waiting, waiting, advance}
+use Rattle.writer.specs.Closing.{Flushed, flush}
 use Rattle.writer.specs.Taking.{Taking, takes, offering}
 use Rattle.writer.specs.Spare.{holding, movedOn}
 use Rattle.level.specs.Heights.{heightAt}
@@ -218,8 +218,8 @@ module _ (φ l : ℕ) (W : Side) (top : ℕ) (from : W .start ≤ maxOrigin) (lo
           go zero = refl
           go (suc b) = refl
 
-      abbrev k : Shut
-      k = shut K L W top 0 r x
+      abbrev k : Flushed
+      k = flush K L W top 0 r x
 
       pub finish-passed : finishQuestion s n ≡ 0 →
           (event (finish n) w ≡ finished (gives tt)) × (next (finish n) w ≡ world (st φ W top L r c true (k .closed) (k .out .level) (k .out .left))
@@ -320,9 +320,9 @@ module _ (φ l : ℕ) (W : Side) (top : ℕ) (from : W .start ≤ maxOrigin) (lo
     q = waiting K L W top cl (suc u) i r
 
     abbrev o : Out
-    o = pull K L W top cl (suc u) i r x
+    o = advance K L W top cl (suc u) i r x
 
-    abbrev R : Shut
+    abbrev R : Flushed
     R = resumed f₁ s₁ o (o .level)
 
     -- the heights of the spare row gone on, where nothing waits
@@ -455,24 +455,24 @@ module _ (φ l : ℕ) (W : Side) (top : ℕ) (from : W .start ≤ maxOrigin) (lo
     unfolding event next offerReply offerStore
     free-passed = (rw e refl, rw e refl)
 
-    pub unshut : f₂ ≡ false
-    unshut = not-finished es r c cl 0 i x a n run e
+    pub unclosed : f₂ ≡ false
+    unclosed = not-finished es r c cl 0 i x a n run e
 
     all-moved : taken es ≡ a .moved
     all-moved = a .taken-is ∙ ap (λ b. a .moved ++ b) (none-there (a .held) (a .at .count)) ∙ append-nil _
 
     pub went : Offered φ l W top (drawn es) run (a .moved) (T₂ false)
-    went = offering-good φ l W top (drawn es) run (a .moved) r c cl 0 i x (subst (λ b. At φ L W top (a .moved) b (drawn es) r c cl 0 i x) unshut (a .at .at))
+    went = offering-good φ l W top (drawn es) run (a .moved) r c cl 0 i x (subst (λ b. At φ L W top (a .moved) b (drawn es) r c cl 0 i x) unclosed (a .at .at))
 
     free-reached : Reached (es ++ event (offer n run) w₅ ∷ []) (next (offer n run) w₅)
     free-reached =
         let o = went in
         let d = offered run (gives (T₂ false .taken)) in
         subst₂ (λ d k. Reached (es ++ d ∷ []) k)
-        (sym (free-passed .0 ∙ ap (λ b. offered run (gives (T₂ b .taken))) unshut))
-        (sym (free-passed .1 ∙ ap (λ b. world (T₂ b .writer) (T₂ b .store)) unshut ∙ ap (λ k. world k (T₂ false .store)) (o .writer-is)))
+        (sym (free-passed .0 ∙ ap (λ b. offered run (gives (T₂ b .taken))) unclosed))
+        (sym (free-passed .1 ∙ ap (λ b. world (T₂ b .writer) (T₂ b .store)) unclosed ∙ ap (λ k. world k (T₂ false .store)) (o .writer-is)))
         (more es d false (o .rows) (o .column) (o .closed) (o .level) (o .left) (T₂ false .store)
-        (a .moved ++ take (T₂ false .taken) run) [] (either-no f₂ ∙ unshut)
+        (a .moved ++ take (T₂ false .taken) run) [] (either-no f₂ ∙ unclosed)
         (ap (λ b. b ++ take (T₂ false .taken) run) all-moved ∙ sym (append-nil _))
         (quiet φ l W top (o .level)
         (subst (λ b. At φ L W top (a .moved ++ take (T₂ false .taken) run) false b (o .rows) (o .column) (o .closed) (o .level) (o .left) (T₂ false .store))
@@ -490,10 +490,10 @@ module _ (φ l : ℕ) (W : Side) (top : ℕ) (from : W .start ≤ maxOrigin) (lo
     free-takes =
         let o = went in (
           T₂ false .taken,
-          free-passed .0 ∙ ap (λ b. offered run (gives (T₂ b .taken))) unshut,
+          free-passed .0 ∙ ap (λ b. offered run (gives (T₂ b .taken))) unclosed,
           record {
             most = o .most;
-            some = λ p _. takes-one K run (st φ W top L r c false cl 0 i) x (subst (λ b. takes (st φ W top L r c b cl 0 i) ≡ true) unshut (may p)) p;
+            some = λ p _. takes-one K run (st φ W top L r c false cl 0 i) x (subst (λ b. takes (st φ W top L r c b cl 0 i) ≡ true) unclosed (may p)) p;
             until = λ j p. on-is j ∙ o .until j p;
             stop = λ p. on-is (T₂ false .taken) ∙ o .stop p;
           },

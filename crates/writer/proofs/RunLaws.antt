@@ -19,23 +19,23 @@ use Rattle.progress.specs.declared.levels.Level.{Level}
 use Rattle.progress.specs.Counts.{skip}
 use Rattle.writer.specs.declared.Writer.{Writer}
 use Rattle.writer.specs.declared.BandRow.{BandRow}
-use Rattle.writer.specs.declared.draws.Spot.{Spot}
+use Rattle.writer.specs.declared.draws.PlacedRow.{PlacedRow}
 use Rattle.writer.specs.declared.runs.Counts.{Counts}
 use Rattle.writer.specs.Answers.{Took, Handed, aRow}
 use Rattle.writer.specs.Taking.{columnsOf, kind, Taking, takes, offering}
 use Rattle.writer.specs.Spare.{moving, movedOn}
 use Rattle.writer.specs.Questions.{rowsTaken, waitingRow, offerQuestion, drawQuestion}
-use Rattle.writer.specs.Gate.{stateQuestion}
-use Rattle.writer.specs.Calls.{pulled, waits, afterDraw, offerReply, offerStore, drawReply, drawStore, drawArea}
+use Rattle.writer.specs.FirstQuestions.{stateQuestion}
+use Rattle.writer.specs.Calls.{advanced, waits, afterDraw, offerReply, offerStore, drawReply, drawStore, drawArea}
 use Rattle.writer.specs.Holds.{left, after}
 use Rattle.writer.specs.History.{offer, draw, given, offered, drew, event, next}
 use Rattle.writer.specs.Steps.{Left, columns, received, Reached, Found, Drew, DrewOn}
-use Rattle.writer.specs.Stretch.{nextCount, Stretched}
+use Rattle.writer.specs.OfferSteps.{nextCount, HeightsTaken}
 use Rattle.writer.specs.Runs.{Run, named, noted, rowLeft, areaLeft, callOf, due, afterCall, ran}
 use Rattle.writer.specs.RunSteps.{withLeft, rowAt, runAt, oneMore, Steps, stay, step, Went, Ready, Draws, Turned, SetDrawn, Over}
-use Rattle.writer.proofs.GateLaws.{sound, taken-open, offer-limit, offer-passes}
+use Rattle.writer.proofs.QuestionLaws.{sound, taken-open, offer-limit, offer-passes}
 use Rattle.writer.proofs.CallLaws.{drew-open, drew-waits, drew-still, draw-short, draw-long, draw-row}
-use Rattle.writer.proofs.DrawLaws.{pull-waits}
+use Rattle.writer.proofs.DrawLaws.{advance-waits}
 use Rattle.writer.proofs.OfferLaws.{plus-none, takes-yes, takes-rows, next-empty, next-is, gone-on, gone-all, offer-yes}
 use Rattle.writer.proofs.RangesKept.{false-true, draw-passes, stretch-passes}
 
@@ -129,9 +129,9 @@ note-draw p s a c y q b v e = rw e refl
 
 -- the row that waits, r
 module _ (n k m : ℕ) (d : Counts) (s : Writer) (x z : Memory) (l : List ℕ) (ready : Ready n k m (runAt d s x z l)) (some : 0 < s .level)
-    (r : Spot) (found : Found (s .filter) (s .levels) (columnsOf s) (waitingRow s) r) where
+    (r : PlacedRow) (found : Found (s .filter) (s .levels) (columnsOf s) (waitingRow s) r) where
   long : r .length ≡ waitingRow s .length
-  long = ap (λ (o : Spot). o .length) (found .spot)
+  long = ap (λ (o : PlacedRow). o .length) (found .spot)
 
   pub no-room : (e : Bool) → e ≡ both (leb (r .length) (k - d .numbers)) (ltb (d .rows) m) → e ≡ false →
       (hs : List ℕ) → due n hs k m (runAt d s x z l) ≡ false
@@ -231,8 +231,8 @@ pub next-waits : (s : Writer) (n : ℕ) (x : Memory) (q : Level) → stateQuesti
     i ≡ skip (columns q) (received q) (q .set) p → 0 < i → DrewOn s x (withLeft s i) x
 next-waits s n x q h some reach p i ep ei more = drew-still s x (withLeft s i) x (go (s .finished) refl) some
   where
-    there : Left (s .filter) (s .levels) (columnsOf s) (pulled s x) (record { level = s .level; left = i; offset = s .offset }) x
-    there = pull-waits s q reach (sound s n h .placed) x p i ep ei some more
+    there : Left (s .filter) (s .levels) (columnsOf s) (advanced s x) (record { level = s .level; left = i; offset = s .offset }) x
+    there = advance-waits s q reach (sound s n h .placed) x p i ep ei some more
 
     go : (b : Bool) → s .finished ≡ b → Drew s x (withLeft s i) x
     go false e = drew-open s x x _ there e
@@ -302,7 +302,7 @@ module _ (n : ℕ) (hs : List ℕ) (k m : ℕ) (d : Counts) (s : Writer) (x z : 
   }
 
   -- it takes j heights, those of `run`: r and y are the writer and the store then
-  module _ (some : 0 < j) (run : List ℕ) (part : run ≡ take j (drop (d .taken) hs)) (r : Writer) (y : Memory) (e : ℕ) (f : Stretched s run 0 j x r y e) where
+  module _ (some : 0 < j) (run : List ℕ) (part : run ≡ take j (drop (d .taken) hs)) (r : Writer) (y : Memory) (e : ℕ) (f : HeightsTaken s run 0 j x r y e) where
     has : (takes s ≡ true) × (s .column + j ≤ s .width) × (j ≤ length hs - d .taken)
     has = let q = next-is s (length hs - d .taken) j count some column-in in (q .takes, q .row, q .run)
 

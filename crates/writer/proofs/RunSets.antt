@@ -24,17 +24,17 @@ use Rattle.progress.specs.Counts.{skip}
 use Rattle.progress.specs.Levels.{levelAt}
 use Rattle.writer.specs.declared.Writer.{Writer}
 use Rattle.writer.specs.declared.BandRow.{BandRow}
-use Rattle.writer.specs.declared.draws.Spot.{Spot}
+use Rattle.writer.specs.declared.draws.PlacedRow.{PlacedRow}
 use Rattle.writer.specs.declared.runs.Counts.{Counts}
 use Rattle.writer.specs.Taking.{columnsOf}
 use Rattle.writer.specs.Questions.{either, inRanges, longEnough, waitingRow}
-use Rattle.writer.specs.Gate.{stateQuestion}
+use Rattle.writer.specs.FirstQuestions.{stateQuestion}
 use Rattle.writer.specs.Steps.{Walk, Placed, Reached, Found, Drawable, Spares, DrewOn, columns, received}
-use Rattle.writer.specs.Stretch.{nextCount, Taker}
+use Rattle.writer.specs.OfferSteps.{nextCount, Taker}
 use Rattle.writer.specs.Runs.{Run, named, due, begin, runOf, runQuestion, idle, orElse, runTurned, runReply}
 use Rattle.writer.specs.RunSteps.{withLeft, rowAt, runAt, oneMore, Went, Ready, Draws, Turned, SetDrawn, Over}
 use Rattle.writer.proofs.Waiting.{skip-le}
-use Rattle.writer.proofs.GateLaws.{sound}
+use Rattle.writer.proofs.QuestionLaws.{sound}
 use Rattle.writer.proofs.CallLaws.{sound-walk, sound-drawable, sound-spares}
 use Rattle.writer.proofs.DrawLaws.{reached}
 use Rattle.writer.proofs.OfferLaws.{takes-rows, next-is, sound-taker}
@@ -82,7 +82,7 @@ left-waits s n i q f h g t e =
     subst (λ (t : Writer). Walk (t .levels) (columnsOf t) (t .level) (t .rows) × Placed t × Reached t q) (sym e)
     (let d = sound (withLeft s i) n f in (sound-walk (withLeft s i) n d h, d .placed, g))
 
-pub found-room : (s : Writer) (n : ℕ) → stateQuestion s n ≡ 0 → (r : Spot) → Found (s .filter) (s .levels) (columnsOf s) (waitingRow s) r →
+pub found-room : (s : Writer) (n : ℕ) → stateQuestion s n ≡ 0 → (r : PlacedRow) → Found (s .filter) (s .levels) (columnsOf s) (waitingRow s) r →
     r .start + r .length ≤ n
 found-room s n f r g = omega (arith, g .room, sound s n f .room)
 
@@ -91,7 +91,7 @@ left-drawable s n f h = (sound-drawable s n (sound s n f) h, sound-spares s n (s
 
 -- ---- a row of it: r is the row that waits, e whether it and its name have room
 module _ (n k m a b : ℕ) (ea : a ≡ k) (eb : b ≡ m) (d : Counts) (t : Writer) (x z : Memory) (l : List ℕ) (p : Run) (g : Draws n k m p (runAt d t x z l))
-    (some : 0 < t .level) (r : Spot) (found : Found (t .filter) (t .levels) (columnsOf t) (waitingRow t) r)
+    (some : 0 < t .level) (r : PlacedRow) (found : Found (t .filter) (t .levels) (columnsOf t) (waitingRow t) r)
     (e : Bool) (i : e ≡ both (leb (r .length) (a - d .numbers)) (ltb (d .rows) b)) where
   same-test : e ≡ both (leb (r .length) (k - d .numbers)) (ltb (d .rows) m)
   same-test = i ∙ ap₂ (λ (u v : ℕ). both (leb (r .length) (u - d .numbers)) (ltb (d .rows) v)) ea eb
@@ -148,7 +148,7 @@ last-row s i n k m d₀ d x z z′ l l′ g f h q eq t et = record {
 }
 
 module _ (n k c₀ : ℕ) (p : Run) (d : Counts) (t : Writer) (x z : Memory) (l : List ℕ) (q : Level) (o : Last n k (c₀ / 4) p d t x z l q)
-    (r : Spot) (found : Found (t .filter) (t .levels) (columnsOf t) (waitingRow t) r) (a c : ℕ) (ea : a ≡ k) (ec : c ≡ c₀)
+    (r : PlacedRow) (found : Found (t .filter) (t .levels) (columnsOf t) (waitingRow t) r) (a c : ℕ) (ea : a ≡ k) (ec : c ≡ c₀)
     (e : Bool) (i : e ≡ both (leb (r .length) (a - d .numbers)) (ltb (d .rows) (c / 4)))
     (z′ : Memory) (l′ : List ℕ) (ez : z′ ≡ pick e (joinAt (d .numbers) z (fronted (r .length) (rest (r .start) x) (rest (d .numbers) z))) z)
     (el : l′ ≡ pick e (named (d .rows) (rowAt r) l) l) where
@@ -191,7 +191,7 @@ module _ (s : Writer) (q : Level) (store out₀ out : List ℤ) (names₀ names 
   pub put-waits : (t : Writer) → t ≡ withLeft s left → Walk (t .levels) (columnsOf t) (t .level) (t .rows) × Placed t × Reached t q
   put-waits = left-waits s (length store) left q (u .draws .ready .sound) (u .some) (u .level)
 
-  module _ (t : Writer) (et : t ≡ withLeft s left) (r : Spot) (found : Found (t .filter) (t .levels) (columnsOf t) (waitingRow t) r) where
+  module _ (t : Writer) (et : t ≡ withLeft s left) (r : PlacedRow) (found : Found (t .filter) (t .levels) (columnsOf t) (waitingRow t) r) where
     there : Found (s .filter) (s .levels) (columnsOf s) (waitingRow (withLeft s left)) r
     there = subst (λ (t : Writer). Found (t .filter) (t .levels) (columnsOf t) (waitingRow t) r) et found
 

@@ -30,8 +30,8 @@ use Rattle.analysis.proofs.ForwardLaws.{laws-of}
 use Rattle.progress.specs.Counts.{mostLeft, startOf}
 use Rattle.writer.specs.declared.Writer.{Writer}
 use Rattle.writer.specs.Machine.{Out}
-use Rattle.writer.specs.Draws.{Waiting, waiting, pull}
-use Rattle.writer.specs.Closing.{Shut}
+use Rattle.writer.specs.Draws.{Waiting, waiting, advance}
+use Rattle.writer.specs.Closing.{Flushed}
 use Rattle.writer.specs.Taking.{Taking, takes, offering}
 use Rattle.writer.specs.Spare.{moving, movedOn}
 use Rattle.writer.specs.Questions.{mostColumn, inRanges}
@@ -382,9 +382,9 @@ module _ (φ l : ℕ) (W : Side) (top : ℕ) where
     q = waiting K L W top cl (suc v) i r
 
     abbrev out : Out
-    out = pull K L W top cl (suc v) i r x
+    out = advance K L W top cl (suc v) i r x
 
-    abbrev left : ℕ → Shut
+    abbrev left : ℕ → Flushed
     left k = resumed f (st φ W top L r k f cl (suc v) i) out (out .level)
 
     pub drawn-on : (z : ℕ → ℤ) → ((j : ℕ) → j < q .length → z j ≡ x (q .start + j)) →
@@ -405,4 +405,4 @@ module _ (φ l : ℕ) (W : Side) (top : ℕ) where
     empties-is z e =
         let a = draw-good φ l W top ds ts f r 0 cl v i x (h .at) z e in
         ap isNone (waiting-is φ a) ∙ none-eqb φ l W top _ ts f r 0 _ (left 0 .out .level) _ _ a
-        ∙ ap (λ (R : Shut). eqb (R .out .level) 0) (resumed-any φ W top L r f cl (suc v) i out f (out .level) 0 c)
+        ∙ ap (λ (R : Flushed). eqb (R .out .level) 0) (resumed-any φ W top L r f cl (suc v) i out f (out .level) 0 c)

@@ -17,12 +17,12 @@ use Rattle.analysis.proofs.ForwardLaws.{laws-of}
 use Rattle.writer.specs.declared.Writer.{Writer}
 use Rattle.progress.specs.Counts.{mostLeft, startOf}
 use Rattle.writer.specs.Machine.{Out, arrive}
-use Rattle.writer.specs.Draws.{pull}
-use Rattle.writer.specs.Closing.{Shut, shut}
+use Rattle.writer.specs.Draws.{advance}
+use Rattle.writer.specs.Closing.{Flushed, flush}
 use Rattle.writer.specs.Taking.{columnsOf}
 use Rattle.writer.specs.Calls.{fresh, resumed}
 use Rattle.writer.specs.Holds.{LevelsHold, Holds}
-use Rattle.writer.proofs.CascadeHolds.{Good, Pulled, Closed, cell-good, arrive-good, pull-good, shut-good, fresh-good}
+use Rattle.writer.proofs.CascadeHolds.{Good, Advanced, Closed, cell-good, arrive-good, advance-good, flush-good, fresh-good}
 
 pub differ : false ≡ true → ⊥
 differ e = let z : _≡_ {A = ℕ} 0 1 = ap (λ t. pick t 1 0) e in omega arith
@@ -113,68 +113,68 @@ module _ (φ : ℕ) where
       pub none-begun : c ≡ 0
       none-begun = h .idle (omega arith)
 
-      pub pulled-by : Pulled K Held Ended laws L 1 W (side s H) g cl v i r x
-      pulled-by = pull-good K Held Ended laws L 1 W (side s H) g cl v i r c x (h .few) none-begun (h .levels)
+      pub advanced-by : Advanced K Held Ended laws L 1 W (side s H) g cl v i r x
+      advanced-by = advance-good K Held Ended laws L 1 W (side s H) g cl v i r c x (h .few) none-begun (h .levels)
 
       abbrev o : Out
-      o = pull K L W s cl (suc v) i r x
+      o = advance K L W s cl (suc v) i r x
 
     -- the levels close on once nothing waits
-    pub shut-on : (r c cl v i : ℕ) (x : Memory) (h : Has r c true cl (suc v) i x) → (let o = pull K L W s cl (suc v) i r x in o .level ≡ 0 →
-        Closed K Held Ended laws L 1 W (side s H) g cl r (shut K L W s cl r (o .store)))
-    shut-on r c cl v i x h y =
-        let o = pull K L W s cl (suc v) i r x in
+    pub flush-on : (r c cl v i : ℕ) (x : Memory) (h : Has r c true cl (suc v) i x) → (let o = advance K L W s cl (suc v) i r x in o .level ≡ 0 →
+        Closed K Held Ended laws L 1 W (side s H) g cl r (flush K L W s cl r (o .store)))
+    flush-on r c cl v i x h y =
+        let o = advance K L W s cl (suc v) i r x in
         let e = h .ended refl in
-        shut-good K Held Ended laws L 1 W (side s H) g cl r (o .left) (o .store) (e .0) (subst (λ b. Inv cl b (o .left) r 0 (o .store)) y
-        (pulled-by r c true cl v i x h .good .inv))
+        flush-good K Held Ended laws L 1 W (side s H) g cl r (o .left) (o .store) (e .0) (subst (λ b. Inv cl b (o .left) r 0 (o .store)) y
+        (advanced-by r c true cl v i x h .good .inv))
 
-    draw-open : (r c cl v i : ℕ) (x : Memory) → Has r c false cl (suc v) i x → (let o = pull K L W s cl (suc v) i r x in
+    draw-open : (r c cl v i : ℕ) (x : Memory) → Has r c false cl (suc v) i x → (let o = advance K L W s cl (suc v) i r x in
         Has r c false cl (o .level) (o .left) (o .store))
     draw-open r c cl v i x h =
-        let o = pull K L W s cl (suc v) i r x in
-        let k = pulled-by r c false cl v i x h .good in
+        let o = advance K L W s cl (suc v) i r x in
+        let k = advanced-by r c false cl v i x h .good in
         let z = none-begun r c false cl v i x h in
         open-holds r c cl (o .level) (o .left) (o .store) (subst (λ b. Inv cl (o .level) (o .left) r b (o .store)) (sym z) (k .inv)) (k .few) (λ _. z)
         (h .before refl)
 
     draw-closed : (r c cl v i : ℕ) (x : Memory) (h : Has r c true cl (suc v) i x) →
-        (let o = pull K L W s cl (suc v) i r x in (b : ℕ) → o .level ≡ b → (let k = resumed true (st φ W s L r c true cl (suc v) i) o b in
+        (let o = advance K L W s cl (suc v) i r x in (b : ℕ) → o .level ≡ b → (let k = resumed true (st φ W s L r c true cl (suc v) i) o b in
         Has r c true (k .closed) (k .out .level) (k .out .left) (k .out .store)))
     unfolding resumed
     draw-closed r c cl v i x h zero y =
-        let k = shut-on r c cl v i x h y in
-        let q : Shut = shut K L W s cl r (pull K L W s cl (suc v) i r x .store) in
+        let k = flush-on r c cl v i x h y in
+        let q : Flushed = flush K L W s cl r (advance K L W s cl (suc v) i r x .store) in
         let z = none-begun r c true cl v i x h in
         let e = h .ended refl in
         closed-holds r c (q .closed) (q .out .level) (q .out .left) (q .out .store)
         (subst (λ b. Inv (q .closed) (q .out .level) (q .out .left) r b (q .out .store)) (sym z) (k .inv)) (k .few) (λ _. z) (e .0) (e .1) (k .all)
     draw-closed r c cl v i x h (suc b) y =
-        let o = pull K L W s cl (suc v) i r x in
-        let k = pulled-by r c true cl v i x h .good in
+        let o = advance K L W s cl (suc v) i r x in
+        let k = advanced-by r c true cl v i x h .good in
         let z = none-begun r c true cl v i x h in
         let e = h .ended refl in
         closed-holds r c cl (o .level) (o .left) (o .store) (subst (λ b. Inv cl (o .level) (o .left) r b (o .store)) (sym z) (k .inv)) (k .few) (λ _. z)
         (e .0) (e .1) (λ a. absurd (omega arith))
 
     pub draw-holds : (r c : ℕ) (f : Bool) (cl v i : ℕ) (x : Memory) → Has r c f cl (suc v) i x →
-        (let o = pull K L W s cl (suc v) i r x in let k = resumed f (st φ W s L r c f cl (suc v) i) o (o .level) in Has r c f (k .closed) (k .out .level)
+        (let o = advance K L W s cl (suc v) i r x in let k = resumed f (st φ W s L r c f cl (suc v) i) o (o .level) in Has r c f (k .closed) (k .out .level)
         (k .out .left) (k .out .store))
     draw-holds r c false cl v i x h = unfold resumed in draw-open r c cl v i x h
     draw-holds r c true cl v i x h = draw-closed r c cl v i x h _ refl
 
     -- ---- the finish
     module _ (r c cl v i : ℕ) (x : Memory) (h : Has r c false cl v i x) (z : v ≡ 0) (p : 0 < r) (n : c ≡ 0) (e : r ≡ H) where
-      abbrev k : Shut
-      k = shut K L W s 0 r x
+      abbrev k : Flushed
+      k = flush K L W s 0 r x
 
-      pub shut-first : Closed K Held Ended laws L 1 W (side s H) g 0 r k
-      shut-first = shut-good K Held Ended laws L 1 W (side s H) g 0 r i x e (subst₂ (λ b d. Inv 0 b i r d x) z n (subst (λ b. Inv b v i r c x)
+      pub flush-first : Closed K Held Ended laws L 1 W (side s H) g 0 r k
+      flush-first = flush-good K Held Ended laws L 1 W (side s H) g 0 r i x e (subst₂ (λ b d. Inv 0 b i r d x) z n (subst (λ b. Inv b v i r c x)
           (h .before refl) (h .levels)))
 
       pub finish-holds : Has r c true (k .closed) (k .out .level) (k .out .left) (k .out .store)
       finish-holds =
-          closed-holds r c _ _ _ _ (subst (λ b. Inv (k .closed) (k .out .level) (k .out .left) r b (k .out .store)) (sym n) (shut-first .inv))
-          (shut-first .few) (λ _. n) e p (shut-first .all)
+          closed-holds r c _ _ _ _ (subst (λ b. Inv (k .closed) (k .out .level) (k .out .left) r b (k .out .store)) (sym n) (flush-first .inv))
+          (flush-first .few) (λ _. n) e p (flush-first .all)
 
   -- ---- one height more
   module _ (H : ℕ) (g : Grid) (W : Side) (s l r c cl v i : ℕ) (x : Memory) (h : Holds H g (st φ W s (suc l) r c false cl v i) x) (z : v ≡ 0)

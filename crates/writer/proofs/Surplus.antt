@@ -29,8 +29,8 @@ use Rattle.analysis.proofs.ForwardLaws.{laws-of}
 use Rattle.writer.specs.declared.Writer.{Writer}
 use Rattle.progress.specs.Counts.{made, lowRows, most, skip}
 use Rattle.writer.specs.Machine.{Out, still, under, passed, settled, arrived, arrive, passOn}
-use Rattle.writer.specs.Draws.{pull}
-use Rattle.writer.specs.Closing.{Shut, stepped, onward, closeStep, closeLevel, shut}
+use Rattle.writer.specs.Draws.{advance}
+use Rattle.writer.specs.Closing.{Flushed, stepped, onward, closeStep, closeLevel, flush}
 use Rattle.writer.specs.Taking.{kind, columnsOf, Taking, none, oneMore, takes, begun, complete, heightPut, rowMakes, offering}
 use Rattle.writer.specs.Spare.{spareAt, spareRoom, holding, movedRow, moving, movedOn}
 use Rattle.level.specs.Heights.{heightAt}
@@ -106,14 +106,15 @@ module _ (φ : ℕ) where
       go ih false = refl
 
   -- ---- a row is drawn
-  pub pull-past : (L : ℕ) (w : Side) (s c v i m : ℕ) (x : Memory) → Past (storeBy φ w L) x (pull K L w s c v i m x .store)
-  unfolding pull
-  pull-past zero w s c v i m x j p = refl
-  pull-past (suc l) w s c zero i m x j p = refl
-  pull-past (suc l) w s c (suc zero) i m x j p =
+  pub advance-past : (L : ℕ) (w : Side) (s c v i m : ℕ) (x : Memory) → Past (storeBy φ w L) x (advance K L w s c v i m x .store)
+  unfolding advance
+  advance-past zero w s c v i m x j p = refl
+  advance-past (suc l) w s c zero i m x j p = refl
+  advance-past (suc l) w s c (suc zero) i m x j p =
       settle-past l (arrive-past l) w s (prev (made (ahead K) c s m)) x x (λ _ _. refl) (skip w (side s m) (prev (made (ahead K) c s m)) (prev i)) j p
-  pull-past (suc l) w s c (suc (suc v)) i m x j p =
-      under-past l w x _ (λ a q. pull-past l (next w) ((s + 1) / 2) (c - ahead K) (suc v) i (lowRows s (made (ahead K) c s m)) (rest (R * w .length) x) a q) j p
+  advance-past (suc l) w s c (suc (suc v)) i m x j p =
+      under-past l w x _
+      (λ a q. advance-past l (next w) ((s + 1) / 2) (c - ahead K) (suc v) i (lowRows s (made (ahead K) c s m)) (rest (R * w .length) x) a q) j p
 
   -- ---- levels close
   step-past : (l : ℕ) (w : Side) (s c m : ℕ) (x : Memory) → Past (storeBy φ w (suc l)) x (closeStep K l w s c m x .store)
@@ -137,24 +138,24 @@ module _ (φ : ℕ) where
       o : Out
       o = closeStep K l w s c m x
 
-      on : Memory → Shut
+      on : Memory → Flushed
       on y = closeLevel K f l w s (suc c) m y
 
       go : ((y : Memory) → Past (storeBy φ w (suc l)) y (on y .out .store)) → (v : ℕ) → stepped c on o v .out .store j ≡ x j
       go ih zero = ih (o .store) j p ∙ step-past l w s c m x j p
       go ih (suc v) = step-past l w s c m x j p
 
-  pub shut-past : (L : ℕ) (w : Side) (s c m : ℕ) (x : Memory) → Past (storeBy φ w L) x (shut K L w s c m x .out .store)
-  unfolding shut onward
-  shut-past zero w s c m x j p = refl
-  shut-past (suc l) w s c m x j p =
-      go (shut-past l (next w) ((s + 1) / 2) (c - ahead K) (count lo (side s m))) (o .out .level)
+  pub flush-past : (L : ℕ) (w : Side) (s c m : ℕ) (x : Memory) → Past (storeBy φ w L) x (flush K L w s c m x .out .store)
+  unfolding flush onward
+  flush-past zero w s c m x j p = refl
+  flush-past (suc l) w s c m x j p =
+      go (flush-past l (next w) ((s + 1) / 2) (c - ahead K) (count lo (side s m))) (o .out .level)
     where
-      o : Shut
+      o : Flushed
       o = closeLevel K (ahead K - c) l w s c m x
 
-      below : Memory → Shut
-      below y = shut K l (next w) ((s + 1) / 2) (c - ahead K) (count lo (side s m)) y
+      below : Memory → Flushed
+      below y = flush K l (next w) ((s + 1) / 2) (c - ahead K) (count lo (side s m)) y
 
       closed : o .out .store j ≡ x j
       closed = level-past (ahead K - c) l w s c m x j p
@@ -222,8 +223,8 @@ pub finish-surplus : (s : Writer) (n : ℕ) (x : Memory) (j : ℕ) → writerSto
 unfolding finishStore
 finish-surplus s n x j p = go (finishQuestion s n)
   where
-    go : (q : ℕ) → changedUnless q (shut (kind s) (s .levels) (columnsOf s) (s .y) 0 (s .rows) x .out .store) x j ≡ x j
-    go zero = shut-past (s .filter) (s .levels) (columnsOf s) (s .y) 0 (s .rows) x j (omega arith)
+    go : (q : ℕ) → changedUnless q (flush (kind s) (s .levels) (columnsOf s) (s .y) 0 (s .rows) x .out .store) x j ≡ x j
+    go zero = flush-past (s .filter) (s .levels) (columnsOf s) (s .y) 0 (s .rows) x j (omega arith)
     go (suc q) = refl
 
 -- a draw leaves alone what stands past the levels' stretches
@@ -232,15 +233,15 @@ unfolding resumed
 after-past s x j p = on (s .finished) (o .level)
   where
     o : Out
-    o = pull (kind s) (s .levels) (columnsOf s) (s .y) (s .closed) (s .level) (s .left) (s .rows) x
+    o = advance (kind s) (s .levels) (columnsOf s) (s .y) (s .closed) (s .level) (s .left) (s .rows) x
 
-    pulled-past : o .store j ≡ x j
-    pulled-past = pull-past (s .filter) (s .levels) (columnsOf s) (s .y) (s .closed) (s .level) (s .left) (s .rows) x j p
+    advanced-past : o .store j ≡ x j
+    advanced-past = advance-past (s .filter) (s .levels) (columnsOf s) (s .y) (s .closed) (s .level) (s .left) (s .rows) x j p
 
     on : (f : Bool) (v : ℕ) → resumed f s o v .out .store j ≡ x j
-    on false v = pulled-past
-    on true zero = shut-past (s .filter) (s .levels) (columnsOf s) (s .y) (s .closed) (s .rows) (o .store) j p ∙ pulled-past
-    on true (suc v) = pulled-past
+    on false v = advanced-past
+    on true zero = flush-past (s .filter) (s .levels) (columnsOf s) (s .y) (s .closed) (s .rows) (o .store) j p ∙ advanced-past
+    on true (suc v) = advanced-past
 
 -- and so do the heights of the spare row that it moves on
 moving-past : (s : Writer) (x : Memory) (j : ℕ) → s .column ≤ s .width → 1 ≤ s .levels → storeBy (s .filter) (columnsOf s) (s .levels) ≤ j →

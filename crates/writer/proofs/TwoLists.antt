@@ -35,8 +35,8 @@ use Rattle.progress.proofs.CountLaws.{code-one}
 use Rattle.writer.specs.declared.Writer.{Writer}
 use Rattle.writer.specs.declared.BandRow.{BandRow}
 use Rattle.writer.specs.Machine.{Out}
-use Rattle.writer.specs.Draws.{Waiting, waiting, pull}
-use Rattle.writer.specs.Closing.{Shut, shut}
+use Rattle.writer.specs.Draws.{Waiting, waiting, advance}
+use Rattle.writer.specs.Closing.{Flushed, flush}
 use Rattle.writer.specs.Taking.{Taking, offering}
 use Rattle.writer.specs.Spare.{movedOn}
 use Rattle.writer.specs.Questions.{either, inRanges, longEnough, offerQuestion, finishQuestion, setUpQuestion}
@@ -47,7 +47,7 @@ use Rattle.writer.specs.History.{offered, drew, finished, looked, World,
 use Rattle.writer.specs.History.{takenBy, taken, finishes, finishedBy, DrawnRow, drawnBy, drawn}
 use Rattle.writer.specs.Demand3.{answered, isNone, isLong, offerTurned, finishTurned}
 use Rattle.writer.specs.TwoLists.{tells, waitsIn, isDue, apart, Alike, ended, alike, held, moved}
-use Rattle.writer.proofs.StateHolds.{differ, st, pulled-by, fresh-st}
+use Rattle.writer.proofs.StateHolds.{differ, st, advanced-by, fresh-st}
 use Rattle.writer.proofs.CallLaws.{set-up-passed, offer-may, finish-may}
 use Rattle.writer.proofs.Filling.{front-in, front-past}
 use Rattle.writer.proofs.CallList.{rows-of, column-of, coming, At, own, own-height, own-sound}
@@ -55,7 +55,7 @@ use Rattle.writer.proofs.CallList.{waiting-is, none-eqb, takesAt, Offer
 use Rattle.writer.proofs.CallsKeep.{draw-values}
 use Rattle.writer.proofs.SpareList.{Held, quiet, none-held, held-more, Drawn, drawn-on, empties-is, none-there, begun}
 use Rattle.writer.proofs.Reached.{State, ranges, offer-refused, not-finished, offer-question, finish-passed, finish-refused, finish-question, draw-five}
-use Rattle.writer.proofs.Reached.{look-refl, draw-none, draw-short, draw-row, values-are, free-passed, unshut, went, held-passed, open₃, low₃, at-free}
+use Rattle.writer.proofs.Reached.{look-refl, draw-none, draw-short, draw-row, values-are, free-passed, unclosed, went, held-passed, open₃, low₃, at-free}
 use Rattle.writer.proofs.Demand3.{some-level}
 
 abbrev first-of : List RowName → RowName → RowName
@@ -148,7 +148,7 @@ module _ (φ l : ℕ) (W : Side) (top : ℕ) (from : W .start ≤ maxOrigin) (lo
   tells-level ts hs es r c cl zero i x t h =
       ap (λ (y : Reply BandRow). tells (looked y)) (look-refl φ l W top from low sized es r c cl 0 i x (state ts hs es r c cl 0 i x t h))
   tells-level ts hs es r c cl (suc v) i x t h =
-      let P = pulled-by φ _ _ W top L r 0 (finishedBy es) cl v i x (own-sound φ (h .at) .holds) in
+      let P = advanced-by φ _ _ W top L r 0 (finishedBy es) cl v i x (own-sound φ (h .at) .holds) in
       ap (λ (y : Reply BandRow). tells (looked y)) (look-refl φ l W top from low sized es r c cl (suc v) i x (state ts hs es r c cl (suc v) i x t h))
       ∙ ap (λ n. not (eqb n 0)) (P .is .level-is)
       ∙ ap not (ne-eqb (suc (P .depth)) 0 (λ z. omega arith) ∙ sym (ne-eqb (suc v) 0 (λ z. omega arith)))
@@ -422,12 +422,13 @@ module _ (φ l : ℕ) (W : Side) (top : ℕ) (from : W .start ≤ maxOrigin) (lo
     abbrev e : Event
     e = drew z (gives (row (bandRow pa))) (record { size = z .size; numbers = za })
 
-    abbrev la : Shut
-    la = resumed (finishedBy es) (st φ W top L r c (finishedBy es) cl (suc u) i) (pull K L W top cl (suc u) i r x) (pull K L W top cl (suc u) i r x .level)
+    abbrev la : Flushed
+    la = resumed (finishedBy es) (st φ W top L r c (finishedBy es) cl (suc u) i) (advance K L W top cl (suc u) i r x)
+        (advance K L W top cl (suc u) i r x .level)
 
-    abbrev lb : Shut
-    lb = resumed (finishedBy fs) (st φ W top L r′ c′ (finishedBy fs) cl′ (suc u′) i′) (pull K L W top cl′ (suc u′) i′ r′ y)
-        (pull K L W top cl′ (suc u′) i′ r′ y .level)
+    abbrev lb : Flushed
+    lb = resumed (finishedBy fs) (st φ W top L r′ c′ (finishedBy fs) cl′ (suc u′) i′) (advance K L W top cl′ (suc u′) i′ r′ y)
+        (advance K L W top cl′ (suc u′) i′ r′ y .level)
 
     abbrev ua : ℕ
     ua = la .out .level
@@ -661,11 +662,11 @@ module _ (φ l : ℕ) (W : Side) (top : ℕ) (from : W .start ≤ maxOrigin) (lo
         m′ : (finishedBy fs ≡ false) × (v′ ≡ 0) × (0 < r′) × (c′ ≡ 0)
         m′ = finish-may (st φ W top L r′ c′ (finishedBy fs) cl′ v′ i′) n e′
 
-        k : Shut
-        k = shut K L W top 0 r x
+        k : Flushed
+        k = flush K L W top 0 r x
 
-        k′ : Shut
-        k′ = shut K L W top 0 r′ y
+        k′ : Flushed
+        k′ = flush K L W top 0 r′ y
 
         p : (event (finish n) wa₂ ≡ finished (gives tt)) × (next (finish n) wa₂ ≡ world (st φ W top L r c true (k .closed) (k .out .level) (k .out .left))
             (k .out .store))

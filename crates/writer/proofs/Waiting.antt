@@ -16,7 +16,7 @@ use Rattle.wavelet.specs.Levels.{next}
 use Rattle.wavelet.proofs.OrderLaws.{made-early, last-set, unmade-is, turn-zero, turn-suc, turn-same, turn-none, turn-add, set-empty}
 use Rattle.level.specs.Level.{prev, completes}
 use Rattle.progress.specs.Counts.{deeper, made, lowRows, most, bandAt, skip}
-use Rattle.progress.proofs.CountLaws.{made-open, made-shut}
+use Rattle.progress.proofs.CountLaws.{made-open, made-closed}
 
 -- the last i bands of a set
 unfoldable pub lasts : ℕ → List Band
@@ -126,23 +126,23 @@ module _ (a l k : ℕ) (W H : Side) where
       go false i p = refl
 
   -- all of them are made after a steps
-  pub left-shut : (c : ℕ) → 1 ≤ a → a ≤ c → leftOf a l k W H (made a c (H .start) (H .length)) ≡ []
-  left-shut c one h =
+  pub left-closed : (c : ℕ) → 1 ≤ a → a ≤ c → leftOf a l k W H (made a c (H .start) (H .length)) ≡ []
+  left-closed c one h =
       elim (decLt 0 (H .length)) [
-        | yes p ↦ left-none _ (omega (arith, made-shut a c (H .start) (H .length) one h, last-set H))
+        | yes p ↦ left-none _ (omega (arith, made-closed a c (H .start) (H .length) one h, last-set H))
         | no p ↦ left-empty _ one (omega arith)
       ]
 
 -- ---- what is left of all levels
-pub later-shut : (a l k : ℕ) (W H : Side) (c : ℕ) → 1 ≤ a → a ≤ c → later a (suc l) k W H c ≡ later a l (suc k) (next W) (next H) (c - a)
+pub later-closed : (a l k : ℕ) (W H : Side) (c : ℕ) → 1 ≤ a → a ≤ c → later a (suc l) k W H c ≡ later a l (suc k) (next W) (next H) (c - a)
 unfolding later
-later-shut a l k W H c one h = ap (λ t. t ++ later a l (suc k) (next W) (next H) (c - a)) (left-shut a l k W H c one h)
+later-closed a l k W H c one h = ap (λ t. t ++ later a l (suc k) (next W) (next H) (c - a)) (left-closed a l k W H c one h)
 
 pub later-all : (a L k : ℕ) (W H : Side) → 1 ≤ a → later a L k W H (a * L) ≡ []
 later-all a zero k W H one = unfold later in refl
 later-all a (suc l) k W H one =
     let e : a * suc l - a ≡ a * l = omega (arith, mul-suc a l) in
-    later-shut a l k W H (a * suc l) one (omega (arith, mul-suc a l))
+    later-closed a l k W H (a * suc l) one (omega (arith, mul-suc a l))
     ∙ ap (later a l (suc k) (next W) (next H)) e
     ∙ later-all a l (suc k) (next W) (next H) one
 

@@ -1,4 +1,4 @@
--- The writer without an offset: for every row, the walk down the levels (`waiting`, `pull`) finds the level's stretch. It has the spare row of Q-2 too.
+-- The writer without an offset: for every row, the walk down the levels (`waiting`, `advance`) finds the level's stretch. It has the spare row of Q-2 too.
 -- It is the reference of `same-events` and `same-store` (proofs/Offset.antt); no contract cites it.
 use mathlib.Core.Bool.{Bool, true, false, not}
 use mathlib.Core.List.{List, [], _∷_}
@@ -20,8 +20,8 @@ use Rattle.analysis.specs.Forward.{kindOf, heightsPut}
 use Rattle.filters.specs.Figures.{storeBy, writerStoreBy, streamable}
 use Rattle.progress.specs.Counts.{mostLeft}
 use Rattle.writer.specs.Machine.{Out, arrive}
-use Rattle.writer.specs.Draws.{Waiting, waiting, pull}
-use Rattle.writer.specs.Closing.{Shut, shut}
+use Rattle.writer.specs.Draws.{Waiting, waiting, advance}
+use Rattle.writer.specs.Closing.{Flushed, flush}
 use Rattle.writer.specs.Questions.{either, onGrid}
 use Rattle.writer.specs.declared.BandRow.{BandRow}
 use Rattle.writer.specs.Calls.{setUpStore, bandRow, noRow}
@@ -167,22 +167,22 @@ finishQuestion s n =
     0))))
 
 -- ---- what a finish and a draw leave
-abbrev pub waits : Bool → Before → Shut → Before
+abbrev pub waits : Bool → Before → Flushed → Before
 waits e s r = at (s .filter) (s .columns) (s .start) (s .levels) (s .rows) (s .column) e (r .closed) (r .out .level) (r .out .left)
 
-abbrev pub closing : Before → Memory → Shut
-closing s x = shut (kind s) (s .levels) (s .columns) (s .start) 0 (s .rows) x
+abbrev pub closing : Before → Memory → Flushed
+closing s x = flush (kind s) (s .levels) (s .columns) (s .start) 0 (s .rows) x
 
-unfoldable pub resumed : Bool → Before → Out → ℕ → Shut
+unfoldable pub resumed : Bool → Before → Out → ℕ → Flushed
 resumed false s o v = record { closed = s .closed; out = o }
-resumed true s o zero = shut (kind s) (s .levels) (s .columns) (s .start) (s .closed) (s .rows) (o .store)
+resumed true s o zero = flush (kind s) (s .levels) (s .columns) (s .start) (s .closed) (s .rows) (o .store)
 resumed true s o (suc v) = record { closed = s .closed; out = o }
 
-abbrev pub pulled : Before → Memory → Out
-pulled s x = pull (kind s) (s .levels) (s .columns) (s .start) (s .closed) (s .level) (s .left) (s .rows) x
+abbrev pub advanced : Before → Memory → Out
+advanced s x = advance (kind s) (s .levels) (s .columns) (s .start) (s .closed) (s .level) (s .left) (s .rows) x
 
-abbrev pub afterDraw : Before → Memory → Shut
-afterDraw s x = resumed (s .finished) s (pulled s x) (pulled s x .level)
+abbrev pub afterDraw : Before → Memory → Flushed
+afterDraw s x = resumed (s .finished) s (advanced s x) (advanced s x .level)
 
 abbrev pub drawnOn : Before → Memory → Taking
 drawnOn s x = movedOn (afterDraw s x .out .level) (waits (s .finished) s (afterDraw s x)) (afterDraw s x .out .store)

@@ -14,8 +14,8 @@ use Rattle.writer.specs.declared.Writer.{Writer}
 use Rattle.writer.specs.declared.BandRow.{BandRow}
 use Rattle.progress.specs.Counts.{startOf}
 use Rattle.writer.specs.Machine.{Out}
-use Rattle.writer.specs.Draws.{Waiting, pull}
-use Rattle.writer.specs.Closing.{Shut, shut}
+use Rattle.writer.specs.Draws.{Waiting, advance}
+use Rattle.writer.specs.Closing.{Flushed, flush}
 use Rattle.writer.specs.Taking.{kind, columnsOf, Taking, offering}
 use Rattle.writer.specs.Spare.{holding, movedOn}
 use Rattle.writer.specs.Questions.{waitingRow, setUpQuestion, offerQuestion, drawQuestion, waitsQuestion, finishQuestion}
@@ -62,7 +62,7 @@ offerStore s n run x = changedUnless (offerQuestion s n (length run)) (offeredAt
 
 -- ---- finish: "At the finish level 1 closes first, then level 2, and so on."
 -- the writer with what waits, e: finished
-abbrev pub waits : Bool → Writer → Shut → Writer
+abbrev pub waits : Bool → Writer → Flushed → Writer
 waits e s r = record {
   x = s .x;
   y = s .y;
@@ -78,8 +78,8 @@ waits e s r = record {
   filter = s .filter;
 }
 
-abbrev pub closing : Writer → Memory → Shut
-closing s x = shut (kind s) (s .levels) (columnsOf s) (s .y) 0 (s .rows) x
+abbrev pub closing : Writer → Memory → Flushed
+closing s x = flush (kind s) (s .levels) (columnsOf s) (s .y) 0 (s .rows) x
 
 unfoldable pub finishReply : Writer → ℕ → Memory → Reply Writer
 finishReply s n x = unless (finishQuestion s n) (waits true s (closing s x))
@@ -88,16 +88,16 @@ unfoldable pub finishStore : Writer → ℕ → Memory → Memory
 finishStore s n x = changedUnless (finishQuestion s n) (closing s x .out .store) x
 
 -- ---- draw: the row is handed out; once finished and nothing waits, the levels close on
-unfoldable pub resumed : Bool → Writer → Out → ℕ → Shut
+unfoldable pub resumed : Bool → Writer → Out → ℕ → Flushed
 resumed false s o v = record { closed = s .closed; out = o }
-resumed true s o zero = shut (kind s) (s .levels) (columnsOf s) (s .y) (s .closed) (s .rows) (o .store)
+resumed true s o zero = flush (kind s) (s .levels) (columnsOf s) (s .y) (s .closed) (s .rows) (o .store)
 resumed true s o (suc v) = record { closed = s .closed; out = o }
 
-abbrev pub pulled : Writer → Memory → Out
-pulled s x = pull (kind s) (s .levels) (columnsOf s) (s .y) (s .closed) (s .level) (s .left) (s .rows) x
+abbrev pub advanced : Writer → Memory → Out
+advanced s x = advance (kind s) (s .levels) (columnsOf s) (s .y) (s .closed) (s .level) (s .left) (s .rows) x
 
-abbrev pub afterDraw : Writer → Memory → Shut
-afterDraw s x = resumed (s .finished) s (pulled s x) (pulled s x .level)
+abbrev pub afterDraw : Writer → Memory → Flushed
+afterDraw s x = resumed (s .finished) s (advanced s x) (advanced s x .level)
 
 -- and once nothing waits, the heights of the spare row go on
 abbrev pub drawnOn : Writer → Memory → Taking

@@ -12,17 +12,17 @@ use Rattle.progress.specs.Counts.{made, most, skip}
 use Rattle.writer.specs.Machine.{Out, still, under, settled, passOn}
 
 -- how many steps are done, and what waits
-pub record Shut : Type 0 where
+pub record Flushed : Type 0 where
   pub closed : ℕ
   pub out : Out
 
 -- What came of step c of a level, o: while a row waits there or below, it is the last step; else the level closes on, as f says.
-unfoldable pub stepped : ℕ → (Memory → Shut) → Out → ℕ → Shut
+unfoldable pub stepped : ℕ → (Memory → Flushed) → Out → ℕ → Flushed
 stepped c f o zero = f (o .store)
 stepped c f o (suc v) = record { closed = suc c; out = o }
 
 -- What came of the level, r, of a steps: while a row waits there or below, it is the last that closes; else the levels below close, as f says.
-unfoldable pub onward : ℕ → ℕ → (Memory → Shut) → Shut → ℕ → Shut
+unfoldable pub onward : ℕ → ℕ → (Memory → Flushed) → Flushed → ℕ → Flushed
 onward a t f r zero = record { closed = a + f (rest t (r .out .store)) .closed; out = under t (r .out .store) (f (rest t (r .out .store)) .out) }
 onward a t f r (suc v) = r
 
@@ -36,12 +36,12 @@ module _ (K : LevelKind) where
       (still x)
 
   -- the f steps from step c on
-  unfoldable pub closeLevel : (f l : ℕ) (W : Side) (s c m : ℕ) → Memory → Shut
+  unfoldable pub closeLevel : (f l : ℕ) (W : Side) (s c m : ℕ) → Memory → Flushed
   closeLevel zero l W s c m x = record { closed = c; out = still x }
   closeLevel (suc f) l W s c m x = stepped c (closeLevel f l W s (suc c) m) (closeStep l W s c m x) (closeStep l W s c m x .level)
 
-  unfoldable pub shut : (L : ℕ) (W : Side) (s c m : ℕ) → Memory → Shut
-  shut zero W s c m x = record { closed = c; out = still x }
-  shut (suc l) W s c m x =
-      onward (ahead K) (K .stretch W) (shut l (next W) ((s + 1) / 2) (c - ahead K) (count lo (side s m))) (closeLevel (ahead K - c) l W s c m x)
+  unfoldable pub flush : (L : ℕ) (W : Side) (s c m : ℕ) → Memory → Flushed
+  flush zero W s c m x = record { closed = c; out = still x }
+  flush (suc l) W s c m x =
+      onward (ahead K) (K .stretch W) (flush l (next W) ((s + 1) / 2) (c - ahead K) (count lo (side s m))) (closeLevel (ahead K - c) l W s c m x)
       (closeLevel (ahead K - c) l W s c m x .out .level)

@@ -36,9 +36,9 @@ module _ (K : LevelKind) where
       lower (K .stretch W) (waiting l (next W) ((s + 1) / 2) (c - ahead K) (suc v) i (lowRows s (made (ahead K) c s m)))
 
   -- it is drawn: the next band of the set that has a row in it waits, or the set's LL row goes on
-  unfoldable pub pull : (L : ℕ) (W : Side) (s c v i m : ℕ) → Memory → Out
-  pull zero W s c v i m x = still x
-  pull (suc l) W s c zero i m x = still x
-  pull (suc l) W s c (suc zero) i m x = settled (passOn K l W s) (prev (made (ahead K) c s m)) x (skip W (side s m) (prev (made (ahead K) c s m)) (prev i))
-  pull (suc l) W s c (suc (suc v)) i m x =
-      under (K .stretch W) x (pull l (next W) ((s + 1) / 2) (c - ahead K) (suc v) i (lowRows s (made (ahead K) c s m)) (rest (K .stretch W) x))
+  unfoldable pub advance : (L : ℕ) (W : Side) (s c v i m : ℕ) → Memory → Out
+  advance zero W s c v i m x = still x
+  advance (suc l) W s c zero i m x = still x
+  advance (suc l) W s c (suc zero) i m x = settled (passOn K l W s) (prev (made (ahead K) c s m)) x (skip W (side s m) (prev (made (ahead K) c s m)) (prev i))
+  advance (suc l) W s c (suc (suc v)) i m x =
+      under (K .stretch W) x (advance l (next W) ((s + 1) / 2) (c - ahead K) (suc v) i (lowRows s (made (ahead K) c s m)) (rest (K .stretch W) x))

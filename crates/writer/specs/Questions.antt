@@ -26,7 +26,8 @@ unfoldable pub mostColumn : Writer → ℕ → ℕ
 mostColumn s zero = s .width - 1
 mostColumn s (suc v) = pick (both (not (s .finished)) (ltb (s .rows) maxHeight)) (s .width) 0
 
--- 1: "Is every count in the state inside its range, as docs/ lists them?" docs/STATE.md lists them
+-- 1: "Is every count in the state inside its range, as docs/ lists them?" docs/STATE.md lists them;
+-- "a state reached by calls always passes"
 unfoldable pub inRanges : Writer → Bool
 inRanges s =
     both (onGrid (s .x) (s .y))
@@ -63,8 +64,8 @@ setUpQuestion f W L n =
 abbrev pub rowsTaken : Writer → ℕ
 rowsTaken s = s .rows + s .column / s .width
 
--- an offer of k heights: 9, "not finished yet?"; 10, "Offer of at least one height: are fewer than 65,535 rows complete?" (Q-5 has the limit). Q-2: "Question 8
--- no longer turns an offer away"
+-- an offer of k heights: 9, "Offer and finish: not finished yet?"; 10, "Offer of at least one height: are fewer than 65,535 rows complete?" (Q-5 has
+-- the limit). Q-2: "Question 8 no longer turns an offer away"
 unfoldable pub offerQuestion : Writer → ℕ → ℕ → ℕ
 offerQuestion s n k =
     ask (inRanges s) 1
@@ -85,7 +86,7 @@ drawQuestion s n k =
 unfoldable pub waitsQuestion : Writer → ℕ
 waitsQuestion s = ask (inRanges s) 1 0
 
--- 9, "not finished yet?", "asked before 8", "does no row wait?"; 11, "Finish: is there a row, and none begun?"
+-- 9, "Offer and finish: not finished yet?", "asked before 8", "Offer and finish: does no row wait?"; 11, "Finish: is there a row, and none begun?"
 unfoldable pub finishQuestion : Writer → ℕ → ℕ
 finishQuestion s n =
     ask (inRanges s) 1

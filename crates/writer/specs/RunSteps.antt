@@ -7,9 +7,9 @@ use lib.ListN.{length}
 use Rattle.level.specs.Level.{Memory}
 use Rattle.writer.specs.declared.Writer.{Writer}
 use Rattle.writer.specs.declared.BandRow.{BandRow}
-use Rattle.writer.specs.declared.draws.Spot.{Spot}
+use Rattle.writer.specs.declared.draws.PlacedRow.{PlacedRow}
 use Rattle.writer.specs.declared.runs.Counts.{Counts}
-use Rattle.writer.specs.Gate.{stateQuestion}
+use Rattle.writer.specs.FirstQuestions.{stateQuestion}
 use Rattle.writer.specs.Runs.{Run, due, afterCall, ran}
 
 -- the writer with i bands left
@@ -30,7 +30,7 @@ withLeft s i = record {
 }
 
 -- a row as a draw answers it
-abbrev pub rowAt : Spot → BandRow
+abbrev pub rowAt : PlacedRow → BandRow
 rowAt r = record { level = r .level; band = r .band; row = r .row; length = r .length }
 
 -- a run that has come so far

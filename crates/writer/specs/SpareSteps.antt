@@ -11,7 +11,7 @@ use Rattle.filters.specs.Figures.{streamable}
 use Rattle.level.specs.Level.{Memory}
 use Rattle.writer.specs.declared.Writer.{Writer}
 use Rattle.writer.specs.Taking.{columnsOf}
-use Rattle.writer.specs.Stretch.{Taker}
+use Rattle.writer.specs.OfferSteps.{Taker}
 use Rattle.writer.specs.Spare.{spareAt, moving}
 
 -- the spare row of a writer, in a store of l numbers, has room for n heights more

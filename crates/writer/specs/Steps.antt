@@ -14,11 +14,11 @@ use Rattle.progress.specs.declared.waits.Wait.{Wait}
 use Rattle.progress.specs.declared.levels.Level.{Level}
 use Rattle.progress.specs.Counts.{deeperBy, further, bandAt, skip, startOf}
 use Rattle.writer.specs.declared.Writer.{Writer}
-use Rattle.writer.specs.declared.draws.Spot.{Spot}
+use Rattle.writer.specs.declared.draws.PlacedRow.{PlacedRow}
 use Rattle.writer.specs.declared.closing.Closure.{Closure}
 use Rattle.writer.specs.Machine.{Out, settled, passOn}
-use Rattle.writer.specs.Draws.{Waiting, waiting, pull}
-use Rattle.writer.specs.Closing.{Shut}
+use Rattle.writer.specs.Draws.{Waiting, waiting, advance}
+use Rattle.writer.specs.Closing.{Flushed}
 use Rattle.writer.specs.Taking.{columnsOf}
 use Rattle.writer.specs.Calls.{waits, afterDraw, drawnOn}
 
@@ -67,14 +67,14 @@ waitingAt f v a r i =
 abbrev pub from : ℕ → ℕ → Memory → Out → Out
 from k a x o = record { store = joinAt a x (o .store); level = deeperBy k (o .level); left = o .left }
 
-unfoldable pub pullAt : ℕ → ℕ → ℕ → ℕ → Level → ℕ → Memory → Out
-pullAt f b v a r i x =
+unfoldable pub advanceAt : ℕ → ℕ → ℕ → ℕ → Level → ℕ → Memory → Out
+advanceAt f b v a r i x =
     from (prev v) a x (settled (passOn (kindOf f) b (columns r) (r .y)) (r .set) (rest a x) (skip (columns r) (received r) (r .set) (prev i)))
 
 -- level v of them, r: what waits there, what a draw of it leaves, and where deeper stretches begin, all from where its stretch begins
 pub record Reaches (f l : ℕ) (W : Side) (s c v m : ℕ) (r : Level) : Type 0 where
   pub waits : (i : ℕ) → waiting (kindOf f) l W s c v i m ≡ waitingAt f v (startOf f W v) r i
-  pub pulls : (i : ℕ) (x : Memory) → pull (kindOf f) l W s c v i m x ≡ pullAt f (l - v) v (startOf f W v) r i x
+  pub advances : (i : ℕ) (x : Memory) → advance (kindOf f) l W s c v i m x ≡ advanceAt f (l - v) v (startOf f W v) r i x
   pub starts : (u : ℕ) → startOf f W (deeperBy (prev v) u) ≡ further u (startOf f W v) (startOf f (columns r) u)
   pub room : startOf f W v + storeBy f (columns r) (l - v + 1) ≡ storeBy f W l
   pub wide : r .width < 2 ^ 16
@@ -90,24 +90,24 @@ Placed s = s .offset ≡ startOf (s .filter) (columnsOf s) (s .level)
 abbrev pub Reached : Writer → Level → Type 0
 Reached s r = Reaches (s .filter) (s .levels) (columnsOf s) (s .y) (s .closed) (s .level) (s .rows) r
 
-abbrev pub spotOf : Waiting → Spot
-spotOf o = record { level = o .level; band = code (o .band); row = o .row; length = o .length; start = o .start }
+abbrev pub placedOf : Waiting → PlacedRow
+placedOf o = record { level = o .level; band = code (o .band); row = o .row; length = o .length; start = o .start }
 
 -- the row that waits, of l levels, the first of the columns W; it lies within their store
-pub record Found (f l : ℕ) (W : Side) (o : Waiting) (r : Spot) : Type 0 where
-  pub spot : r ≡ spotOf o
+pub record Found (f l : ℕ) (W : Side) (o : Waiting) (r : PlacedRow) : Type 0 where
+  pub spot : r ≡ placedOf o
   pub room : r .start + r .length ≤ storeBy f W l
   pub within : r .level ≤ l
 
 -- what the steps of the first level's closing leave, of l levels, the first of the columns W
-pub record LevelClosed (f l : ℕ) (W : Side) (o : Shut) (r : Closure) (x : Memory) : Type 0 where
+pub record LevelClosed (f l : ℕ) (W : Side) (o : Flushed) (r : Closure) (x : Memory) : Type 0 where
   pub closed : r .closed ≡ o .closed
   pub left : Left f l W (o .out) (r .wait) x
   -- while a row waits, no more steps than the level has are done
   pub some : 0 < r .wait .level → r .closed ≤ filterOf f .ahead
 
 -- what the finish of l levels leaves, the first of the columns W
-pub record Closed (f l : ℕ) (W : Side) (o : Shut) (r : Closure) (x : Memory) : Type 0 where
+pub record Closed (f l : ℕ) (W : Side) (o : Flushed) (r : Closure) (x : Memory) : Type 0 where
   pub closed : r .closed ≡ o .closed
   pub left : Left f l W (o .out) (r .wait) x
   pub all : r .closed ≤ filterOf f .ahead * l

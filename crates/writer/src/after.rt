@@ -9,14 +9,14 @@ ghost use Rattle.numbers.specs.Signal.{at};
 ghost use Rattle.writer.specs.Steps.{Drawable, Reached, Drew, Spares, DrewOn};
 
 // The row that waits is drawn; once finished and nothing waits, the levels close on.
-pub fn draw_on(s: Writer, from: Level, store: &mut [i32]) -> Writer
+pub fn draw_and_close(s: Writer, from: Level, store: &mut [i32]) -> Writer
     requires { ⌜ Drawable s (length (now store)) × Reached s from ⌝ }
     ensures { λ r. ⌜ Drew s (at (now (store .entry))) r (at (now (store .exit))) ⌝ }
 {
-    let r = draws::pull(s, from, store);
+    let r = draws::advance(s, from, store);
     if s.finished {
         if r.level == 0 {
-            let q = closing::shut(
+            let q = closing::flush(
                 s.filter,
                 store,
                 s.levels,
@@ -63,7 +63,7 @@ pub fn draw_and_move(s: Writer, from: Level, store: &mut [i32]) -> Writer
     requires { ⌜ Drawable s (length (now store)) × Reached s from × Spares s (length (now store)) ⌝ }
     ensures { λ r. ⌜ DrewOn s (at (now (store .entry))) r (at (now (store .exit))) ⌝ }
 {
-    let t = draw_on(s, from, store);
+    let t = draw_and_close(s, from, store);
     if t.level == 0 {
         if 0 < t.column {
             return spare::move_on(t, store);

@@ -49,7 +49,7 @@ pub fn arrive(
             offset: 0,
         };
     }
-    if !counts::goes_on(l - 1, y, n) {
+    if !counts::gives_row(l - 1, y, n) {
         return waits::nothing();
     }
     let k = n - y % 2;
@@ -81,7 +81,7 @@ pub fn pass_on(
     requires { ⌜ Room filter (l + 1) (side x w) n (length (now store)) ⌝ }
     ensures { λ r. ⌜ Left filter (l + 1) (side x w) (passOn (kindOf filter) l (side x w) y n (at (now (store .entry)))) r (at (now (store .exit))) ⌝ }
 {
-    if !counts::goes_on(l, y, n) {
+    if !counts::gives_row(l, y, n) {
         return waits::nothing();
     }
     let k = n - y % 2;

@@ -13,7 +13,7 @@ ghost use Rattle.numbers.specs.Signal.{at};
 ghost use Rattle.lifting.specs.Grid.{side};
 ghost use Rattle.filters.specs.Filters.{filterOf};
 ghost use Rattle.analysis.specs.Forward.{kindOf};
-ghost use Rattle.writer.specs.Closing.{closeStep, closeLevel, shut};
+ghost use Rattle.writer.specs.Closing.{closeStep, closeLevel, flush};
 ghost use Rattle.writer.specs.Steps.{Room, Left, LevelClosed, Closed};
 
 // How many steps are done, and what waits.
@@ -84,7 +84,7 @@ fn close_level(
 }
 
 // The l levels close, c steps being done, until a row waits.
-pub fn shut(
+pub fn flush(
     filter: usize,
     store: &mut [i32],
     l: usize,
@@ -95,7 +95,7 @@ pub fn shut(
     m: usize,
 ) -> Closure
     requires { ⌜ Room filter l (side x w) m (length (now store)) × (c ≤ filterOf filter .ahead * l) ⌝ }
-    ensures { λ r. ⌜ Closed filter l (side x w) (shut (kindOf filter) l (side x w) y c m (at (now (store .entry)))) r (at (now (store .exit))) ⌝ }
+    ensures { λ r. ⌜ Closed filter l (side x w) (flush (kindOf filter) l (side x w) y c m (at (now (store .entry)))) r (at (now (store .exit))) ⌝ }
 {
     if l == 0 {
         return Closure {
@@ -109,7 +109,7 @@ pub fn shut(
     }
     let a = cascade::stretch(filter, w, x);
     let ahead = filters::look_ahead(filter);
-    let r = shut(
+    let r = flush(
         filter,
         &mut store[a..],
         l - 1,

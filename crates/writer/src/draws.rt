@@ -12,11 +12,11 @@ ghost use lib.ListN.{length};
 ghost use Rattle.numbers.specs.Signal.{at};
 ghost use Rattle.writer.specs.Questions.{waitingRow};
 ghost use Rattle.writer.specs.Taking.{columnsOf};
-ghost use Rattle.writer.specs.Calls.{pulled, bandRow};
+ghost use Rattle.writer.specs.Calls.{advanced, bandRow};
 ghost use Rattle.writer.specs.Steps.{Left, Walk, Placed, Reached, Found, Drawable};
 
 // A band row that waits, and where in the store its numbers begin.
-pub struct Spot {
+pub struct PlacedRow {
     pub level: usize,
     pub band: usize,
     pub row: usize,
@@ -25,13 +25,13 @@ pub struct Spot {
 }
 
 // The row that waits, at level q.
-pub fn waiting(s: Writer, q: Level) -> Spot
+pub fn waiting(s: Writer, q: Level) -> PlacedRow
     requires { ⌜ Walk (s .levels) (columnsOf s) (s .level) (s .rows) × Placed s × Reached s q ⌝ }
     ensures { λ r. ⌜ Found (s .filter) (s .levels) (columnsOf s) (waitingRow s) r ⌝ }
 {
     let i = counts::minus(s.left, 1);
     let band = counts::code(i);
-    Spot {
+    PlacedRow {
         level: s.level,
         band,
         row: counts::set_row(q.rows, q.y, q.set, i),
@@ -56,9 +56,9 @@ pub fn looked(s: Writer, q: Level) -> BandRow
 }
 
 // It is drawn: the next band of the set that has a row in it waits, or the set's LL row goes on.
-pub fn pull(s: Writer, q: Level, store: &mut [i32]) -> Wait
+pub fn advance(s: Writer, q: Level, store: &mut [i32]) -> Wait
     requires { ⌜ Drawable s (length (now store)) × Reached s q ⌝ }
-    ensures { λ r. ⌜ Left (s .filter) (s .levels) (columnsOf s) (pulled s (at (now (store .entry)))) r (at (now (store .exit))) ⌝ }
+    ensures { λ r. ⌜ Left (s .filter) (s .levels) (columnsOf s) (advanced s (at (now (store .entry)))) r (at (now (store .exit))) ⌝ }
 {
     let i = counts::next_band(q.width, q.x, q.rows, q.y, q.set, counts::minus(s.left, 1));
     let a = s.offset;

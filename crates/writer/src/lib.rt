@@ -4,8 +4,8 @@ mod cascade;
 mod closing;
 mod copies;
 mod draws;
-mod gate;
 mod offers;
+mod questions;
 mod run_steps;
 pub mod runs;
 mod spare;
@@ -138,7 +138,7 @@ impl Writer {
     {
         let filter = shape.filter as usize;
         let x = shape.x as usize;
-        let no = gate::set_up_question(filter, shape.width, x, shape.levels, store.len());
+        let no = questions::set_up_question(filter, shape.width, x, shape.levels, store.len());
         if 0 < no {
             return SetUp::Refused(no);
         }
@@ -167,7 +167,7 @@ impl Writer {
         ensures { λ r. ⌜ at (now (store .exit)) ≡ offerStore self (length (now (store .entry))) (now (run .entry)) (at (now (store .entry))) ⌝ }
         ensures { λ r. ⌜ OfferKeeps self (now (run .entry)) (at (now (store .entry))) (ofOffered r) (at (now (store .exit))) ⌝ }
     {
-        let no = gate::offer_question(self, store.len(), run.len());
+        let no = questions::offer_question(self, store.len(), run.len());
         if 0 < no {
             return Offered::Refused(no);
         }
@@ -179,7 +179,7 @@ impl Writer {
         let mut taken = 0;
         let mut n = offers::first(s, run.len());
         while 0 < n {
-            s = offers::stretch(s, store, run, taken, n);
+            s = offers::put_heights(s, store, run, taken, n);
             taken += n;
             n = offers::next(s, run.len() - taken);
         }
@@ -194,8 +194,8 @@ impl Writer {
             (at (now (out .entry))) ⌝ }
         ensures { λ r. ⌜ DrawKeeps self (at (now (store .entry))) (ofDrawn r) (at (now (store .exit))) (at (now (out .exit))) ⌝ }
     {
-        let fits = gate::in_ranges(self);
-        let no = gate::state_question(self, fits, store.len());
+        let fits = questions::in_ranges(self);
+        let no = questions::state_question(self, fits, store.len());
         if 0 < no {
             return Drawn::Refused(no);
         }
@@ -232,7 +232,7 @@ impl Writer {
     pub fn waits(self) -> Look
         ensures { λ r. ⌜ ofLook r ≡ waitsReply self ⌝ }
     {
-        if !gate::in_ranges(self) {
+        if !questions::in_ranges(self) {
             return Look::Refused(1);
         }
         if 0 < self.level {
@@ -261,11 +261,11 @@ impl Writer {
         ensures { λ r. ⌜ at (now (store .exit)) ≡ finishStore self (length (now (store .entry))) (at (now (store .entry))) ⌝ }
         ensures { λ r. ⌜ FinishKeeps self (at (now (store .entry))) (ofFinished r) (at (now (store .exit))) ⌝ }
     {
-        let no = gate::finish_question(self, store.len());
+        let no = questions::finish_question(self, store.len());
         if 0 < no {
             return Finished::Refused(no);
         }
-        let r = closing::shut(
+        let r = closing::flush(
             self.filter,
             store,
             self.levels,

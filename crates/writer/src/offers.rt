@@ -7,7 +7,7 @@ ghost use Prim.Native.Nat.{_+_, _<_, _≤_, _-_, min};
 ghost use lib.ListN.{length};
 ghost use Rattle.numbers.specs.Signal.{at};
 ghost use Rattle.wavelet.specs.Limits.{maxHeight};
-ghost use Rattle.writer.specs.Stretch.{nextCount, Roomy, Taker, Reaching, Stretched};
+ghost use Rattle.writer.specs.OfferSteps.{nextCount, Roomy, Taker, Reaching, HeightsTaken};
 
 // How many heights the first stretch of an offer has, of k: to the end of the row at most.
 pub fn first(s: Writer, k: usize) -> usize
@@ -81,9 +81,9 @@ pub fn reach(s: Writer, store: &mut [i32], column: usize) -> Writer
 }
 
 // A stretch of n heights of a run, from height `from` on; where it completes the row, what that makes.
-pub fn stretch(s: Writer, store: &mut [i32], run: &[u16], from: usize, n: usize) -> Writer
+pub fn put_heights(s: Writer, store: &mut [i32], run: &[u16], from: usize, n: usize) -> Writer
     requires { ⌜ Taker s (length (now store)) × (s .rows < maxHeight) × (s .column + n ≤ s .width) × (from + n ≤ length (now run)) ⌝ }
-    ensures { λ r. ⌜ Stretched s (now (run .entry)) from n (at (now (store .entry))) r (at (now (store .exit))) (length (now (store .entry))) ⌝ }
+    ensures { λ r. ⌜ HeightsTaken s (now (run .entry)) from n (at (now (store .entry))) r (at (now (store .exit))) (length (now (store .entry))) ⌝ }
 {
     let q = s.y % 2 + s.rows;
     forward::put(s.filter, store, s.width, s.x, q, s.column, run, from, n);

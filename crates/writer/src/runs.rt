@@ -3,9 +3,9 @@
 use crate::Writer;
 use crate::copies;
 use crate::draws;
-use crate::draws::Spot;
-use crate::gate;
+use crate::draws::PlacedRow;
 use crate::offers;
+use crate::questions;
 use crate::run_steps;
 use progress::counts;
 use progress::levels;
@@ -19,7 +19,7 @@ ghost use lib.Dec.{leb, ltb, eqb};
 ghost use Rattle.numbers.specs.Signal.{at, pick, both};
 ghost use Rattle.lifting.specs.Halves.{fronted};
 ghost use Rattle.level.specs.Level.{rest, joinAt};
-ghost use Rattle.writer.specs.Gate.{stateQuestion};
+ghost use Rattle.writer.specs.FirstQuestions.{stateQuestion};
 ghost use Rattle.writer.specs.Steps.{Reached};
 ghost use Rattle.calls.specs.Lists.{seen};
 ghost use Rattle.writer.specs.Runs.{named, begin, runQuestion, idle, runReply, progress, ofRan, leftBy};
@@ -71,7 +71,7 @@ fn with_left(s: Writer, left: usize) -> Writer
 }
 
 // A row's name at the front of an area.
-fn put_name(names: &mut [u64], r: Spot)
+fn put_name(names: &mut [u64], r: PlacedRow)
     requires { ⌜ 4 ≤ length (now names) ⌝ }
     ensures { λ _. ⌜ now (names .exit) ≡ r .level ∷ r .band ∷ r .row ∷ r .length ∷ drop 4 (now (names .entry)) ⌝ }
 {
@@ -82,7 +82,7 @@ fn put_name(names: &mut [u64], r: Spot)
 }
 
 // A row and its name after those that are put; false, and nothing changed, where there is no room for one of them.
-fn put_row(r: Spot, store: &[i32], out: &mut [i32], names: &mut [u64], done: Counts) -> bool
+fn put_row(r: PlacedRow, store: &[i32], out: &mut [i32], names: &mut [u64], done: Counts) -> bool
     requires { ⌜ (r .start + r .length ≤ length (now store)) × (done .numbers ≤ length (now out)) ⌝ }
     ensures { λ e. ⌜ e ≡ both (leb (r .length) (length (now (out .entry)) - done .numbers)) (ltb (done .rows) (length (now (names .entry)) / 4)) ⌝ }
     ensures { λ e. ⌜ at (now (out .exit)) ≡
@@ -200,7 +200,7 @@ fn take_row(s: Writer, store: &mut [i32], heights: &[u16], done: Counts) -> Turn
             rows: done.rows,
             numbers: done.numbers,
         },
-        writer: run_steps::stretch(s, store, &heights[a..e], 0, n),
+        writer: run_steps::put_heights(s, store, &heights[a..e], 0, n),
     }
 }
 
@@ -251,8 +251,8 @@ fn go(s: Writer, store: &mut [i32], heights: &[u16], out: &mut [i32], names: &mu
 fn run_question(s: Writer, n: usize, k: usize) -> u8
     ensures { λ r. ⌜ r ≡ runQuestion s n k ⌝ }
 {
-    let fits = gate::in_ranges(s);
-    let no = gate::state_question(s, fits, n);
+    let fits = questions::in_ranges(s);
+    let no = questions::state_question(s, fits, n);
     if 0 < no {
         return no;
     }

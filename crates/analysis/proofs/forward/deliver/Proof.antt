@@ -84,8 +84,8 @@ add-to c = let f = fits (c .before .before) in let s = into c in omega arith
 next-start-requires : tie.Need-next-start-requires
 next-start-requires c κs = tt
 
-part-row-requires : tie.Need-part-row-requires
-part-row-requires c κs = tt
+deinterleave-row-requires : tie.Need-deinterleave-row-requires
+deinterleave-row-requires c κs = tt
 
 same-length : tie.Need-same-length
 same-length c = search needs
@@ -106,7 +106,7 @@ returns c =
     let i = into q in
     let fit = part-fits (l .low-waits .result * a .w) (k .rows-kept .result * a .w + q .slot .result * p .low-count .result) (p .low-count .result)
     (length (a .store .now)) (omega arith) (omega arith) in
-    let o = r .part-row .ensures in (
+    let o = r .deinterleave-row .ensures in (
       simp ok (o .0 ∙ simp fit),
       simp ok
           (delivered-as (a .filter) (side (a .x) (a .w)) (a .n) (a .q) _ _ _ _ _ _ (ap (λ (j : ℕ). j * a .w) (l .low-waits .ensures .0)) (p .low-count .ensures)
@@ -131,7 +131,7 @@ deliver-spec =
     mul-to-2
     add-to
     next-start-requires
-    part-row-requires
+    deinterleave-row-requires
     same-length
     returns
     returns-2)

@@ -31,8 +31,8 @@ returns c =
     let s = n .before .before .before .before .before in
     put-to (toZ w64 (ofZ w64 (n .before .write .result))) (s .args .from) (s .args .bytes .now) (n .count .result) (s .pre) (n .count .ensures .1)
 
-goes-on-requires : tie.Need-goes-on-requires
-goes-on-requires c κs = search needs
+continues-requires : tie.Need-continues-requires
+continues-requires c κs = search needs
 
 returns-2 : tie.Need-returns-2
 returns-2 c =
@@ -56,5 +56,5 @@ try-write-spec =
     count-requires
     add-t12
     returns
-    goes-on-requires
+    continues-requires
     returns-2)

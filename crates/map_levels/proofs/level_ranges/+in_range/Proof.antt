@@ -19,7 +19,7 @@ use Rattle.map_levels.proofs.level_ranges.in_range.Kinds as in-range-ki
 use Rattle.map_levels.proofs.level_ranges.+in_range.Lts-in_range as in-range-lts
 use Rattle.wavelet.proofs.sizes.low_count.Reads as low-count-reads
 use Rattle.wavelet.proofs.sizes.next_start.Reads as next-start-reads
-use Rattle.map_levels.proofs.levels.goes_on.Reads as goes-on-reads
+use Rattle.map_levels.proofs.levels.has_next.Reads as has-next-reads
 use Rattle.map_levels.proofs.level_ranges.rows_in_range.Reads as rows-in-range-reads
 use Rattle.map_levels.proofs.level_ranges.+in_range.{statement}
 use Rattle.map_levels.proofs.level_ranges.+in_range.Tie.{close}
@@ -38,8 +38,8 @@ abbrev claims : ℕ → in-range-lts.Claims
 claims t = (
   low-count-reads.Asked,
   low-count-reads.Learnt,
-  goes-on-reads.Asked,
-  goes-on-reads.Learnt,
+  has-next-reads.Asked,
+  has-next-reads.Learnt,
   rows-in-range-reads.Asked,
   rows-in-range-reads.Learnt,
   next-start-reads.Asked,
@@ -54,8 +54,8 @@ in-range-low-count-requires t c κs = tt
 in-range-low-count-requires-2 : (t : ℕ) → in-range-lts.Need-low-count-requires-2 (claims t) (in-range-at t) in-range.Post
 in-range-low-count-requires-2 t c κs = tt
 
-in-range-goes-on-requires : (t : ℕ) → in-range-lts.Need-goes-on-requires (claims t) (in-range-at t) in-range.Post
-in-range-goes-on-requires t c κs = tt
+in-range-has-next-requires : (t : ℕ) → in-range-lts.Need-has-next-requires (claims t) (in-range-at t) in-range.Post
+in-range-has-next-requires t c κs = tt
 
 in-range-rows-in-range-requires : (t : ℕ) → in-range-lts.Need-rows-in-range-requires (claims t) (in-range-at t) in-range.Post
 in-range-rows-in-range-requires t c κs = (c .before .before .before .before .pre .1 .0, omega arith, omega arith, omega arith)
@@ -68,7 +68,7 @@ in-range-returns t c =
     let start = low .before in
     range-end (filterOf (start .args .filter)) (filter-laws (start .args .filter)) _ _ (side (start .args .x) (start .args .width))
     (side (start .args .y) (start .args .height)) _ _ (start .pre .1 .2) (start .pre .1 .1)
-    (goes-as _ _ _ _ _ _ _ (low .low-count .ensures) (low2 .low-count2 .ensures) (goes .goes-on .ensures) (not-true _ (c .before .if1 .taken)))
+    (goes-as _ _ _ _ _ _ _ (low .low-count .ensures) (low2 .low-count2 .ensures) (goes .has-next .ensures) (not-true _ (c .before .if1 .taken)))
     (c .rows-in-range .ensures)
 
 in-range-next-start-requires : (t : ℕ) → in-range-lts.Need-next-start-requires (claims t) (in-range-at t) in-range.Post
@@ -81,7 +81,7 @@ in-range-sub-in-range : (t : ℕ) → in-range-lts.Need-sub-in-range (claims t) 
 in-range-sub-in-range t c =
     let left = c .before .before in
     let goes = left .before in
-    let yes′ = goes-yes _ _ _ (sym (goes .goes-on .ensures) ∙ not-false _ (left .if1 .left)) in
+    let yes′ = goes-yes _ _ _ (sym (goes .has-next .ensures) ∙ not-false _ (left .if1 .left)) in
     omega arith
 
 in-range-add-in-range : (t : ℕ) → in-range-lts.Need-add-in-range (claims t) (in-range-at t) in-range.Post
@@ -94,7 +94,7 @@ in-range-in-range-requires t c κs =
     let low2 = goes .before in
     let low = low2 .before in
     let start = low .before in
-    let yes′ = goes-yes _ _ _ (sym (goes .goes-on .ensures) ∙ not-false _ (left .if1 .left)) in (
+    let yes′ = goes-yes _ _ _ (sym (goes .has-next .ensures) ∙ not-false _ (left .if1 .left)) in (
       omega arith,
       (
         rows-corner _ _ _ (side (start .args .x) (start .args .width)) (side (start .args .y) (start .args .height)) _ _ (low .low-count .ensures)
@@ -117,7 +117,7 @@ in-range-returns-2 t c =
     let start = low .before in
     let W = side (start .args .x) (start .args .width) in
     let H = side (start .args .y) (start .args .height) in
-    let yes′ = goes-yes _ _ _ (sym (goes .goes-on .ensures) ∙ not-false _ (left .if1 .left)) in
+    let yes′ = goes-yes _ _ _ (sym (goes .has-next .ensures) ∙ not-false _ (left .if1 .left)) in
     range-first (filterOf (start .args .filter)) (filter-laws (start .args .filter)) _ _ W H _ _ _ _ (start .pre .1 .2) (yes′ .0)
     (next-side W _ _ (next .next-start .ensures) (low .low-count .ensures))
     (next-side H _ _ (next2 .next-start2 .ensures) (low2 .low-count2 .ensures)) (again .in-range .ensures) (not-true _ (c .if2 .taken))
@@ -134,7 +134,7 @@ in-range-rows-in-range-requires-2 t c κs =
     let start = low .before in
     let W = side (start .args .x) (start .args .width) in
     let H = side (start .args .y) (start .args .height) in
-    let yes′ = goes-yes _ _ _ (sym (goes .goes-on .ensures) ∙ not-false _ (left .if1 .left)) in
+    let yes′ = goes-yes _ _ _ (sym (goes .has-next .ensures) ∙ not-false _ (left .if1 .left)) in
     let lw = counts W in
     let lh = counts H in (
       fewer-rows _ _ _ _ _ (start .pre .1 .0) (yes′ .2) (omega (arith, low2 .low-count2 .ensures)),
@@ -155,7 +155,7 @@ in-range-returns-3 t c =
     let start = low .before in
     let W = side (start .args .x) (start .args .width) in
     let H = side (start .args .y) (start .args .height) in
-    let yes′ = goes-yes _ _ _ (sym (goes .goes-on .ensures) ∙ not-false _ (left .if1 .left)) in
+    let yes′ = goes-yes _ _ _ (sym (goes .has-next .ensures) ∙ not-false _ (left .if1 .left)) in
     range-second (filterOf (start .args .filter)) (filter-laws (start .args .filter)) _ _ W H _ _ _ _ (start .pre .1 .2) (yes′ .0)
     (next-side W _ _ (next .next-start .ensures) (low .low-count .ensures))
     (next-side H _ _ (next2 .next-start2 .ensures) (low2 .low-count2 .ensures)) (again .in-range .ensures)
@@ -173,7 +173,7 @@ in-range-rows-in-range-requires-3 t c κs =
     let start = low .before in
     let W = side (start .args .x) (start .args .width) in
     let H = side (start .args .y) (start .args .height) in
-    let yes′ = goes-yes _ _ _ (sym (goes .goes-on .ensures) ∙ not-false _ (left .if1 .left)) in
+    let yes′ = goes-yes _ _ _ (sym (goes .has-next .ensures) ∙ not-false _ (left .if1 .left)) in
     let lh = counts H in
     (start .pre .1 .0, omega (arith, low2 .low-count2 .ensures), omega arith, omega arith)
 
@@ -190,7 +190,7 @@ in-range-returns-4 t c =
     let start = low .before in
     let W = side (start .args .x) (start .args .width) in
     let H = side (start .args .y) (start .args .height) in
-    let yes′ = goes-yes _ _ _ (sym (goes .goes-on .ensures) ∙ not-false _ (left .if1 .left)) in
+    let yes′ = goes-yes _ _ _ (sym (goes .has-next .ensures) ∙ not-false _ (left .if1 .left)) in
     range-third (filterOf (start .args .filter)) (filter-laws (start .args .filter)) _ _ W H _ _ _ _ (start .pre .1 .2) (yes′ .0)
     (next-side W _ _ (next .next-start .ensures) (low .low-count .ensures))
     (next-side H _ _ (next2 .next-start2 .ensures) (low2 .low-count2 .ensures)) (again .in-range .ensures)
@@ -202,7 +202,7 @@ pub +in-range-spec : {M : Type 1} → statement M
     in-range.Post
     (in-range-low-count-requires t)
     (in-range-low-count-requires-2 t)
-    (in-range-goes-on-requires t)
+    (in-range-has-next-requires t)
     (in-range-rows-in-range-requires t)
     (in-range-returns t)
     (in-range-next-start-requires t)

@@ -21,7 +21,7 @@ use Rattle.map_levels.proofs.levels_back.sweep_back.Reads as sweep-back
 use Rattle.map_levels.proofs.levels_back.sweep_back.Kinds as sweep-back-kinds
 use Rattle.map_levels.proofs.levels_back.+sweep_back.Lts-sweep_back as sweep-back-lts
 use Rattle.map_levels.proofs.back_rows.low_place.Reads as low-place-reads
-use Rattle.map_levels.proofs.levels.goes_on.Reads as goes-on-reads
+use Rattle.map_levels.proofs.levels.has_next.Reads as has-next-reads
 use Rattle.map_levels.proofs.levels_back.level_back.Reads as level-back-reads
 use Rattle.map_levels.proofs.sweep.save_low.Reads as save-low-reads
 use Rattle.wavelet.proofs.sizes.low_count.Reads as low-count-reads
@@ -46,8 +46,8 @@ claims t = (
   low-count-reads.Learnt,
   low-place-reads.Asked,
   low-place-reads.Learnt,
-  goes-on-reads.Asked,
-  goes-on-reads.Learnt,
+  has-next-reads.Asked,
+  has-next-reads.Learnt,
   save-low-reads.Asked,
   save-low-reads.Learnt,
   level-back-reads.Asked,
@@ -93,8 +93,8 @@ module _ (t : ℕ) (c : sweep-back-lts.After-low-place (claims t) (sweep-back-at
 sweep-back-mul-n : (t : ℕ) → sweep-back-lts.Need-mul-n (claims t) (sweep-back-at t) sweep-back.Post
 sweep-back-mul-n t c = omega (arith, fit t c .1)
 
-sweep-back-goes-on-requires : (t : ℕ) → sweep-back-lts.Need-goes-on-requires (claims t) (sweep-back-at t) sweep-back.Post
-sweep-back-goes-on-requires t c κs = tt
+sweep-back-has-next-requires : (t : ℕ) → sweep-back-lts.Need-has-next-requires (claims t) (sweep-back-at t) sweep-back.Post
+sweep-back-has-next-requires t c κs = tt
 
 sweep-back-mul-save-low : (t : ℕ) → sweep-back-lts.Need-mul-save-low (claims t) (sweep-back-at t) sweep-back.Post
 sweep-back-mul-save-low t c = omega (arith, fit t (c .before .before))
@@ -119,7 +119,7 @@ sweep-back-save-low-requires t c κs =
 
 -- the plane's low-low part is saved
 module _ (t : ℕ) (c : sweep-back-lts.After-save-low (claims t) (sweep-back-at t) sweep-back.Post) where
-  abbrev goes : sweep-back-lts.After-goes-on (claims t) (sweep-back-at t) sweep-back.Post
+  abbrev goes : sweep-back-lts.After-has-next (claims t) (sweep-back-at t) sweep-back.Post
   goes = c .before .before .before
 
   abbrev last : sweep-back-lts.After-low-place (claims t) (sweep-back-at t) sweep-back.Post
@@ -134,7 +134,7 @@ sweep-back-level-back-requires t c κs =
     let here = last t saved in
     let s = begun t here in
     let a′ = s .args in
-    let go = goes-as _ _ _ _ _ _ _ (here .before .before .low-count .ensures) (here .before .low-count2 .ensures) (goes t saved .goes-on .ensures)
+    let go = goes-as _ _ _ _ _ _ _ (here .before .before .low-count .ensures) (here .before .low-count2 .ensures) (goes t saved .has-next .ensures)
     (not-true _ (saved .before .before .if1 .taken)) in (
       room-same _ _ _ _ _ _ (W t here) (H t here) (s .pre .1 .0) _ _ _ refl (same₁ t saved) refl,
       last-small (a′ .level) (a′ .levels) (a′ .across) (a t here) (n t here - a t here) (W t here) (H t here) _ _ _ _ _ (s .pre .1 .1) (s .pre .1 .2)
@@ -159,7 +159,7 @@ sweep-back-returns t c =
     let here = last t saved in
     let s = begun t here in
     let a′ = s .args in
-    let go = goes-as _ _ _ _ _ _ _ (here .before .before .low-count .ensures) (here .before .low-count2 .ensures) (goes t saved .goes-on .ensures)
+    let go = goes-as _ _ _ _ _ _ _ (here .before .before .low-count .ensures) (here .before .low-count2 .ensures) (goes t saved .has-next .ensures)
     (not-true _ (saved .before .before .if1 .taken)) in
     last-then (a′ .level) (a′ .levels) (a′ .across) (a t here) (n t here - a t here) (W t here) (H t here) _ _ _ _ _ (s .pre .1 .1) (s .pre .1 .2)
     (here .low-place .ensures) refl (put-area _ _ (work t here) (saved .save-low .last .1 .0) (fit t here .2) (saved .save-low .kept .1 .0)) (s .pre .1 .3) go
@@ -177,7 +177,7 @@ module _ (t : ℕ) (c : sweep-back-lts.After-next-start2 (claims t) (sweep-back-
   sized = c .before .before .before .before
 
   left : (2 ≤ begun t sized .args .levels) × (0 < sized .before .before .low-count .result) × (0 < sized .before .low-count2 .result)
-  left = goes-yes _ _ _ (sym (c .before .before .before .goes-on .ensures) ∙ not-false _ (c .before .before .if1 .left))
+  left = goes-yes _ _ _ (sym (c .before .before .before .has-next .ensures) ∙ not-false _ (c .before .before .if1 .left))
 
   next-columns : side (c .before .next-start .result) (sized .before .before .low-count .result) ≡ next (W t sized)
   next-columns = next-side (W t sized) _ _ (c .before .next-start .ensures) (sized .before .before .low-count .ensures)
@@ -305,7 +305,7 @@ pub +sweep-back-spec : {M : Type 1} → statement M
     (sweep-back-low-count-requires-2 t)
     (sweep-back-low-place-requires t)
     (sweep-back-mul-n t)
-    (sweep-back-goes-on-requires t)
+    (sweep-back-has-next-requires t)
     (sweep-back-mul-save-low t)
     (sweep-back-sub-save-low t)
     (sweep-back-part-save-low-start t)

@@ -30,7 +30,7 @@ use Rattle.map_levels.proofs.nine_seven_levels.back_levels.Kinds as bac
 use Rattle.map_levels.proofs.nine_seven_levels.+back_levels.Lts-back_levels as back-levels-lts
 use Rattle.wavelet.proofs.sizes.low_count.Reads as low-count-reads
 use Rattle.wavelet.proofs.sizes.next_start.Reads as next-start-reads
-use Rattle.map_levels.proofs.levels.goes_on.Reads as goes-on-reads
+use Rattle.map_levels.proofs.levels.has_next.Reads as has-next-reads
 use Rattle.map_levels.proofs.nine_seven_levels.nine_seven_back.Reads as nine-seven-back-reads
 use Rattle.map_levels.proofs.nine_seven_levels.interleave_low.Reads as interleave-low-reads
 use Rattle.map_levels.proofs.nine_seven_levels.+back_levels.{statement}
@@ -51,8 +51,8 @@ abbrev claims : ℕ → back-levels-lts.Claims
 claims t = (
   low-count-reads.Asked,
   low-count-reads.Learnt,
-  goes-on-reads.Asked,
-  goes-on-reads.Learnt,
+  has-next-reads.Asked,
+  has-next-reads.Learnt,
   nine-seven-back-reads.Asked,
   nine-seven-back-reads.Learnt,
   next-start-reads.Asked,
@@ -69,8 +69,8 @@ back-levels-low-count-requires t c κs = tt
 back-levels-low-count-requires-2 : (t : ℕ) → back-levels-lts.Need-low-count-requires-2 (claims t) (back-levels-at t) back-levels.Post
 back-levels-low-count-requires-2 t c κs = tt
 
-back-levels-goes-on-requires : (t : ℕ) → back-levels-lts.Need-goes-on-requires (claims t) (back-levels-at t) back-levels.Post
-back-levels-goes-on-requires t c κs = tt
+back-levels-has-next-requires : (t : ℕ) → back-levels-lts.Need-has-next-requires (claims t) (back-levels-at t) back-levels.Post
+back-levels-has-next-requires t c κs = tt
 
 back-levels-nine-seven-back-requires : (t : ℕ) → back-levels-lts.Need-nine-seven-back-requires (claims t) (back-levels-at t) back-levels.Post
 back-levels-nine-seven-back-requires t c κs =
@@ -91,7 +91,7 @@ back-levels-returns t c =
     back-end nineSevenFilter nine-seven-laws _ _ _ _ (side (start .args .x) (start .args .width))
     (side (start .args .y) (start .args .height)) _ _ _ _ (start .pre .1 .1 .wide)
     (start .pre .1 .2 .some)
-    (goes-as _ _ _ _ _ _ _ (low .low-count .ensures) (low2 .low-count2 .ensures) (goes .goes-on .ensures) (not-true _ (then .if1 .taken)))
+    (goes-as _ _ _ _ _ _ _ (low .low-count .ensures) (low2 .low-count2 .ensures) (goes .has-next .ensures) (not-true _ (then .if1 .taken)))
     (back .nine-seven-back .ensures)
 
 -- ---- where the low-low part has levels left: it begins at place a of the work area's n numbers
@@ -118,7 +118,7 @@ module _ (t : ℕ) (c : back-levels-lts.After-next-start2 (claims t) (back-level
   a = begun .args .y % 2 * begun .args .stride
 
   left : (2 ≤ begun .args .levels) × (0 < low2 .before .low-count .result) × (0 < low2 .low-count2 .result)
-  left = goes-yes _ _ _ (sym (c .before .before .before .goes-on .ensures) ∙ not-false _ (c .before .before .if1 .left))
+  left = goes-yes _ _ _ (sym (c .before .before .before .has-next .ensures) ∙ not-false _ (c .before .before .if1 .left))
 
   low-rows : 0 < count lo H
   low-rows = rw (low2 .low-count2 .ensures) at (left .2)
@@ -310,7 +310,7 @@ pub +back-levels-spec : {M : Type 1} → statement M
     back-levels.Post
     (back-levels-low-count-requires t)
     (back-levels-low-count-requires-2 t)
-    (back-levels-goes-on-requires t)
+    (back-levels-has-next-requires t)
     (back-levels-nine-seven-back-requires t)
     (back-levels-same-length t)
     (back-levels-returns t)

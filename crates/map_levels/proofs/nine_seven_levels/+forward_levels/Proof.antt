@@ -7,7 +7,7 @@ use Rattle.lifting.specs.Grid.{side}
 use Rattle.nine_seven.specs.NineSevenFilter.{nineSevenFilter}
 use Rattle.nine_seven.proofs.NineSevenFilter.{nine-seven-laws}
 use Rattle.map_levels.proofs.LevelSteps.{next-side, rows-corner}
-use Rattle.map_levels.proofs.ForwardSteps.{goes-on, own-rows, forward-end, forward-step}
+use Rattle.map_levels.proofs.ForwardSteps.{has-next, own-rows, forward-end, forward-step}
 use Prim.Native.Nat.{ℕ, _<_}
 use borrow.Fn.Kinds.{In}
 use borrow.Fn.PlainCycle.{Measures, is, falls, and}
@@ -16,7 +16,7 @@ use Rattle.map_levels.proofs.nine_seven_levels.forward_levels.Kinds as 
 use Rattle.map_levels.proofs.nine_seven_levels.+forward_levels.Lts-forward_levels as forward-levels-lts
 use Rattle.wavelet.proofs.sizes.low_count.Reads as low-count-reads
 use Rattle.wavelet.proofs.sizes.next_start.Reads as next-start-reads
-use Rattle.map_levels.proofs.levels.goes_on.Reads as goes-on-reads
+use Rattle.map_levels.proofs.levels.has_next.Reads as has-next-reads
 use Rattle.map_levels.proofs.levels.save.Reads as save-reads
 use Rattle.map_levels.proofs.levels.spread.Reads as spread-reads
 use Rattle.map_levels.proofs.passes.lift_nine_seven.Reads as lift-nine-seven-reads
@@ -48,8 +48,8 @@ claims t = (
   lift-nine-seven-reads.Learnt,
   low-count-reads.Asked,
   low-count-reads.Learnt,
-  goes-on-reads.Asked,
-  goes-on-reads.Learnt,
+  has-next-reads.Asked,
+  has-next-reads.Learnt,
   next-start-reads.Asked,
   next-start-reads.Learnt,
   save-reads.Asked,
@@ -69,8 +69,8 @@ forward-levels-low-count-requires t c κs = tt
 forward-levels-low-count-requires-2 : (t : ℕ) → forward-levels-lts.Need-low-count-requires-2 (claims t) (forward-levels-at t) forward-levels.Post
 forward-levels-low-count-requires-2 t c κs = tt
 
-forward-levels-goes-on-requires : (t : ℕ) → forward-levels-lts.Need-goes-on-requires (claims t) (forward-levels-at t) forward-levels.Post
-forward-levels-goes-on-requires t c κs = tt
+forward-levels-has-next-requires : (t : ℕ) → forward-levels-lts.Need-has-next-requires (claims t) (forward-levels-at t) forward-levels.Post
+forward-levels-has-next-requires t c κs = tt
 
 forward-levels-same-length : (t : ℕ) → forward-levels-lts.Need-same-length (claims t) (forward-levels-at t) forward-levels.Post
 forward-levels-same-length t c = search needs
@@ -89,7 +89,7 @@ forward-levels-returns t c =
     let H = side (start .args .y) (start .args .height) in (
       forward-end F laws _ W H _ _ (R .wide) (R .apart) (lift .lift-nine-seven .ensures) _ _ _ (start .pre .1 .2) (low .low-count .ensures)
           (low2 .low-count2 .ensures)
-          (sym (goes .goes-on .ensures) ∙ not-true _ (c .if1 .taken)),
+          (sym (goes .has-next .ensures) ∙ not-true _ (c .if1 .taken)),
       record { kept = λ j b. refl },
     )
 
@@ -109,7 +109,7 @@ forward-levels-save-requires t c κs =
     let low = low2 .before in
     let lift = low .before .before in
     let start = lift .before .before in
-    let on = goes-on _ _ _ (sym (goes .goes-on .ensures) ∙ not-false _ (more .if1 .left)) in
+    let on = has-next _ _ _ (sym (goes .has-next .ensures) ∙ not-false _ (more .if1 .left)) in
     let W = side (start .args .x) (start .args .width) in
     let H = side (start .args .y) (start .args .height) in (
       rows-corner _ _ _ W H _ _ (low .low-count .ensures) (low2 .low-count2 .ensures) (on .2) (start .pre .1 .0) (lift .lift-nine-seven .kept .0),
@@ -127,7 +127,7 @@ forward-levels-spread-requires t c κs =
     let low = low2 .before in
     let lift = low .before .before in
     let start = lift .before .before in
-    let on = goes-on _ _ _ (sym (goes .goes-on .ensures) ∙ not-false _ (more .if1 .left)) in
+    let on = has-next _ _ _ (sym (goes .has-next .ensures) ∙ not-false _ (more .if1 .left)) in
     let W = side (start .args .x) (start .args .width) in
     let H = side (start .args .y) (start .args .height) in (
       own-rows _ _ W H _ _ (save .save .kept .1 .0) (low .low-count .ensures) (low2 .low-count2 .ensures) (on .1) (on .2) (start .pre .1 .1),
@@ -149,7 +149,7 @@ forward-levels-forward-levels-requires t c κs =
     let low = low2 .before in
     let lift = low .before .before in
     let start = lift .before .before in
-    let on = goes-on _ _ _ (sym (goes .goes-on .ensures) ∙ not-false _ (more .if1 .left)) in
+    let on = has-next _ _ _ (sym (goes .has-next .ensures) ∙ not-false _ (more .if1 .left)) in
     let W = side (start .args .x) (start .args .width) in
     let H = side (start .args .y) (start .args .height) in (
       omega arith,
@@ -180,7 +180,7 @@ forward-levels-returns-2 t c =
     let low = low2 .before in
     let lift = low .before .before in
     let start = lift .before .before in
-    let on = goes-on _ _ _ (sym (goes .goes-on .ensures) ∙ not-false _ (more .if1 .left)) in
+    let on = has-next _ _ _ (sym (goes .has-next .ensures) ∙ not-false _ (more .if1 .left)) in
     let W = side (start .args .x) (start .args .width) in
     let F = nineSevenFilter in
     let laws = nine-seven-laws in
@@ -197,7 +197,7 @@ pub +forward-levels-spec : {M : Type 1} → statement M
     (forward-levels-lift-nine-seven-requires t)
     (forward-levels-low-count-requires t)
     (forward-levels-low-count-requires-2 t)
-    (forward-levels-goes-on-requires t)
+    (forward-levels-has-next-requires t)
     (forward-levels-same-length t)
     (forward-levels-returns t)
     (forward-levels-next-start-requires t)

@@ -7,7 +7,7 @@ use Rattle.lifting.specs.Grid.{side}
 use Rattle.areas.specs.Areas.{heightsAt}
 use Rattle.map_levels.proofs.TestLaws.{false-true}
 use Rattle.map_levels.proofs.LevelSteps.{next-side}
-use Rattle.map_levels.proofs.ForwardSteps.{goes-on}
+use Rattle.map_levels.proofs.ForwardSteps.{has-next}
 use Rattle.map_levels.proofs.SweepLevels.{growing-small, growing-next, sweep-last, sweep-more, area-next}
 use Prim.Native.Nat.{ℕ, _<_}
 use borrow.Fn.Kinds.{In}
@@ -15,7 +15,7 @@ use borrow.Fn.PlainCycle.{Measures, is, falls, and}
 use Rattle.map_levels.proofs.sweep.sweep_levels.Reads as sweep-levels
 use Rattle.map_levels.proofs.sweep.sweep_levels.Kinds as sweep-levels-kinds
 use Rattle.map_levels.proofs.sweep.+sweep_levels.Lts-sweep_levels as sweep-levels-lts
-use Rattle.map_levels.proofs.levels.goes_on.Reads as goes-on-reads
+use Rattle.map_levels.proofs.levels.has_next.Reads as has-next-reads
 use Rattle.map_levels.proofs.sweep.lift_level.Reads as lift-level-reads
 use Rattle.wavelet.proofs.sizes.low_count.Reads as low-count-reads
 use Rattle.wavelet.proofs.sizes.next_start.Reads as next-start-reads
@@ -42,8 +42,8 @@ sweep-levels-lift-level-requires : (t : ℕ) → sweep-levels-lts.Need-lift-leve
   lift-level-reads.Learnt,
   low-count-reads.Asked,
   low-count-reads.Learnt,
-  goes-on-reads.Asked,
-  goes-on-reads.Learnt,
+  has-next-reads.Asked,
+  has-next-reads.Learnt,
   next-start-reads.Asked,
   next-start-reads.Learnt,
   sweep-levels-below t,
@@ -61,8 +61,8 @@ sweep-levels-low-count-requires : (t : ℕ) → sweep-levels-lts.Need-low-count-
   lift-level-reads.Learnt,
   low-count-reads.Asked,
   low-count-reads.Learnt,
-  goes-on-reads.Asked,
-  goes-on-reads.Learnt,
+  has-next-reads.Asked,
+  has-next-reads.Learnt,
   next-start-reads.Asked,
   next-start-reads.Learnt,
   sweep-levels-below t,
@@ -75,8 +75,8 @@ sweep-levels-low-count-requires-2 : (t : ℕ) → sweep-levels-lts.Need-low-coun
   lift-level-reads.Learnt,
   low-count-reads.Asked,
   low-count-reads.Learnt,
-  goes-on-reads.Asked,
-  goes-on-reads.Learnt,
+  has-next-reads.Asked,
+  has-next-reads.Learnt,
   next-start-reads.Asked,
   next-start-reads.Learnt,
   sweep-levels-below t,
@@ -84,27 +84,27 @@ sweep-levels-low-count-requires-2 : (t : ℕ) → sweep-levels-lts.Need-low-coun
 ) (sweep-levels-at t) sweep-levels.Post
 sweep-levels-low-count-requires-2 t c κs = tt
 
-sweep-levels-goes-on-requires : (t : ℕ) → sweep-levels-lts.Need-goes-on-requires (
+sweep-levels-has-next-requires : (t : ℕ) → sweep-levels-lts.Need-has-next-requires (
   lift-level-reads.Asked,
   lift-level-reads.Learnt,
   low-count-reads.Asked,
   low-count-reads.Learnt,
-  goes-on-reads.Asked,
-  goes-on-reads.Learnt,
+  has-next-reads.Asked,
+  has-next-reads.Learnt,
   next-start-reads.Asked,
   next-start-reads.Learnt,
   sweep-levels-below t,
   sweep-levels.Post,
 ) (sweep-levels-at t) sweep-levels.Post
-sweep-levels-goes-on-requires t c κs = tt
+sweep-levels-has-next-requires t c κs = tt
 
 sweep-levels-same-length : (t : ℕ) → sweep-levels-lts.Need-same-length (
   lift-level-reads.Asked,
   lift-level-reads.Learnt,
   low-count-reads.Asked,
   low-count-reads.Learnt,
-  goes-on-reads.Asked,
-  goes-on-reads.Learnt,
+  has-next-reads.Asked,
+  has-next-reads.Learnt,
   next-start-reads.Asked,
   next-start-reads.Learnt,
   sweep-levels-below t,
@@ -117,8 +117,8 @@ sweep-levels-same-length-2 : (t : ℕ) → sweep-levels-lts.Need-same-length-2 (
   lift-level-reads.Learnt,
   low-count-reads.Asked,
   low-count-reads.Learnt,
-  goes-on-reads.Asked,
-  goes-on-reads.Learnt,
+  has-next-reads.Asked,
+  has-next-reads.Learnt,
   next-start-reads.Asked,
   next-start-reads.Learnt,
   sweep-levels-below t,
@@ -131,8 +131,8 @@ sweep-levels-returns : (t : ℕ) → sweep-levels-lts.Need-returns (
   lift-level-reads.Learnt,
   low-count-reads.Asked,
   low-count-reads.Learnt,
-  goes-on-reads.Asked,
-  goes-on-reads.Learnt,
+  has-next-reads.Asked,
+  has-next-reads.Learnt,
   next-start-reads.Asked,
   next-start-reads.Learnt,
   sweep-levels-below t,
@@ -149,15 +149,15 @@ sweep-levels-returns t c =
     let H = side (a .y) (a .height) in
     let R = start .pre .1 .0 in
     sweep-last (a .first) (a .across) W H _ _ _ _ _ (R .plane .wide) (R .plane .apart) (lift .lift-level .ensures) (a .levels) _ _ (start .pre .1 .2)
-    (R .plane .some) (low .low-count .ensures) (low2 .low-count2 .ensures) (sym (goes .goes-on .ensures) ∙ not-true _ (c .if1 .taken))
+    (R .plane .some) (low .low-count .ensures) (low2 .low-count2 .ensures) (sym (goes .has-next .ensures) ∙ not-true _ (c .if1 .taken))
 
 sweep-levels-next-start-requires : (t : ℕ) → sweep-levels-lts.Need-next-start-requires (
   lift-level-reads.Asked,
   lift-level-reads.Learnt,
   low-count-reads.Asked,
   low-count-reads.Learnt,
-  goes-on-reads.Asked,
-  goes-on-reads.Learnt,
+  has-next-reads.Asked,
+  has-next-reads.Learnt,
   next-start-reads.Asked,
   next-start-reads.Learnt,
   sweep-levels-below t,
@@ -170,8 +170,8 @@ sweep-levels-next-start-requires-2 : (t : ℕ) → sweep-levels-lts.Need-next-st
   lift-level-reads.Learnt,
   low-count-reads.Asked,
   low-count-reads.Learnt,
-  goes-on-reads.Asked,
-  goes-on-reads.Learnt,
+  has-next-reads.Asked,
+  has-next-reads.Learnt,
   next-start-reads.Asked,
   next-start-reads.Learnt,
   sweep-levels-below t,
@@ -184,8 +184,8 @@ sweep-levels-sub-sweep-levels : (t : ℕ) → sweep-levels-lts.Need-sub-sweep-le
   lift-level-reads.Learnt,
   low-count-reads.Asked,
   low-count-reads.Learnt,
-  goes-on-reads.Asked,
-  goes-on-reads.Learnt,
+  has-next-reads.Asked,
+  has-next-reads.Learnt,
   next-start-reads.Asked,
   next-start-reads.Learnt,
   sweep-levels-below t,
@@ -198,8 +198,8 @@ sweep-levels-sweep-levels-requires : (t : ℕ) → sweep-levels-lts.Need-sweep-l
   lift-level-reads.Learnt,
   low-count-reads.Asked,
   low-count-reads.Learnt,
-  goes-on-reads.Asked,
-  goes-on-reads.Learnt,
+  has-next-reads.Asked,
+  has-next-reads.Learnt,
   next-start-reads.Asked,
   next-start-reads.Learnt,
   sweep-levels-below t,
@@ -216,7 +216,7 @@ sweep-levels-sweep-levels-requires t c κs =
     let W = side (a .x) (a .width) in
     let H = side (a .y) (a .height) in
     let R = start .pre .1 .0 in
-    let on = goes-on _ _ _ (sym (goes .goes-on .ensures) ∙ not-false _ (more .if1 .left)) in (
+    let on = has-next _ _ _ (sym (goes .has-next .ensures) ∙ not-false _ (more .if1 .left)) in (
       omega arith,
       (
         area-next (a .first) _ _ _ _ _ _ W H _ _ _ _ R (lift .lift-level .kept .1 .0) (lift .lift-level .kept .1 .1 .0) (low .low-count .ensures)
@@ -235,8 +235,8 @@ sweep-levels-same-length-3 : (t : ℕ) → sweep-levels-lts.Need-same-length-3 (
   lift-level-reads.Learnt,
   low-count-reads.Asked,
   low-count-reads.Learnt,
-  goes-on-reads.Asked,
-  goes-on-reads.Learnt,
+  has-next-reads.Asked,
+  has-next-reads.Learnt,
   next-start-reads.Asked,
   next-start-reads.Learnt,
   sweep-levels-below t,
@@ -251,8 +251,8 @@ sweep-levels-same-length-4 : (t : ℕ) → sweep-levels-lts.Need-same-length-4 (
   lift-level-reads.Learnt,
   low-count-reads.Asked,
   low-count-reads.Learnt,
-  goes-on-reads.Asked,
-  goes-on-reads.Learnt,
+  has-next-reads.Asked,
+  has-next-reads.Learnt,
   next-start-reads.Asked,
   next-start-reads.Learnt,
   sweep-levels-below t,
@@ -267,8 +267,8 @@ sweep-levels-returns-2 : (t : ℕ) → sweep-levels-lts.Need-returns-2 (
   lift-level-reads.Learnt,
   low-count-reads.Asked,
   low-count-reads.Learnt,
-  goes-on-reads.Asked,
-  goes-on-reads.Learnt,
+  has-next-reads.Asked,
+  has-next-reads.Learnt,
   next-start-reads.Asked,
   next-start-reads.Learnt,
   sweep-levels-below t,
@@ -288,7 +288,7 @@ sweep-levels-returns-2 t c =
     let W = side (a .x) (a .width) in
     let H = side (a .y) (a .height) in
     let R = start .pre .1 .0 in
-    let on = goes-on _ _ _ (sym (goes .goes-on .ensures) ∙ not-false _ (more .if1 .left)) in
+    let on = has-next _ _ _ (sym (goes .has-next .ensures) ∙ not-false _ (more .if1 .left)) in
     sweep-more (a .first) (a .across) W H _ _ _ _ _ (R .plane .wide) (R .plane .apart) (lift .lift-level .ensures) _ _
     (next-side W _ _ (next .next-start .ensures) (low .low-count .ensures)) (next-side H _ _ (next2 .next-start2 .ensures) (low2 .low-count2 .ensures)) _ _
     (a .levels) (on .0) (R .plane .some) (again .sweep-levels .ensures .0) (again .sweep-levels .ensures .1)
@@ -299,8 +299,8 @@ pub +sweep-levels-spec : {M : Type 1} → statement M
   lift-level-reads.Learnt,
   low-count-reads.Asked,
   low-count-reads.Learnt,
-  goes-on-reads.Asked,
-  goes-on-reads.Learnt,
+  has-next-reads.Asked,
+  has-next-reads.Learnt,
   next-start-reads.Asked,
   next-start-reads.Learnt,
   sweep-levels-below t,
@@ -311,7 +311,7 @@ pub +sweep-levels-spec : {M : Type 1} → statement M
     (sweep-levels-lift-level-requires t)
     (sweep-levels-low-count-requires t)
     (sweep-levels-low-count-requires-2 t)
-    (sweep-levels-goes-on-requires t)
+    (sweep-levels-has-next-requires t)
     (sweep-levels-same-length t)
     (sweep-levels-same-length-2 t)
     (sweep-levels-returns t)

@@ -3,7 +3,7 @@ use mathlib.Core.Path.{refl, sym, _∙_}
 use borrow.Author.Tests.{not-true, not-false}
 use Rattle.lifting.specs.Grid.{side}
 use Rattle.map_levels.proofs.LevelSteps.{rows-corner}
-use Rattle.map_levels.proofs.ForwardSteps.{goes-on}
+use Rattle.map_levels.proofs.ForwardSteps.{has-next}
 use Rattle.map_levels.proofs.SweepLevels.{low-rows, low-saved, low-none}
 use Rattle.map_levels.proofs.sweep.save_low.Statement.{statement}
 use Rattle.map_levels.proofs.sweep.save_low.Tie as tie
@@ -14,8 +14,8 @@ low-count-requires c κs = tt
 low-count-requires-2 : tie.Need-low-count-requires-2
 low-count-requires-2 c κs = tt
 
-goes-on-requires : tie.Need-goes-on-requires
-goes-on-requires c κs = tt
+has-next-requires : tie.Need-has-next-requires
+has-next-requires c κs = tt
 
 returns : tie.Need-returns
 returns c =
@@ -24,7 +24,7 @@ returns c =
     let low = low2 .before in
     let a = low .before .args in
     low-none (a .across) (side (a .x) (a .width)) (side (a .y) (a .height)) _ _ _ _ (low .low-count .ensures) (low2 .low-count2 .ensures)
-    (sym (goes .goes-on .ensures) ∙ not-true _ (c .if1 .taken))
+    (sym (goes .has-next .ensures) ∙ not-true _ (c .if1 .taken))
 
 save-requires : tie.Need-save-requires
 save-requires c κs =
@@ -36,7 +36,7 @@ save-requires c κs =
     let a = s .args in
     let W = side (a .x) (a .width) in
     let H = side (a .y) (a .height) in
-    let on = goes-on _ _ _ (sym (goes .goes-on .ensures) ∙ not-false _ (more .if1 .left)) in (
+    let on = has-next _ _ _ (sym (goes .has-next .ensures) ∙ not-false _ (more .if1 .left)) in (
       rows-corner _ _ _ W H _ _ (low .low-count .ensures) (low2 .low-count2 .ensures) (on .2) (s .pre .0) refl,
       low-rows _ W H _ _ (low .low-count .ensures) (low2 .low-count2 .ensures) (on .1) (on .2) (s .pre .1),
     )
@@ -54,7 +54,7 @@ returns-2 c =
     let a = s .args in
     let W = side (a .x) (a .width) in
     let H = side (a .y) (a .height) in
-    let on = goes-on _ _ _ (sym (goes .goes-on .ensures) ∙ not-false _ (more .if1 .left)) in
+    let on = has-next _ _ _ (sym (goes .has-next .ensures) ∙ not-false _ (more .if1 .left)) in
     low-saved (a .across) W H _ _ _ _ (low .low-count .ensures) (low2 .low-count2 .ensures) _ _ (on .1) (on .2)
     (low-rows _ W H _ _ (low .low-count .ensures) (low2 .low-count2 .ensures) (on .1) (on .2) (s .pre .1)) (c .before .save .ensures)
 
@@ -64,7 +64,7 @@ save-low-spec =
     (tie.spec
     low-count-requires
     low-count-requires-2
-    goes-on-requires
+    has-next-requires
     returns
     save-requires
     same-length

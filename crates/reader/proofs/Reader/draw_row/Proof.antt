@@ -69,8 +69,8 @@ returns-4 c =
     (draw-no (a .self) _ _ _ 12 (draw-12 (a .self) (length (a .store .now)) (length (a .out .now)) (at (a .store .now)) fit one
     (sym (due .before .draw-due .ensures) ∙ not-false _ (due .if3 .left)) (c .if4 .taken)) (omega arith) (omega arith))
 
-settle-all-requires : tie.Need-settle-all-requires
-settle-all-requires c κs =
+work-all-due-requires : tie.Need-work-all-due-requires
+work-all-due-requires c κs =
     let due = c .before .before .before in
     let ok = due .before .before in
     let one = store-in _ _ (sym (ok .before .before .before .counts-fit .ensures) ∙ not-false _ (ok .before .before .if1 .left))
@@ -86,10 +86,10 @@ hand-out-requires c κs =
     let one = store-in _ _ (sym (ok .before .before .before .counts-fit .ensures) ∙ not-false _ (ok .before .before .if1 .left))
     (sym (ok .before .store-question .ensures) ∙ ok .if2 .left) in
     let draws = due-in _ (sym (due .before .draw-due .ensures) ∙ not-false _ (due .if3 .left)) in
-    (one .0, draws .0, le-trans (one .1) (le-of-eq (sym (call .settle-all .kept .1 .0))), wide .if4 .left)
+    (one .0, draws .0, le-trans (one .1) (le-of-eq (sym (call .work-all-due .kept .1 .0))), wide .if4 .left)
 
 same-length : tie.Need-same-length
-same-length c = c .before .before .before .before .before .before .before .settle-all .kept .1 .0
+same-length c = c .before .before .before .before .before .before .before .work-all-due .kept .1 .0
 
 same-length-2 : tie.Need-same-length-2
 same-length-2 c = c .before .before .hand-out .kept .1 .1 .0
@@ -110,21 +110,21 @@ returns-5 c =
     let fit = sym (ok .before .before .before .counts-fit .ensures) ∙ not-false _ (ok .before .before .if1 .left) in
     let one = sym (ok .before .store-question .ensures) ∙ ok .if2 .left in
     let is-due = sym (due .before .draw-due .ensures) ∙ not-false _ (due .if3 .left) in
-    let made = told-yes (call .settle-all .result) (at (call .settle-all .last .1 .0)) _ (call .settle-all .ensures .0) (settled .if5 .taken) in
+    let made = told-yes (call .work-all-due .result) (at (call .work-all-due .last .1 .0)) _ (call .work-all-due .ensures .0) (settled .if5 .taken) in
     draw-also s n m x (heightsAt (a .out .now))
-    (draw-yes s _ x (heightsAt (a .out .now)) (drawing .hand-out .result) (at (call .settle-all .last .1 .0)) _
+    (draw-yes s _ x (heightsAt (a .out .now)) (drawing .hand-out .result) (at (call .work-all-due .last .1 .0)) _
     (fits-yes _ _ made ∙ draw-last s n m x fit one is-due (wide .if4 .left)) is-due (drawing .hand-out .ensures .0) made (drawing .hand-out .ensures .1))
 
-over-requires : tie.Need-over-requires
-over-requires c κs =
+ending-requires : tie.Need-ending-requires
+ending-requires c κs =
     let call = c .before .before .before in
     let ok = call .before .before .before .before .before .before in
     let one = store-in _ _ (sym (ok .before .before .before .counts-fit .ensures) ∙ not-false _ (ok .before .before .if1 .left))
     (sym (ok .before .store-question .ensures) ∙ ok .if2 .left) in
-    (one .0, le-trans (one .3) (le-of-eq (sym (call .settle-all .kept .1 .0))))
+    (one .0, le-trans (one .3) (le-of-eq (sym (call .work-all-due .kept .1 .0))))
 
 same-length-3 : tie.Need-same-length-3
-same-length-3 c = let ended = c .before in ended .over .kept .1 .0 ∙ ended .before .before .before .before .settle-all .kept .1 .0
+same-length-3 c = let ended = c .before in ended .ending .kept .1 .0 ∙ ended .before .before .before .before .work-all-due .kept .1 .0
 
 returns-6 : tie.Need-returns-6
 returns-6 c =
@@ -139,15 +139,15 @@ returns-6 c =
     let n = length (a .store .now) in
     let m = length (a .out .now) in
     let x = at (a .store .now) in
-    let y = at (call .settle-all .last .1 .0) in
+    let y = at (call .work-all-due .last .1 .0) in
     let fit = sym (ok .before .before .before .counts-fit .ensures) ∙ not-false _ (ok .before .before .if1 .left) in
     let one = sym (ok .before .store-question .ensures) ∙ ok .if2 .left in
     let is-due = sym (due .before .draw-due .ensures) ∙ not-false _ (due .if3 .left) in
-    let made = told-no (call .settle-all .result) y _ (call .settle-all .ensures .0) (failed .if5 .left) in
+    let made = told-no (call .work-all-due .result) y _ (call .work-all-due .ensures .0) (failed .if5 .left) in
     draw-also s n m x (heightsAt (a .out .now))
-    (draw-end s _ x (heightsAt (a .out .now)) (ended .over .result) _ (fits-no _ made ∙ draw-last s n m x fit one is-due (wide .if4 .left))
-    (ended .over .ensures .0) (zero-kept (storeBy (s .filter) (columns s) (s .levels)) (needs s) x y _ (omega arith) (call .settle-all .ensures .1)
-    (ended .over .ensures .1)))
+    (draw-end s _ x (heightsAt (a .out .now)) (ended .ending .result) _ (fits-no _ made ∙ draw-last s n m x fit one is-due (wide .if4 .left))
+    (ended .ending .ensures .0) (zero-kept (storeBy (s .filter) (columns s) (s .levels)) (needs s) x y _ (omega arith) (call .work-all-due .ensures .1)
+    (ended .ending .ensures .1)))
 
 pub draw-row-spec : {M : Type 1} → statement M
 draw-row-spec =
@@ -160,11 +160,11 @@ draw-row-spec =
     draw-due-requires
     returns-3
     returns-4
-    settle-all-requires
+    work-all-due-requires
     hand-out-requires
     same-length
     same-length-2
     returns-5
-    over-requires
+    ending-requires
     same-length-3
     returns-6)

@@ -137,8 +137,8 @@ returns-4 c =
     let goes = fed-reader (a .self) (c .moved .result) (there .spot-fed .result) (there .spot-fed .ensures) (c .moved .ensures) in
     feed-also (a .self) n m x v (feed-yes (a .self) _ _ _ _ _ (fits-yes _ _ made ∙ feed-last (a .self) n m v x fit one two) goes made)
 
-over-requires : tie.Need-over-requires
-over-requires c κs =
+ending-requires : tie.Need-ending-requires
+ending-requires c κs =
     let call = c .before .before .before in
     let asked = call .before .before .before in
     let ok = asked .before .before .before in
@@ -147,7 +147,7 @@ over-requires c κs =
     (one .0, le-trans (one .3) (le-of-eq (sym (call .feed-row .kept .1 .0))))
 
 same-length-2 : tie.Need-same-length-2
-same-length-2 c = let ended = c .before in ended .over .kept .1 .0 ∙ ended .before .before .before .before .feed-row .kept .1 .0
+same-length-2 c = let ended = c .before in ended .ending .kept .1 .0 ∙ ended .before .before .before .before .feed-row .kept .1 .0
 
 returns-5 : tie.Need-returns-5
 returns-5 c =
@@ -167,8 +167,9 @@ returns-5 c =
     let made = told-no (call .feed-row .result) y _ (call .feed-row .ensures .0) (failed .if4 .left) in
     let v = at (a .run .now) in
     let x = at (a .store .now) in
-    let zeros = zero-kept (storeBy (s .filter) (columns s) (s .levels)) (needs s) x y _ (omega arith) (call .feed-row .ensures .1) (ended .over .ensures .1) in
-    feed-also (a .self) n m x v (feed-end s _ _ _ _ _ (fits-no _ made ∙ feed-last s n m v x fit one two) (ended .over .ensures .0) zeros)
+    let zeros = zero-kept (storeBy (s .filter) (columns s) (s .levels)) (needs s) x y _ (omega arith) (call .feed-row .ensures .1)
+    (ended .ending .ensures .1) in
+    feed-also (a .self) n m x v (feed-end s _ _ _ _ _ (fits-no _ made ∙ feed-last s n m v x fit one two) (ended .ending .ensures .0) zeros)
 
 pub feed-set-spec : {M : Type 1} → statement M
 feed-set-spec =
@@ -187,6 +188,6 @@ feed-set-spec =
     moved-requires
     same-length
     returns-4
-    over-requires
+    ending-requires
     same-length-2
     returns-5)

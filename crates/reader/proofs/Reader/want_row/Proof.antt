@@ -43,8 +43,8 @@ own-band-requires c κs =
     let fit = c .before .before .before .before .before .before in
     (counts-in _ (sym (fit .before .counts-fit .ensures) ∙ not-false _ (fit .if1 .left)), omega arith, c .own-level .ensures)
 
-told-requires : tie.Need-told-requires
-told-requires c κs =
+want-for-requires : tie.Need-want-for-requires
+want-for-requires c κs =
     let band = c .before in
     let level = band .before in
     let live = level .before .before .before .before .before in
@@ -60,7 +60,7 @@ told-requires c κs =
 returns-5 : tie.Need-returns-5
 returns-5 c =
     let fit = c .before .before .before .before .before .before .before .before .before in
-    c .told .ensures ∙ want-yes _ _ (sym (fit .before .counts-fit .ensures) ∙ not-false _ (fit .if1 .left)) refl
+    c .want-for .ensures ∙ want-yes _ _ (sym (fit .before .counts-fit .ensures) ∙ not-false _ (fit .if1 .left)) refl
 
 next-up-requires : tie.Need-next-up-requires
 next-up-requires c κs =
@@ -70,8 +70,8 @@ next-up-requires c κs =
     let counts = counts-in s (sym (fit .before .counts-fit .ensures) ∙ not-false _ (fit .if1 .left)) in
     (counts-small s counts, omega arith, omega (arith, counts .at, counts .few), level .own-level .ensures .0)
 
-told-requires-2 : tie.Need-told-requires-2
-told-requires-2 c κs =
+want-for-requires-2 : tie.Need-want-for-requires-2
+want-for-requires-2 c κs =
     let level = c .before .before .before in
     let live = level .before .before .before .before .before in (
       next-at (live .before .before .before .args .self) _ _ (level .own-level .ensures .1) (c .next-up .ensures),
@@ -83,7 +83,7 @@ told-requires-2 c κs =
 returns-6 : tie.Need-returns-6
 returns-6 c =
     let fit = c .before .before .before .before .before .before .before .before .before .before in
-    c .told2 .ensures ∙ want-yes _ _ (sym (fit .before .counts-fit .ensures) ∙ not-false _ (fit .if1 .left)) refl
+    c .want-for2 .ensures ∙ want-yes _ _ (sym (fit .before .counts-fit .ensures) ∙ not-false _ (fit .if1 .left)) refl
 
 pub want-row-spec : {M : Type 1} → statement M
 want-row-spec =
@@ -96,8 +96,8 @@ want-row-spec =
     returns-4
     own-level-requires
     own-band-requires
-    told-requires
+    want-for-requires
     returns-5
     next-up-requires
-    told-requires-2
+    want-for-requires-2
     returns-6)

@@ -12,17 +12,17 @@ use Rattle.reader.proofs.RunPlaces.{own-kept, drawn-place, false-not-tr
 use Rattle.reader.proofs.run_steps.draw.Statement.{statement}
 use Rattle.reader.proofs.run_steps.draw.Tie as tie
 
-settle-requires : tie.Need-settle-requires
-settle-requires c κs = let p = c .before .before .pre in (p .0, p .1, p .2, p .4)
+work-due-requires : tie.Need-work-due-requires
+work-due-requires c κs = let p = c .before .before .pre in (p .0, p .1, p .2, p .4)
 
 hand-out-requires : tie.Need-hand-out-requires
 hand-out-requires c κs =
     let call = c .before .before .before .before in
     let p = call .before .before .before .pre in
-    (p .0, p .3, le-trans (p .4) (le-of-eq (sym (call .settle .kept .1 .1 .0))), p .6)
+    (p .0, p .3, le-trans (p .4) (le-of-eq (sym (call .work-due .kept .1 .1 .0))), p .6)
 
 same-length : tie.Need-same-length
-same-length c = c .before .before .before .before .before .before .before .settle .kept .1 .1 .0
+same-length c = c .before .before .before .before .before .before .before .work-due .kept .1 .1 .0
 
 same-length-2 : tie.Need-same-length-2
 same-length-2 c = c .before .before .hand-out .kept .1 .1 .0
@@ -36,7 +36,7 @@ returns c =
     let q = hand .hand-out .ensures .0 in
     record {
       passes = λ _. (
-        told-yes (call .settle .result) (at (call .settle .last .1 .1 .0)) _ (call .settle .ensures .0) (yes .if1 .taken),
+        told-yes (call .work-due .result) (at (call .work-due .last .1 .1 .0)) _ (call .work-due .ensures .0) (yes .if1 .taken),
         drawn-place s (hand .hand-out .result) q,
         hand .hand-out .ensures .1,
       );
@@ -44,14 +44,14 @@ returns c =
       own = own-kept s (s .drawn + 1) _ (hand .hand-out .result) q;
     }
 
-over-requires : tie.Need-over-requires
-over-requires c κs =
+ending-requires : tie.Need-ending-requires
+ending-requires c κs =
     let call = c .before .before .before in
     let p = call .before .before .before .pre in
-    (p .0, le-trans (p .5) (le-of-eq (sym (call .settle .kept .1 .1 .0))), p .1)
+    (p .0, le-trans (p .5) (le-of-eq (sym (call .work-due .kept .1 .1 .0))), p .1)
 
 same-length-3 : tie.Need-same-length-3
-same-length-3 c = let ended = c .before in ended .over .kept .1 .1 .0 ∙ ended .before .before .before .before .settle .kept .1 .1 .0
+same-length-3 c = let ended = c .before in ended .ending .kept .1 .1 .0 ∙ ended .before .before .before .before .work-due .kept .1 .1 .0
 
 returns-2 : tie.Need-returns-2
 returns-2 c =
@@ -61,14 +61,14 @@ returns-2 c =
     let a = call .before .before .before .args in
     let s = a .s in
     let x = at (a .store .now) in
-    let y = at (call .settle .last .1 .1 .0) in
-    let q = ended .over .ensures .0 in
+    let y = at (call .work-due .last .1 .1 .0) in
+    let q = ended .ending .ensures .0 in
     record {
       passes = λ e. false-not-true e (q .1);
       ends = λ _. (
-        told-no (call .settle .result) y _ (call .settle .ensures .0) (no .if1 .left),
+        told-no (call .work-due .result) y _ (call .work-due .ensures .0) (no .if1 .left),
         q .0,
-        zero-kept (storeBy (s .filter) (columns s) (s .levels)) (needs s) x y _ (omega arith) (call .settle .ensures .1) (ended .over .ensures .1),
+        zero-kept (storeBy (s .filter) (columns s) (s .levels)) (needs s) x y _ (omega arith) (call .work-due .ensures .1) (ended .ending .ensures .1),
         refl,
       );
       own = q .2;
@@ -77,4 +77,4 @@ returns-2 c =
 pub draw-spec : {M : Type 1} → statement M
 draw-spec =
     tie.close
-    (tie.spec settle-requires hand-out-requires same-length same-length-2 returns over-requires same-length-3 returns-2)
+    (tie.spec work-due-requires hand-out-requires same-length same-length-2 returns ending-requires same-length-3 returns-2)

@@ -44,14 +44,14 @@ returns c =
       own = own-kept s (s .drawn) _ (c .place-past .result) q;
     }
 
-over-requires : tie.Need-over-requires
-over-requires c κs =
+ending-requires : tie.Need-ending-requires
+ending-requires c κs =
     let call = c .before .before .before in
     let p = call .before .before .before .pre in
     (p .0, le-trans (p .5) (le-of-eq (sym (call .feed-row .kept .1 .1 .0))), p .1)
 
 same-length-2 : tie.Need-same-length-2
-same-length-2 c = let ended = c .before in ended .over .kept .1 .1 .0 ∙ ended .before .before .before .before .feed-row .kept .1 .1 .0
+same-length-2 c = let ended = c .before in ended .ending .kept .1 .1 .0 ∙ ended .before .before .before .before .feed-row .kept .1 .1 .0
 
 returns-2 : tie.Need-returns-2
 returns-2 c =
@@ -62,13 +62,13 @@ returns-2 c =
     let s = a .s in
     let x = at (a .store .now) in
     let y = at (call .feed-row .last .1 .1 .0) in
-    let q = ended .over .ensures .0 in
+    let q = ended .ending .ensures .0 in
     record {
       passes = λ e. false-not-true e (q .1);
       ends = λ _. (
         told-no (call .feed-row .result) y _ (call .feed-row .ensures .0) (no .if1 .left),
         q .0,
-        zero-kept (storeBy (s .filter) (columns s) (s .levels)) (needs s) x y _ (omega arith) (call .feed-row .ensures .1) (ended .over .ensures .1),
+        zero-kept (storeBy (s .filter) (columns s) (s .levels)) (needs s) x y _ (omega arith) (call .feed-row .ensures .1) (ended .ending .ensures .1),
       );
       own = q .2;
     }
@@ -76,4 +76,4 @@ returns-2 c =
 pub feed-spec : {M : Type 1} → statement M
 feed-spec =
     tie.close
-    (tie.spec completes-requires feed-row-requires place-past-requires same-length returns over-requires same-length-2 returns-2)
+    (tie.spec completes-requires feed-row-requires place-past-requires same-length returns ending-requires same-length-2 returns-2)

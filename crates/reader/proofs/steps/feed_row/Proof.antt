@@ -17,18 +17,18 @@ use Rattle.reader.proofs.StepLaws.{spot-in, feed-failed, feed-on, lengt
 use Rattle.reader.proofs.steps.feed_row.Statement.{statement}
 use Rattle.reader.proofs.steps.feed_row.Tie as tie
 
-settle-requires : tie.Need-settle-requires
-settle-requires c κs = let p = c .before .pre in (p .0, p .1 .spot .level, p .4)
+work-due-requires : tie.Need-work-due-requires
+work-due-requires c κs = let p = c .before .pre in (p .0, p .1 .spot .level, p .4)
 
 same-length : tie.Need-same-length
-same-length c = let call = c .before .before in call .settle .kept .1 .0
+same-length c = let call = c .before .before in call .work-due .kept .1 .0
 
 returns : tie.Need-returns
 returns c =
     let call = c .before .before in
     let start = call .before .before in
-    let failed = told-no (call .settle .result) (at (call .settle .last .1 .0)) _ (call .settle .ensures .0) (not-true _ (c .if1 .taken)) in
-    (feed-failed (start .args .s) (start .args .n .spot) (start .pre .1 .spot) _ _ failed, call .settle .ensures .1)
+    let failed = told-no (call .work-due .result) (at (call .work-due .last .1 .0)) _ (call .work-due .ensures .0) (not-true _ (c .if1 .taken)) in
+    (feed-failed (start .args .s) (start .args .n .spot) (start .pre .1 .spot) _ _ failed, call .work-due .ensures .1)
 
 sub-k : tie.Need-sub-k
 sub-k c = omega arith
@@ -46,14 +46,14 @@ put-row-requires c κs =
       omega (arith, near .0, counts .at, counts .few),
       start .pre .1 .at (start .pre .2),
       near .1,
-      omega (arith, room, call .settle .kept .1 .0),
+      omega (arith, room, call .work-due .kept .1 .0),
       start .pre .5 ∙ length-back s (start .args .n .spot) (start .pre .1 .spot),
     )
 
 same-length-2 : tie.Need-same-length-2
 same-length-2 c =
     let put = c .before .before in
-    put .put-row .kept .1 .1 .1 .1 .1 .1 .0 ∙ put .before .before .before .before .before .settle .kept .1 .0
+    put .put-row .kept .1 .1 .1 .1 .1 .1 .0 ∙ put .before .before .before .before .before .work-due .kept .1 .0
 
 returns-2 : tie.Need-returns-2
 returns-2 c =
@@ -66,7 +66,7 @@ returns-2 c =
     let n = start .args .n .at .set in
     let due = start .pre .1 .spot in
     let near = spot-in _ _ due (omega arith) in
-    let settled = told-yes (call .settle .result) (at (call .settle .last .1 .0)) _ (call .settle .ensures .0) (not-false _ (on .if1 .left)) in
+    let settled = told-yes (call .work-due .result) (at (call .work-due .last .1 .0)) _ (call .work-due .ensures .0) (not-false _ (on .if1 .left)) in
     let room = store-in (filterOf (s .filter) .rows) (columns s) (p .level - 1 + 1) (s .levels) (omega (arith, near .0, start .pre .0 .at)) in
     let own = fed-kept (s .filter) (columns s) (rows s) (p .level - 1) n (p .band) _ _ in
     let fed = kept-is _ _ _ _ (kept-more _ _ _ _ room own) (put .put-row .ensures) in (
@@ -74,7 +74,7 @@ returns-2 c =
           (not-true _ (c .if2 .taken))
           ∙ ap (λ y. finished (s .admission) (s .filter) (s .stop) (columns s) (rows s) (s .levels) (p .level - 1) n (p .band) y) (put .put-row .ensures)
           ∙ feed-on s p due _ _ _ n (omega arith) (start .pre .1 .set (start .pre .2)) settled,
-      kept-both _ _ _ _ (call .settle .ensures .1) fed,
+      kept-both _ _ _ _ (call .work-due .ensures .1) fed,
     )
 
 work-at-requires : tie.Need-work-at-requires
@@ -89,7 +89,7 @@ work-at-requires c κs =
       counts .stops,
       omega (arith, near .0, counts .at),
       within,
-      omega (arith, put .put-row .kept .1 .1 .1 .1 .1 .1 .0, call .settle .kept .1 .0),
+      omega (arith, put .put-row .kept .1 .1 .1 .1 .1 .1 .0, call .work-due .kept .1 .0),
       counts .admits,
     )
 
@@ -98,7 +98,7 @@ same-length-3 c =
     let done = c .before in
     let put = done .before .before .before .before in
     done .work-at .kept .1 .1 .1 .1 .1 .1 .1 .1 .1 .0 ∙ put .put-row .kept .1 .1 .1 .1 .1 .1 .0
-    ∙ put .before .before .before .before .before .settle .kept .1 .0
+    ∙ put .before .before .before .before .before .work-due .kept .1 .0
 
 returns-3 : tie.Need-returns-3
 returns-3 c =
@@ -113,7 +113,7 @@ returns-3 c =
     let n = start .args .n .at .set in
     let due = start .pre .1 .spot in
     let near = spot-in _ _ due (omega arith) in
-    let settled = told-yes (call .settle .result) (at (call .settle .last .1 .0)) _ (call .settle .ensures .0) (not-false _ (on .if1 .left)) in
+    let settled = told-yes (call .work-due .result) (at (call .work-due .last .1 .0)) _ (call .work-due .ensures .0) (not-false _ (on .if1 .left)) in
     let room = store-in (filterOf (s .filter) .rows) (columns s) (p .level - 1 + 1) (s .levels) (omega (arith, near .0, start .pre .0 .at)) in
     let own = fed-kept (s .filter) (columns s) (rows s) (p .level - 1) n (p .band) _ _ in
     let fed = kept-is _ _ _ _ (kept-more _ _ _ _ room own) (put .put-row .ensures) in (
@@ -122,14 +122,14 @@ returns-3 c =
           (not-false _ (set .if2 .left))
           ∙ ap (λ y. finished (s .admission) (s .filter) (s .stop) (columns s) (rows s) (s .levels) (p .level - 1) n (p .band) y) (put .put-row .ensures)
           ∙ feed-on s p due _ _ _ n (omega arith) (start .pre .1 .set (start .pre .2)) settled,
-      kept-both _ _ _ _ (kept-both _ _ _ _ (call .settle .ensures .1) fed) (done .work-at .ensures .1),
+      kept-both _ _ _ _ (kept-both _ _ _ _ (call .work-due .ensures .1) fed) (done .work-at .ensures .1),
     )
 
 pub feed-row-spec : {M : Type 1} → statement M
 feed-row-spec =
     tie.close
     (tie.spec
-    settle-requires
+    work-due-requires
     same-length
     returns
     sub-k

@@ -4,8 +4,8 @@ use native.Mathlib.Omega.{arith}
 use lib.ListN.{length}
 use Rattle.numbers.specs.Signal.{at}
 use Rattle.level.specs.Level.{rest}
-use Rattle.writer.specs.Gate.{stateQuestion}
-use Rattle.writer.proofs.GateLaws.{sound}
+use Rattle.writer.specs.FirstQuestions.{stateQuestion}
+use Rattle.writer.proofs.QuestionLaws.{sound}
 use Rattle.writer.proofs.DrawLaws.{reached}
 use Rattle.writer.proofs.CallLaws.{sound-walk, sound-drawable, sound-spares, draw-refused, draw-nothing, draw-no-room, draw-row}
 use Rattle.writer.proofs.CallsKeep.{draw-kept}

@@ -1,4 +1,4 @@
--- `Writer::offer` meets its contract. The loop goes stretch by stretch: what is taken, the writer and the store so far are those of the offer height by
+-- `Writer::offer` meets its contract. The loop goes put-heights by stretch: what is taken, the writer and the store so far are those of the offer height by
 -- height. Assumes nothing.
 use mathlib.Core.Path.{_≡_}
 use Prim.Native.Nat.{_-_}
@@ -62,8 +62,8 @@ loop-holds c =
     offer-start _ _ _ _ (sound-taker _ _ (offer-sound (a .self) (length (a .store .now)) (length (a .run .now)) q) z)
     (next-first _ _ _ _ q z (c .first .ensures))
 
-stretch-requires : tie.Need-stretch-requires Inv-loop μ-loop
-stretch-requires c κs =
+put-heights-requires : tie.Need-put-heights-requires Inv-loop μ-loop
+put-heights-requires c κs =
     let o = offer-ready _ _ _ _ _ _ _ (c .before .before .loop .inv) (c .before .loop-test .taken) in
     (o .taker, o .rows, o .row, o .heights)
 
@@ -78,7 +78,7 @@ sub-next c =
     omega (arith, o .heights)
 
 next-requires : tie.Need-next-requires Inv-loop μ-loop
-next-requires c κs = c .before .stretch .ensures .reaching .taker .column
+next-requires c κs = c .before .put-heights .ensures .reaching .taker .column
 
 loop-less : tie.Need-loop-less Inv-loop μ-loop
 loop-less c =
@@ -88,7 +88,7 @@ loop-less c =
 loop-again : tie.Need-loop-again Inv-loop μ-loop
 loop-again c =
     let t = c .before .before .before .before in
-    offer-turn _ _ _ _ _ _ _ _ _ _ (t .before .loop .inv) (t .loop-test .taken) (c .before .before .stretch .ensures) (omega arith) (c .next .ensures)
+    offer-turn _ _ _ _ _ _ _ _ _ _ (t .before .loop .inv) (t .loop-test .taken) (c .before .before .put-heights .ensures) (omega arith) (c .next .ensures)
 
 same-length-2 : tie.Need-same-length-2 Inv-loop μ-loop
 same-length-2 c = c .before .loop .inv .size
@@ -115,7 +115,7 @@ offer-spec =
     returns-2
     first-requires
     loop-holds
-    stretch-requires
+    put-heights-requires
     add-taken
     sub-next
     next-requires

@@ -27,7 +27,7 @@ use Rattle.wavelet.proofs.sizes.next_start.Reads as next-start-reads
 use Rattle.filters.proofs.look_ahead.Reads as look-ahead-reads
 use Rattle.analysis.proofs.forward.deliver.Reads as deliver-reads
 use Rattle.analysis.proofs.forward.make.Reads as make-reads
-use Rattle.progress.proofs.counts.goes_on.Reads as goes-on-reads
+use Rattle.progress.proofs.counts.gives_row.Reads as gives-row-reads
 use Rattle.progress.proofs.counts.most.Reads as most-reads
 use Rattle.progress.proofs.counts.next_band.Reads as next-band-reads
 use Rattle.progress.proofs.counts.makes_set.Reads as makes-set-reads
@@ -62,8 +62,8 @@ claims t = (
   most-reads.Learnt,
   next-band-reads.Asked,
   next-band-reads.Learnt,
-  goes-on-reads.Asked,
-  goes-on-reads.Learnt,
+  gives-row-reads.Asked,
+  gives-row-reads.Learnt,
   next-start-reads.Asked,
   next-start-reads.Learnt,
   deliver-reads.Asked,
@@ -141,14 +141,14 @@ arrive-returns-2 t c =
     (level-done (a .filter) (length (a .store .now)) (side (a .x) (a .w)) _ _ _ (omega (arith, start .pre)) (made .make .ensures .1))
     (band .next-band .ensures ∙ ap (skip (side (a .x) (a .w)) (side (a .y) (a .m + 1)) n) (band .before .most .ensures)) (omega arith)
 
-arrive-sub-goes-on : (t : ℕ) → arrive-lts.Need-sub-goes-on (claims t) (arrive-at t) arrive.Post
-arrive-sub-goes-on t c =
+arrive-sub-gives-row : (t : ℕ) → arrive-lts.Need-sub-gives-row (claims t) (arrive-at t) arrive.Post
+arrive-sub-gives-row t c =
     let sure = c .before .before .before .before .before .before .before in
     let a = sure .before .before .args in
     omega (arith, makes-set (a .filter) (a .l) (a .y) (a .m) _ (sure .before .makes-set .ensures) (sure .if1 .left) .0)
 
-arrive-goes-on-requires : (t : ℕ) → arrive-lts.Need-goes-on-requires (claims t) (arrive-at t) arrive.Post
-arrive-goes-on-requires t c κs = tt
+arrive-gives-row-requires : (t : ℕ) → arrive-lts.Need-gives-row-requires (claims t) (arrive-at t) arrive.Post
+arrive-gives-row-requires t c κs = tt
 
 arrive-nothing-requires-2 : (t : ℕ) → arrive-lts.Need-nothing-requires-2 (claims t) (arrive-at t) arrive.Post
 arrive-nothing-requires-2 t c κs = tt
@@ -172,13 +172,13 @@ arrive-returns-3 t c =
     (ap (λ (i : ℕ). (a .y % 2 + a .m) / 2 - i) (ah .look-ahead .ensures))
     (level-done (a .filter) (length (a .store .now)) (side (a .x) (a .w)) _ _ _ (omega (arith, start .pre)) (made .make .ensures .1))
     (band .next-band .ensures ∙ ap (skip (side (a .x) (a .w)) (side (a .y) (a .m + 1)) n) (band .before .most .ensures))
-    (omega arith) _ (on .goes-on .ensures) (c .before .if3 .taken) _ (c .nothing2 .ensures)
+    (omega arith) _ (on .gives-row .ensures) (c .before .if3 .taken) _ (c .nothing2 .ensures)
 
 arrive-sub-k : (t : ℕ) → arrive-lts.Need-sub-k (claims t) (arrive-at t) arrive.Post
 arrive-sub-k t c =
     let ah = c .before .before .before .before .before .before .before .before in
     let a = ah .before .before .before .args in
-    omega (arith, goes (a .l - 1) (a .y) ((a .y % 2 + a .m) / 2 - ah .look-ahead .result) _ (c .before .goes-on .ensures) (c .if3 .left))
+    omega (arith, goes (a .l - 1) (a .y) ((a .y % 2 + a .m) / 2 - ah .look-ahead .result) _ (c .before .gives-row .ensures) (c .if3 .left))
 
 arrive-next-start-requires : (t : ℕ) → arrive-lts.Need-next-start-requires (claims t) (arrive-at t) arrive.Post
 arrive-next-start-requires t c κs = tt
@@ -267,7 +267,7 @@ arrive-returns-4 t c =
     let n = (a .y % 2 + a .m) / 2 - ah .look-ahead .result in
     let off = makes-set (a .filter) (a .l) (a .y) (a .m) _ (sure .before .makes-set .ensures) (sure .if1 .left) in
     let room = store-back (filterOf (a .filter) .rows) (side (a .x) (a .w)) (a .l) (off .0) in
-    let g = goes (a .l - 1) (a .y) n _ (on .before .goes-on .ensures) (on .if3 .left) in
+    let g = goes (a .l - 1) (a .y) n _ (on .before .gives-row .ensures) (on .if3 .left) in
     let q = store-back (filterOf (a .filter) .rows) (next (side (a .x) (a .w))) (a .l - 1) (g .0) in
     let h = next-length (side (a .x) (a .w)) in
     let j : st .stretch .result ≡ filterOf (a .filter) .rows * a .w = st .stretch .ensures in
@@ -275,7 +275,7 @@ arrive-returns-4 t c =
     (ap (λ (i : ℕ). (a .y % 2 + a .m) / 2 - i) (ah .look-ahead .ensures))
     (level-done (a .filter) (length (a .store .now)) (side (a .x) (a .w)) _ _ _ (omega (arith, start .pre)) (made .make .ensures .1))
     (band .next-band .ensures ∙ ap (skip (side (a .x) (a .w)) (side (a .y) (a .m + 1)) n) (band .before .most .ensures))
-    (omega (arith, c .before)) _ (on .before .goes-on .ensures) (on .if3 .left)
+    (omega (arith, c .before)) _ (on .before .gives-row .ensures) (on .if3 .left)
     _ _ _ _ _ _ (at l) (at (below .arrive .last .1 .0)) _ _ _ (start .pre .1 .wide) (start .pre .1 .deep)
     (record {
       columns = next-is (a .x) (a .w) _ _ (below .before .next-start2 .ensures) (below .before .before .low-count .ensures);
@@ -307,8 +307,8 @@ pub +arrive-spec : {M : Type 1} → statement M
     (arrive-next-band-requires t)
     (arrive-same-length t)
     (arrive-returns-2 t)
-    (arrive-sub-goes-on t)
-    (arrive-goes-on-requires t)
+    (arrive-sub-gives-row t)
+    (arrive-gives-row-requires t)
     (arrive-nothing-requires-2 t)
     (arrive-same-length-2 t)
     (arrive-returns-3 t)

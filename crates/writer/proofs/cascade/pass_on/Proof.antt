@@ -20,8 +20,8 @@ use borrow.Author.Needs.{needs}
 use Rattle.writer.proofs.cascade.pass_on.Statement.{statement}
 use Rattle.writer.proofs.cascade.pass_on.Tie as tie
 
-goes-on-requires : tie.Need-goes-on-requires
-goes-on-requires c κs = tt
+gives-row-requires : tie.Need-gives-row-requires
+gives-row-requires c κs = tt
 
 nothing-requires : tie.Need-nothing-requires
 nothing-requires c κs = tt
@@ -31,10 +31,10 @@ returns c =
     let on = c .before .before in
     let a = on .before .args in
     left-still (a .filter) (a .l + 1) (side (a .x) (a .w)) _ _ _ (c .nothing .ensures)
-    (pass-none (a .filter) (side (a .x) (a .w)) (a .y) (a .n) _ (a .l) (sym (on .goes-on .ensures) ∙ not-true _ (c .before .if1 .taken)))
+    (pass-none (a .filter) (side (a .x) (a .w)) (a .y) (a .n) _ (a .l) (sym (on .gives-row .ensures) ∙ not-true _ (c .before .if1 .taken)))
 
 sub-k : tie.Need-sub-k
-sub-k c = let a = c .before .before .args in omega (arith, goes (a .l) (a .y) (a .n) _ (c .before .goes-on .ensures) (c .if1 .left))
+sub-k c = let a = c .before .before .args in omega (arith, goes (a .l) (a .y) (a .n) _ (c .before .gives-row .ensures) (c .if1 .left))
 
 next-start-requires : tie.Need-next-start-requires
 next-start-requires c κs = tt
@@ -101,7 +101,7 @@ returns-2 c =
     let start = on .before .before in
     let a = start .args in
     let l = sent .deliver .last .1 .0 in
-    let g = goes (a .l) (a .y) (a .n) _ (on .before .goes-on .ensures) (on .if1 .left) in
+    let g = goes (a .l) (a .y) (a .n) _ (on .before .gives-row .ensures) (on .if1 .left) in
     let s = store-next (filterOf (a .filter) .rows) (side (a .x) (a .w)) (a .l) in
     let q = store-back (filterOf (a .filter) .rows) (next (side (a .x) (a .w))) (a .l) (g .0) in
     let h = next-length (side (a .x) (a .w)) in
@@ -122,7 +122,7 @@ pub pass-on-spec : {M : Type 1} → statement M
 pass-on-spec =
     tie.close
     (tie.spec
-    goes-on-requires
+    gives-row-requires
     nothing-requires
     returns
     sub-k

@@ -8,9 +8,9 @@ use borrow.Author.Tests.{eq-eqb, ne-eqb}
 use Rattle.wavelet.specs.Questions.{ask}
 use Rattle.writer.specs.declared.Writer.{Writer}
 use Rattle.writer.specs.Questions.{either}
-use Rattle.writer.specs.Gate.{stateQuestion}
+use Rattle.writer.specs.FirstQuestions.{stateQuestion}
 use Rattle.writer.specs.Runs.{runQuestion}
-use Rattle.writer.proofs.GateLaws.{state-no, state-yes}
+use Rattle.writer.proofs.QuestionLaws.{state-no, state-yes}
 use Rattle.writer.proofs.runs.run_question.Statement.{statement}
 use Rattle.writer.proofs.runs.run_question.Tie as tie
 
@@ -26,8 +26,8 @@ module _ (s : Writer) (n k : ℕ) where
   empty : stateQuestion s n ≡ 0 → k ≡ 0 → 0 ≡ runQuestion s n k
   empty h e = sym (last h ∙ simp (eq-eqb k 0 e))
 
-  shut : stateQuestion s n ≡ 0 → 0 < k → s .finished ≡ true → 9 ≡ runQuestion s n k
-  shut h g e = sym (last h ∙ simp (ne-eqb k 0 (omega arith), e))
+  over : stateQuestion s n ≡ 0 → 0 < k → s .finished ≡ true → 9 ≡ runQuestion s n k
+  over h g e = sym (last h ∙ simp (ne-eqb k 0 (omega arith), e))
 
   unfinished : stateQuestion s n ≡ 0 → 0 < k → s .finished ≡ false → 0 ≡ runQuestion s n k
   unfinished h g e = sym (last h ∙ simp (ne-eqb k 0 (omega arith), e))
@@ -45,7 +45,7 @@ returns-2 : tie.Need-returns-2
 returns-2 c = empty _ _ _ (omega arith) (omega arith)
 
 returns-3 : tie.Need-returns-3
-returns-3 c = shut _ _ _ (omega arith) (omega arith) (c .if3 .taken)
+returns-3 c = over _ _ _ (omega arith) (omega arith) (c .if3 .taken)
 
 returns-4 : tie.Need-returns-4
 returns-4 c = unfinished _ _ _ (omega arith) (omega arith) (c .if3 .left)

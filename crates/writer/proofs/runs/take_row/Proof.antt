@@ -31,29 +31,29 @@ add-e c = let n = c .before in
     let t = offer-takes-row _ _ (s .pre .0) (s .pre .1) _ _ (n .next .ensures) (omega arith) in
     omega (arith, t .3, s .pre .3)
 
-mul-stretch : tie.Need-mul-stretch
-mul-stretch c = search needs
+mul-put-heights : tie.Need-mul-put-heights
+mul-put-heights c = search needs
 
-sub-stretch : tie.Need-sub-stretch
-sub-stretch c = search needs
+sub-put-heights : tie.Need-sub-put-heights
+sub-put-heights c = search needs
 
-part-stretch-start : tie.Need-part-stretch-start
-part-stretch-start c = search needs
+part-put-heights-start : tie.Need-part-put-heights-start
+part-put-heights-start c = search needs
 
-part-stretch-end : tie.Need-part-stretch-end
-part-stretch-end c = let n = c .before .before in
+part-put-heights-end : tie.Need-part-put-heights-end
+part-put-heights-end c = let n = c .before .before in
     let s = n .before .before .before in
     let t = offer-takes-row _ _ (s .pre .0) (s .pre .1) _ _ (n .next .ensures) (omega arith) in
     omega (arith, t .3, s .pre .3)
 
-stretch-requires : tie.Need-stretch-requires
-stretch-requires c κs = let n = c .before .before .before in
+put-heights-requires : tie.Need-put-heights-requires
+put-heights-requires c κs = let n = c .before .before .before in
     let s = n .before .before .before in
     let t = offer-takes-row _ _ (s .pre .0) (s .pre .1) _ _ (n .next .ensures) (omega arith) in
     (t .0, t .1, t .2, simp (length-take, length-drop) (omega (arith, t .3, s .pre .3)))
 
 same-length : tie.Need-same-length
-same-length c = c .before .stretch .kept .1 .0
+same-length c = c .before .put-heights .kept .1 .0
 
 returns-2 : tie.Need-returns-2
 returns-2 c = let n = c .before .before .before .before .before in
@@ -64,7 +64,7 @@ returns-2 c = let n = c .before .before .before .before .before in
     λ k m z l h g.
     one-offer (length (a .store .now)) (a .heights .now) k m (a .done) (a .s) (at (a .store .now)) z l
     (record { sound = p .0; numbers = h; rows = g }) (p .1) (p .2) (p .3) _ (n .next .ensures) (omega arith)
-    _ (ap (λ (i : ℕ). take i (drop (a .done .taken) (a .heights .now))) e) _ _ _ (c .before .stretch .ensures)
+    _ (ap (λ (i : ℕ). take i (drop (a .done .taken) (a .heights .now))) e) _ _ _ (c .before .put-heights .ensures)
 
 pub take-row-spec : {M : Type 1} → statement M
 take-row-spec =
@@ -74,10 +74,10 @@ take-row-spec =
     next-requires
     returns
     add-e
-    mul-stretch
-    sub-stretch
-    part-stretch-start
-    part-stretch-end
-    stretch-requires
+    mul-put-heights
+    sub-put-heights
+    part-put-heights-start
+    part-put-heights-end
+    put-heights-requires
     same-length
     returns-2)
