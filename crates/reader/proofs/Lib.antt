@@ -34,3 +34,4 @@ pub mod RunPlaces
 pub mod RunLaws
 pub mod RunLast
 pub mod RunOver
+pub mod RunList

@@ -20,3 +20,4 @@ pub mod Tolerant
 pub mod StopAsks
 pub mod Runs
 pub mod RunSteps
+pub mod RunLists
