@@ -3,10 +3,10 @@
 use mathlib.Core.Path.{_≡_, refl, sym, ap, ap₂, subst, _∙_, fun-ext}
 use mathlib.Core.Bool.{Bool, true, false, not}
 use mathlib.Core.List.{List, [], _∷_}
-use Prim.Native.Nat.{ℕ, zero, suc, _+_, _-_, _*_, _≤_, _<_, min}
+use Prim.Native.Nat.{ℕ, zero, suc, _+_, _-_, _*_, _≤_, _<_}
 use native.Mathlib.Decide.{decLt}
 use native.Mathlib.Omega.{arith}
-use lib.IntN.{ℤ, pos}
+use lib.IntN.{ℤ}
 use lib.ListN.{length}
 use lib.Dec.{leb, ltb, eqb}
 use borrow.Author.Tests.{eqb-true, ltb-true, lt-ltb, le-ltb, le-leb, lt-leb}
@@ -37,7 +37,7 @@ use Rattle.reader.specs.Demand3.{event, next, events, final, goesOn, end
 use Rattle.reader.specs.Demand3.{freshWorld, OfCalls}
 use Rattle.reader.specs.Runs.{Run, put, movedTo, noted, goes, drawable, rowLeft, areaLeft, callOf, asked, due, afterCall, ran, calls, begin, most}
 use Rattle.reader.specs.Runs.{runOf, runCalls}
-use Rattle.reader.specs.RunSteps.{runAt, life, leftOf}
+use Rattle.reader.specs.RunSteps.{life, leftOf}
 use Rattle.reader.specs.RunLists.{runFed, runsFed, rowDrawn, rowsDrawn, laid, total, noMore, allPass, IsList, Piece, allCalls}
 use Rattle.reader.proofs.RunPlaces.{false-not-true}
 use Rattle.reader.proofs.RunLaws.{feed-passes, feed-ends, draw-passes, draw-ends, after-14}
@@ -72,7 +72,7 @@ join-is-splice a w x y past =
           ]
     ]
 
--- ---- what is seen of a call that is made, and the run after it
+-- ---- what is seen of a call that is made, and the run after it: a row fed, a row drawn, or 14
 module _ (n m : ℕ) (v : ℕ → ℤ) (k : ℕ) where
   data Made (p : Run) : Event → Run → Type 0 where
     fed-one : (w : World) → w .reader .width ≡ p .world .reader .width → w .reader .height ≡ p .world .reader .height →
@@ -101,13 +101,10 @@ from-none : (m : ℕ) (v : ℕ → ℤ) (p : Run) → From m v p [] p
 unfolding lists.gathered laid total allPass
 from-none m v p = record { pass = refl; few = λ h. h; used = omega arith; numbers = refl; rows = omega arith; area = refl }
 
-ended-is : (s : Reader) → endedReader s .ended ≡ true
+-- the reader t that 14 made of s
+ended-is : (s t : Reader) → t ≡ endedReader s → (t .ended ≡ true) × (t .width ≡ s .width) × (t .height ≡ s .height) × (t .drawn ≡ s .drawn)
 unfolding endedReader
-ended-is s = refl
-
-ended-width : (s : Reader) → endedReader s .width ≡ s .width
-unfolding endedReader
-ended-width s = refl
+ended-is s t e = rw e (refl, refl, refl, refl)
 
 module _ (n m : ℕ) (v : ℕ → ℤ) (k : ℕ) (p r : Run) where
   from-one : (e : Event) (o : Run) (es : List Event) → Made n m v k p e o → (o .world .reader .ended ≡ true → es ≡ []) → From m v o es r →
@@ -133,20 +130,20 @@ module _ (n m : ℕ) (v : ℕ → ℤ) (k : ℕ) (p r : Run) where
         ∙ f .area;
   }
   from-one _ _ es (no-feed w e) last f = record {
-    pass = ap noMore (last (ap (λ (s : Reader). s .ended) e ∙ ended-is (p .world .reader)));
+    pass = ap noMore (last (ended-is _ _ e .0));
     few = f .few;
     used = f .used;
     numbers = f .numbers;
     rows = f .rows;
-    area = ap (λ (i : ℕ). laid (p .rows * i) (rowsDrawn es) (p .area)) (sym (ap (λ (s : Reader). s .width) e ∙ ended-width (p .world .reader))) ∙ f .area;
+    area = ap (λ (i : ℕ). laid (p .rows * i) (rowsDrawn es) (p .area)) (sym (ended-is _ _ e .1)) ∙ f .area;
   }
   from-one _ _ es (no-draw w b e) last f = record {
-    pass = ap noMore (last (ap (λ (s : Reader). s .ended) e ∙ ended-is (p .world .reader)));
+    pass = ap noMore (last (ended-is _ _ e .0));
     few = f .few;
     used = f .used;
     numbers = f .numbers;
     rows = f .rows;
-    area = ap (λ (i : ℕ). laid (p .rows * i) (rowsDrawn es) (p .area)) (sym (ap (λ (s : Reader). s .width) e ∙ ended-width (p .world .reader))) ∙ f .area;
+    area = ap (λ (i : ℕ). laid (p .rows * i) (rowsDrawn es) (p .area)) (sym (ended-is _ _ e .1)) ∙ f .area;
   }
 
 -- ---- a call that is due passes, or ends the reader
@@ -377,7 +374,8 @@ module _ (n m : ℕ) (v : ℕ → ℤ) (k : ℕ) where
           From m v p (events (pick t (callOf n m v k p ∷ calls n m v k f (on p)) []) (p .world)) (pick t (ran n m v k f (on p)) p)
       go false d g = from-none m v p
       go true d g =
-          from-one n m v k p (ran n m v k f (on p)) (event (callOf n m v k p) (p .world)) (on p) (events (calls n m v k f (on p)) (next (callOf n m v k p) (p .world)))
+          from-one n m v k p (ran n m v k f (on p)) (event (callOf n m v k p) (p .world)) (on p)
+          (events (calls n m v k f (on p)) (next (callOf n m v k p) (p .world)))
           (made n m v k p d)
           (λ e. ap (λ (cs : List Call). events cs (next (callOf n m v k p) (p .world))) (calls-none f (on p) (ended-over n m v k (on p) e)))
           (subst (λ (w : World). From m v (on p) (events (calls n m v k f (on p)) w) (ran n m v k f (on p))) (after-world p) g)
@@ -401,21 +399,11 @@ life-none : (t : Bool) → life t ≡ 0 → t ≡ true
 life-none true h = refl
 life-none false h = absurd (omega arith)
 
-ended-place : (s : Reader) → (endedReader s .height ≡ s .height) × (endedReader s .drawn ≡ s .drawn)
-unfolding endedReader
-ended-place s = (refl, refl)
-
 module _ (n m : ℕ) (v : ℕ → ℤ) (k : ℕ) where
   ended-less : (p : Run) (w : World) → w .reader ≡ endedReader (p .world .reader) → p .world .reader .ended ≡ false → leftOf m (movedTo p w) < leftOf m p
   ended-less p w e live =
-      let c = ended-place (p .world .reader) in
-      omega (
-        arith,
-        ap life live,
-        ap life (ap (λ (s : Reader). s .ended) e ∙ ended-is (p .world .reader)),
-        ap (λ (s : Reader). s .height) e ∙ c .0,
-        ap (λ (s : Reader). s .drawn) e ∙ c .1,
-      )
+      let c = ended-is (p .world .reader) (w .reader) e in
+      omega (arith, ap life live, ap life (c .0), c .2, c .3)
 
   made-less : (p : Run) (e : Event) (o : Run) → Made n m v k p e o → p .world .reader .ended ≡ false → leftOf m o < leftOf m p
   made-less p _ _ (fed-one w ew eh ed some) live = omega (arith, ap life live, life-most (w .reader .ended))
