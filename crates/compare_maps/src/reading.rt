@@ -7,7 +7,7 @@ use wavelet::shape::Shape;
 const TURNS: usize = 100000;
 
 // A reader, what document 01 says of it by the calls so far, and what differed. `total` is how many steps there are in all.
-#[derive(Drop)]
+#[derive(Clone, Copy)]
 struct Turn {
     reader: Reader,
     shape: Shape,
@@ -65,7 +65,7 @@ impl Turn {
 const NOTHING: u8 = 100;
 
 // A call's answer as a number: 0 where it passed, NOTHING, 14, or the question that refused it. With it the heights drawn, and the reader after the call.
-#[derive(Drop)]
+#[derive(Clone, Copy)]
 pub struct Answer {
     pub no: u8,
     count: usize,
@@ -234,7 +234,7 @@ const LAST: usize = 2;
 const STOP: usize = 3;
 
 // What is to be done: the want's words, where the list agrees.
-#[derive(Drop)]
+#[derive(Clone, Copy)]
 struct Doing {
     what: usize,
     differences: u64,

@@ -12,7 +12,7 @@ const CUTS: usize = 7;
 const TURNS: usize = 100000;
 
 // A writer, what document 01 says of it by the calls so far, and what differed. `total` is how many rows there are in all.
-#[derive(Drop)]
+#[derive(Clone, Copy)]
 struct Turn {
     writer: Writer,
     shape: Shape,
@@ -114,7 +114,7 @@ fn expected_take(t: Turn, book: &[u64], run: usize) -> usize {
 const NOTHING: u8 = 100;
 
 // A call's answer as a number: 0 where it passed, NOTHING, or the question that refused it. With it the heights taken, and the writer after the call.
-#[derive(Drop)]
+#[derive(Clone, Copy)]
 struct Answer {
     no: u8,
     count: usize,
@@ -140,7 +140,7 @@ fn finished(w: Writer, store: &mut [i32]) -> Answer {
 }
 
 // The answer to a draw, and the row that was drawn.
-#[derive(Drop)]
+#[derive(Clone, Copy)]
 struct Drew {
     answer: Answer,
     row: BandRow,

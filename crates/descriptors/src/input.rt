@@ -5,7 +5,7 @@ ghost use Rattle.descriptors.specs.Left.{used_of, reads_now, came, Fills};
 use crate::again;
 
 // The bytes of the chunk from `from` to `to`.
-#[derive(Drop)]
+#[derive(Clone, Copy)]
 pub struct Left {
     pub from: usize,
     pub to: usize,
@@ -13,7 +13,7 @@ pub struct Left {
 
 // What a fill left: what is to be used now, what `read` answered (0 where it was not called), how many bytes were read so, and whether the input has
 // ended or has failed.
-#[derive(Drop)]
+#[derive(Clone, Copy)]
 pub struct Filled {
     pub left: Left,
     pub got: isize,
@@ -41,7 +41,7 @@ pub fn used(left: Left, count: usize) -> Left
 }
 
 // What a call of `read` answered, and whether it is to be made again.
-#[derive(Drop)]
+#[derive(Clone, Copy)]
 struct Tried {
     got: isize,
     again: bool,

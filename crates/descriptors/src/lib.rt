@@ -2,6 +2,7 @@
 // does not wait
 // turns away, is made again; one that fails is told on standard error, and the answer tells a failure from the end of the input.
 // No contract can say which bytes C's calls move. What is said is how many they answered, and what stands in the chunk that is still to be used.
+#![tactic(auto)]
 mod again;
 pub mod input;
 pub mod output;

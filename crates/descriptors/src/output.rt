@@ -6,14 +6,14 @@ use crate::again;
 use libc::STDERR_FILENO;
 
 // How many of the bytes the writes took, in sum, and whether that is all of them.
-#[derive(Drop)]
+#[derive(Clone, Copy)]
 pub struct Sent {
     pub count: usize,
     pub whole: bool,
 }
 
 // What a write answered, the place after the bytes that it took, and whether there may be another.
-#[derive(Drop)]
+#[derive(Clone, Copy)]
 struct Put {
     got: isize,
     to: usize,

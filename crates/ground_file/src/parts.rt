@@ -4,7 +4,7 @@ ghost use Rattle.text.specs.Text.{Wrote};
 ghost use Rattle.ground_file.specs.Groups.{bytes_of, holds, part_of};
 
 // Bits that wait to be written: `count` of them, as a number; and the place of the next byte.
-#[derive(Drop)]
+#[derive(Clone, Copy)]
 pub struct Bits {
     pub low: u64,
     pub count: usize,

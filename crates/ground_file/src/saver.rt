@@ -17,7 +17,7 @@ use wavelet::{limits, view};
 
 // A plane that is being saved. `phase` is the piece that is written: 0 the header, 1 group `group` of the row at `place`, 2 the checksum, 3 none; `part` bytes
 // of it are written, and `sum` is that of the pieces before it.
-#[derive(Drop)]
+#[derive(Clone, Copy)]
 pub struct Saver {
     pub shape: Shape,
     pub step: usize,
@@ -29,14 +29,14 @@ pub struct Saver {
 }
 
 // A saver and the place in the area after what it wrote.
-#[derive(Drop)]
+#[derive(Clone, Copy)]
 pub struct Turn {
     pub saver: Saver,
     pub at: usize,
 }
 
 // What a saving call gives: 0 or the number of the question that turned it away, how many bytes it wrote, and the saver after them.
-#[derive(Drop)]
+#[derive(Clone, Copy)]
 pub struct Saved {
     pub answer: u8,
     pub written: usize,

@@ -19,7 +19,7 @@ use wavelet::shape::Shape;
 
 // The numbers of a loader. `reader` is the reader that it feeds: its size, levels, origin and filter are the file's. `header` bytes of the header came;
 // `coming` is what came of the band row that the reader wants, `sum` that of the bytes before the checksum, of which `tail` bytes came.
-#[derive(Drop)]
+#[derive(Clone, Copy)]
 pub struct Loader {
     pub reader: Reader,
     pub step: usize,
@@ -29,13 +29,13 @@ pub struct Loader {
     pub tail: usize,
 }
 
-#[derive(Drop)]
+#[derive(Clone, Copy)]
 pub enum Begun {
     Ready(Loader),
     Refused(u8),
 }
 
-#[derive(Drop)]
+#[derive(Clone, Copy)]
 pub enum LoaderWant {
     Bytes,
     Draw,
@@ -45,14 +45,14 @@ pub enum LoaderWant {
 }
 
 // How many bytes were taken, and the loader then. Impossible is 14: no map has the rows that came. It holds the loader, ended. Refused never holds 14.
-#[derive(Drop)]
+#[derive(Clone, Copy)]
 pub enum Loaded {
     Passed(usize, Loader),
     Impossible(usize, Loader),
     Refused(u8),
 }
 
-#[derive(Drop)]
+#[derive(Clone, Copy)]
 pub enum LoaderDrawn {
     Heights(usize, Loader),
     Nothing,
@@ -62,7 +62,7 @@ pub enum LoaderDrawn {
 
 // What a loader wants next. `phase`: 0 the header, 1 a band row of `count` numbers, of the band with the code `band` at `level`, 2 the checksum; 3 a draw,
 // 4 done, 5 ended.
-#[derive(Drop)]
+#[derive(Clone, Copy)]
 pub struct Due {
     pub phase: usize,
     pub level: usize,
@@ -71,7 +71,7 @@ pub struct Due {
 }
 
 // What became of a byte: 0 it was taken, 22 or 7 it was turned away, 14 it ended the loader; the loader then, and what it wants.
-#[derive(Drop)]
+#[derive(Clone, Copy)]
 pub struct Step {
     pub answer: u8,
     pub loader: Loader,

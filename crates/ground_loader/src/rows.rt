@@ -14,7 +14,7 @@ use areas::ranges;
 
 // What came of a row. `phase` is what the next byte belongs to: 0 a group's byte, 1 its first part, 2 its second. `done` numbers are stored. Of the part: its
 // code, that of the part after it, how many of its numbers are not stored, the bits that came of these and how many they are, the largest number stored.
-#[derive(Drop)]
+#[derive(Clone, Copy)]
 pub struct Coming {
     pub phase: usize,
     pub done: usize,
@@ -27,14 +27,14 @@ pub struct Coming {
 }
 
 // What a part's byte brings: the bits that came, how many numbers are whole, and the largest with these.
-#[derive(Drop)]
+#[derive(Clone, Copy)]
 pub struct Seen {
     pub bits: u64,
     pub whole: usize,
     pub most: u64,
 }
 
-#[derive(Drop)]
+#[derive(Clone, Copy)]
 pub struct Took {
     pub answer: u8,
     pub coming: Coming,

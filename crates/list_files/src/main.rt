@@ -1,4 +1,5 @@
 // Lists each file that its arguments name, after a line with the name: the stored inputs of the listing, held to their expected output by the gate.
+#![tactic(auto)]
 use descriptors::output;
 use libc::STDOUT_FILENO;
 

@@ -11,7 +11,7 @@ use pgm::input::{Ended, Input};
 use pgm::limits;
 use writer::Writer;
 
-#[derive(Drop)]
+#[derive(Clone, Copy)]
 pub struct Listing {
     pub input: Input,
     pub writer: Writer,
@@ -19,7 +19,7 @@ pub struct Listing {
 }
 
 // What a call left: the listing, how many bytes of the piece it read, how many of the area it wrote, and whether it waits for input.
-#[derive(Drop)]
+#[derive(Clone, Copy)]
 pub struct Fed {
     pub listing: Listing,
     pub used: usize,
@@ -120,7 +120,7 @@ impl Listing {
 }
 
 // One turn: input is read while no line is being written, else the line is. `going` while there may be another turn.
-#[derive(Drop)]
+#[derive(Clone, Copy)]
 struct Turned {
     listing: Listing,
     used: usize,

@@ -12,7 +12,7 @@ use pgm::runs;
 use text::bytes;
 use writer::Offered;
 
-#[derive(Drop)]
+#[derive(Clone, Copy)]
 pub struct Read {
     pub listing: Listing,
     pub used: usize,

@@ -9,7 +9,7 @@ use crate::line::Line;
 use text::{bytes, decimal, refusal};
 
 // How much of a part was written, up to where, and how much of it is left.
-#[derive(Drop)]
+#[derive(Clone, Copy)]
 pub struct Spelt {
     pub written: usize,
     pub done: usize,

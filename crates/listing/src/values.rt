@@ -12,7 +12,7 @@ use text::{bytes, decimal};
 pub const LONGEST: usize = 12;
 
 // The value that is next, and the place after what was written.
-#[derive(Drop)]
+#[derive(Clone, Copy)]
 pub struct Values {
     pub value: usize,
     pub place: usize,

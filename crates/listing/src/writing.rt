@@ -10,7 +10,7 @@ use crate::listing::Listing;
 use crate::{spelling, states, values};
 use text::bytes;
 
-#[derive(Drop)]
+#[derive(Clone, Copy)]
 pub struct Written {
     pub listing: Listing,
     pub place: usize,

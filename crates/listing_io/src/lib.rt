@@ -1,6 +1,7 @@
 // The listing program over descriptors: rounds of read, turn and write, within a constant memory.
 // No contract can say what is read or written; what becomes of the bytes between is said of each round, and by a theorem of all of them
 // (proofs/ListedTheorem.antt).
+#![tactic(auto)]
 ghost use Rattle.std.specs.Prelude.{◌≡◌, length};
 ghost use Rattle.numbers.specs.Signal.{at};
 ghost use Rattle.descriptors.specs.Left.{left_in, Within};
@@ -16,7 +17,7 @@ use rounds::round;
 use rounds::round::Outcome;
 
 // The listing after a round, and what the round left.
-#[derive(Drop)]
+#[derive(Clone, Copy)]
 struct Run {
     listing: Listing,
     outcome: Outcome,

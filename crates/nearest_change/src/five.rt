@@ -3,7 +3,7 @@ ghost use Rattle.std.specs.Prelude.{◌≡◌, ◌*◌, ◌<◌, ◌≤◌, eqb}
 ghost use Rattle.numbers.specs.Signal.{pick};
 ghost use Rattle.nearest_change.specs.Trials.{Small, away, mirrored, places_of, bias, lifted_of, number_of, replaced_of};
 
-#[derive(Drop)]
+#[derive(Clone, Copy)]
 pub struct Five {
     pub a: usize,
     pub b: usize,

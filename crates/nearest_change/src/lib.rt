@@ -1,4 +1,5 @@
 // The change of one height that is nearest to altering a cell of the level-1 LL (5/3, origin 0). Document 02, Q-12.
+#![tactic(auto)]
 mod five;
 mod trial;
 mod window;
@@ -12,7 +13,7 @@ use trial::Cell;
 use wavelet::{limits, sizes};
 
 // A change of one height of a map: where it is, and the new height.
-#[derive(Drop)]
+#[derive(Clone, Copy)]
 pub struct Change {
     pub row: usize,
     pub column: usize,
@@ -20,7 +21,7 @@ pub struct Change {
 }
 
 // The nearest change, or the number of the question that turned the call away.
-#[derive(Drop)]
+#[derive(Clone, Copy)]
 pub enum Nearest {
     At(Change),
     Refused(u8),

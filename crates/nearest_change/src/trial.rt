@@ -8,7 +8,7 @@ use crate::{five, window};
 use wavelet::limits;
 
 // A cell beside its window: the map's size, the cell's row and column, the rows and columns of the window, the low values of its columns, and its own value.
-#[derive(Drop)]
+#[derive(Clone, Copy)]
 pub struct Cell {
     pub height: usize,
     pub width: usize,

@@ -42,7 +42,7 @@ pub fn one_before(k: usize) -> usize
 }
 
 // Of m numbers those beside number n of the other half; o, of which only the remainder by 2 counts, is 1 where the m begin the line.
-#[derive(Drop)]
+#[derive(Clone, Copy)]
 pub struct Two {
     pub left: usize,
     pub right: usize,
@@ -67,7 +67,7 @@ pub fn beside(m: usize, o: usize, n: usize) -> Two
 }
 
 // The low numbers around high number n of `high`; past the last of them 0.
-#[derive(Drop)]
+#[derive(Clone, Copy)]
 pub struct Four {
     pub left: usize,
     pub right: usize,

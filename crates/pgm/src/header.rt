@@ -9,7 +9,7 @@ use crate::{characters, limits};
 
 // What the bytes so far have told. Stage 0 waits for P, 1 for 5, 2 for the first gap, 3 reads the width, 4 the height, 5 the largest value, 6 the
 // comment that ends the header.
-#[derive(Drop)]
+#[derive(Clone, Copy)]
 pub struct Header {
     pub stage: usize,
     // Inside a comment?
@@ -22,7 +22,7 @@ pub struct Header {
     pub largest: usize,
 }
 
-#[derive(Drop)]
+#[derive(Clone, Copy)]
 pub enum Next {
     More(Header),
     // The byte was the header's last: width, height and largest value.

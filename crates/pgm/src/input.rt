@@ -10,7 +10,7 @@ use crate::header::{Header, Next};
 use crate::samples::{Sample, Samples};
 use crate::{characters, limits};
 
-#[derive(Drop)]
+#[derive(Clone, Copy)]
 pub struct Input {
     // 0 waits for the digit, 1 for the line feed, 2 reads the header, 3 the heights, 4 reads no more
     pub phase: usize,
@@ -22,7 +22,7 @@ pub struct Input {
 }
 
 // What a byte brings.
-#[derive(Drop)]
+#[derive(Clone, Copy)]
 pub enum Step {
     More(Input),
     // The header ended: width and height.
@@ -33,7 +33,7 @@ pub enum Step {
 }
 
 // What the end of the input brings.
-#[derive(Drop)]
+#[derive(Clone, Copy)]
 pub enum Ended {
     // All heights came, and no more.
     Whole(Input),

@@ -5,7 +5,7 @@ ghost use Rattle.pgm.specs.Samples.{no_byte, sampled, sample_of};
 
 use crate::runs;
 
-#[derive(Drop)]
+#[derive(Clone, Copy)]
 pub struct Samples {
     // The header's largest value.
     pub largest: usize,
@@ -13,7 +13,7 @@ pub struct Samples {
     pub high: u8,
 }
 
-#[derive(Drop)]
+#[derive(Clone, Copy)]
 pub enum Sample {
     // The first byte of two.
     Half(Samples),

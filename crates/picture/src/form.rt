@@ -5,7 +5,7 @@ ghost use Rattle.picture.specs.Form.{head_question, HeadPut, answered};
 use crate::heads;
 use wavelet::limits;
 
-#[derive(Drop)]
+#[derive(Clone, Copy)]
 pub enum Put {
     // How many bytes were written.
     Written(usize),

@@ -8,7 +8,7 @@ ghost use Rattle.picture.specs.Machine.{part_text};
 use crate::{heads, rows};
 use text::{bytes, refusal};
 
-#[derive(Drop)]
+#[derive(Clone, Copy)]
 pub struct Part {
     // 0 nothing, 1 the header, 2 a row, 3 a refusal
     pub kind: usize,

@@ -12,7 +12,7 @@ use pgm::input::{Ended, Input, Step};
 use pgm::{limits, runs};
 use text::bytes;
 
-#[derive(Drop)]
+#[derive(Clone, Copy)]
 pub struct Rewriting {
     pub input: Input,
     // the picture's, once its header is read
@@ -203,7 +203,7 @@ impl Rewriting {
 }
 
 // What a call left: the rewriting, how many bytes of the piece it read, how many of the area it wrote, and whether it waits for input.
-#[derive(Drop)]
+#[derive(Clone, Copy)]
 pub struct Fed {
     pub rewriting: Rewriting,
     pub used: usize,
@@ -211,7 +211,7 @@ pub struct Fed {
     pub idle: bool,
 }
 
-#[derive(Drop)]
+#[derive(Clone, Copy)]
 struct Turned {
     rewriting: Rewriting,
     used: usize,
@@ -219,7 +219,7 @@ struct Turned {
     going: bool,
 }
 
-#[derive(Drop)]
+#[derive(Clone, Copy)]
 struct Read {
     rewriting: Rewriting,
     used: usize,
@@ -290,7 +290,7 @@ fn read_on(rewriting: Rewriting, piece: &[u8], used: usize, row: &mut [u16]) -> 
     read_byte(rewriting, piece, used, row)
 }
 
-#[derive(Drop)]
+#[derive(Clone, Copy)]
 struct Written {
     rewriting: Rewriting,
     place: usize,

@@ -5,7 +5,7 @@ ghost use Rattle.profile.specs.OnePass.{carried_on, turned};
 
 // Before the pair at places p and p + 1: sample p + 2 as the row has it, sample p + 1 after the first pass, sample p after the second
 // and sample p − 1 after the third, each mirrored where it is outside the row.
-#[derive(Drop)]
+#[derive(Clone, Copy)]
 pub struct Carried {
     pub even: f32,
     pub first: f32,

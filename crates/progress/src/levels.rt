@@ -8,7 +8,7 @@ use crate::counts;
 use wavelet::sizes;
 
 // Its columns and the first one's coordinate, the rows that it has received and the first one's coordinate, and the number of the set.
-#[derive(Drop)]
+#[derive(Clone, Copy)]
 pub struct Level {
     pub width: usize,
     pub x: usize,

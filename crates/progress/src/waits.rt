@@ -4,7 +4,7 @@ ghost use Rattle.progress.specs.Waits.{no_wait, seen_in_words};
 
 // The level, from 1, of the set that is being handed out (0: nothing), the bands of it that are left, and where that level's stretch begins, counted as the
 // level is.
-#[derive(Drop)]
+#[derive(Clone, Copy)]
 pub struct Wait {
     pub level: usize,
     pub left: usize,

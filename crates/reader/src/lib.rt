@@ -1,4 +1,5 @@
 // The row-by-row reader: band rows in, in the order that it wants them, height rows out. A state of numbers by value; the line store is the caller's.
+#![tactic(auto)]
 mod last;
 mod limited;
 mod questions;
@@ -42,7 +43,7 @@ use wavelet::shape::Shape;
 // With a `stop` (document 02, Q-6; 0: none) it reads the low-low part of that level of a map: size, origin and levels are the low-low part's, a level is
 // counted from the stop, and `spare` are the numbers that the map's line store has beside its own. No levels: its rows are fed and drawn one after another.
 // `admission` says what becomes of a value outside its level's range: 0, it ends the reader (14); 1, it is limited to the range (document 02, Q-10).
-#[derive(Drop)]
+#[derive(Clone, Copy)]
 pub struct Reader {
     pub width: usize,
     pub height: usize,
@@ -60,14 +61,14 @@ pub struct Reader {
     pub admission: usize,
 }
 
-#[derive(Drop)]
+#[derive(Clone, Copy)]
 pub enum SetUp {
     Ready(Reader),
     Refused(u8),
 }
 
 // Row: level, band code, row number and length of the band row wanted.
-#[derive(Drop)]
+#[derive(Clone, Copy)]
 pub enum Wanted {
     Row(usize, usize, usize, usize),
     Draw,
@@ -77,7 +78,7 @@ pub enum Wanted {
 }
 
 // Impossible is document 01's 14: no map has the rows fed. It holds the reader, ended. Refused never holds 14.
-#[derive(Drop)]
+#[derive(Clone, Copy)]
 pub enum Fed {
     Passed(Reader),
     Impossible(Reader),
@@ -85,7 +86,7 @@ pub enum Fed {
 }
 
 // Heights: how many stand at the front of the output area.
-#[derive(Drop)]
+#[derive(Clone, Copy)]
 pub enum Drawn {
     Heights(usize, Reader),
     Nothing,

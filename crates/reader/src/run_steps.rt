@@ -28,7 +28,7 @@ use reader_steps::{places, sets};
 use synthesis::back;
 
 // What calls change of a reader, and the level that it collects if there is one.
-#[derive(Drop)]
+#[derive(Clone, Copy)]
 pub struct Place {
     pub drawn: usize,
     pub level: usize,

@@ -17,20 +17,20 @@ use crate::{Reader, last, limited, questions, run_steps, steps};
 use areas::copies;
 
 // The numbers used and the height rows drawn.
-#[derive(Drop)]
+#[derive(Clone, Copy)]
 pub struct Tally {
     pub used: usize,
     pub rows: usize,
 }
 
-#[derive(Drop)]
+#[derive(Clone, Copy)]
 pub enum Ran {
     Went(Tally, Reader),
     Refused(u8),
 }
 
 // A run on its way, and whether it goes on; if not, `no` is the question that turns the next call away.
-#[derive(Drop)]
+#[derive(Clone, Copy)]
 struct Turn {
     on: bool,
     no: u8,

@@ -11,7 +11,7 @@ use wavelet::shape::Shape;
 use wavelet::{limits, sizes};
 
 // The columns and rows of the low-low part of a level.
-#[derive(Drop)]
+#[derive(Clone, Copy)]
 pub enum LevelSize {
     Size(usize, usize),
     Refused(u8),

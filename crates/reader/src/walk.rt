@@ -30,7 +30,7 @@ use synthesis::back;
 use wavelet::sizes;
 
 // A level: where its stretch begins, the columns and rows that it splits, the set that it is at, and the last that the row waited for needs.
-#[derive(Drop)]
+#[derive(Clone, Copy)]
 pub struct Level {
     pub start: usize,
     pub x: usize,
@@ -42,7 +42,7 @@ pub struct Level {
 }
 
 // The row wanted: its place, and its level if it has one.
-#[derive(Drop)]
+#[derive(Clone, Copy)]
 pub struct Next {
     pub spot: Spot,
     pub at: Level,

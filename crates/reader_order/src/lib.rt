@@ -1,5 +1,6 @@
 // The order in which a reader wants the band rows of a map: the first row, and the row after a row. Numbers alone, no coefficient. What the places are is
 // `reader_steps`'; that they go through the steps of `wavelet` is the theorem here.
+#![tactic(auto)]
 mod walk;
 
 ghost use Rattle.std.specs.Prelude.{◌≡◌, ◌-◌, ◌≤◌};
@@ -12,7 +13,7 @@ use wavelet::shape::Shape;
 use wavelet::{limits, sizes};
 
 // A band row in that order: its level, from 1, its set there and its band's code, while height row `drawn` is waited for. Level 0: there is none.
-#[derive(Drop)]
+#[derive(Clone, Copy)]
 pub struct Place {
     pub drawn: usize,
     pub level: usize,

@@ -7,7 +7,7 @@ use crate::sets;
 use wavelet::sizes;
 
 // A level, one of its sets, and a band of it: the row wanted, or where a reader goes on. Level 0: a height row can be drawn.
-#[derive(Drop)]
+#[derive(Clone, Copy)]
 pub struct Spot {
     pub level: usize,
     pub set: usize,
@@ -15,7 +15,7 @@ pub struct Spot {
 }
 
 // The columns and the rows of a level: where each starts, and how many there are.
-#[derive(Drop)]
+#[derive(Clone, Copy)]
 pub struct Sides {
     pub x: usize,
     pub width: usize,

@@ -43,7 +43,7 @@ fn lifted_bound(c: usize, level: usize) -> usize {
 }
 
 // The coordinates of a side: `from` up to `to`.
-#[derive(Drop)]
+#[derive(Clone, Copy)]
 struct Side {
     from: usize,
     to: usize,

@@ -7,7 +7,7 @@ use crate::{area, heights};
 use wavelet::shape::Shape;
 
 // A line of a plane: the place of its first sample, the step to the next one, how many it has, and the coordinate of the first.
-#[derive(Drop)]
+#[derive(Clone, Copy)]
 struct Line {
     start: usize,
     step: usize,
@@ -123,7 +123,7 @@ fn deinterleaved(i: usize, n: usize, from: usize) -> usize {
 }
 
 // A part of the plane that is lifted: its rows are `across` apart, and it has these columns and rows from these coordinates on.
-#[derive(Drop)]
+#[derive(Clone, Copy)]
 struct Part {
     across: usize,
     x: usize,

@@ -1,7 +1,7 @@
 // What was compared, and how often it differed.
 use crate::area;
 
-#[derive(Drop)]
+#[derive(Clone, Copy)]
 pub struct Tally {
     pub runs: u64,
     pub numbers: u64,

@@ -1,6 +1,7 @@
 // The rewriting program over descriptors: rounds of read, turn and write, within a constant memory.
 // No contract can say what is read or written; what becomes of the bytes between is said of each round, and by a theorem of all of them
 // (proofs/RewrittenTheorem.antt).
+#![tactic(auto)]
 ghost use Rattle.std.specs.Prelude.{◌≡◌, length};
 ghost use Rattle.text.specs.Moves.{Went, Stops};
 ghost use Rattle.descriptors.specs.Left.{left_in, Within};
@@ -15,7 +16,7 @@ use rounds::round;
 use rounds::round::Outcome;
 
 // The rewriting after a round, and what the round left.
-#[derive(Drop)]
+#[derive(Clone, Copy)]
 struct Run {
     rewriting: Rewriting,
     outcome: Outcome,

@@ -1,1 +1,3 @@
 // Writer and reader joined: a theorem over the two promises, no code.
+
+#![tactic(auto)]

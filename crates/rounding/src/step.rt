@@ -5,7 +5,7 @@ ghost use Rattle.rounding.specs.Figure.{max_step};
 ghost use Rattle.rounding.specs.Step.{shift_of, with_sign, Divides};
 
 // A step q with ⌈2^shift / q⌉.
-#[derive(Drop)]
+#[derive(Clone, Copy)]
 pub struct Reciprocal {
     pub step: u32,
     pub by: u32,

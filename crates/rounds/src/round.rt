@@ -11,7 +11,7 @@ use libc::STDOUT_FILENO;
 
 // What is left of the chunk after a round, and of that round: what was read, how many bytes of the area were written and how many of those were sent,
 // and whether nothing is left to feed or to write.
-#[derive(Drop)]
+#[derive(Clone, Copy)]
 pub struct Outcome {
     pub left: Left,
     pub filled: Filled,

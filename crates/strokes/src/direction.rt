@@ -3,7 +3,7 @@ ghost use Rattle.std.specs.Prelude.{◌≡◌, ◌+◌, ◌-◌, ◌*◌, ◌/�
 ghost use Rattle.wavelet.specs.Limits.{max_levels};
 ghost use Rattle.strokes.specs.Local.{lowered_of, widened_of, unread_before, unread_past, used_in};
 
-#[derive(Drop)]
+#[derive(Clone, Copy)]
 pub struct Direction {
     pub length: usize,
     pub start: usize,
@@ -13,7 +13,7 @@ pub struct Direction {
 }
 
 // Some numbers of a half: the first one's place in the plane, in a row of the window and among its rows, and how many they are.
-#[derive(Drop)]
+#[derive(Clone, Copy)]
 pub struct Part {
     pub plane: usize,
     pub across: usize,

@@ -12,7 +12,7 @@ use crate::direction;
 use crate::direction::Direction;
 
 // Rows and columns of a plane.
-#[derive(Drop)]
+#[derive(Clone, Copy)]
 pub struct Patch {
     pub row: usize,
     pub column: usize,

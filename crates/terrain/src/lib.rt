@@ -1,4 +1,5 @@
 // The C interface, declared in include/terrain.h: each call is a thin shell over a call of the crates below, with the same promise. A file for each layer.
+#![tactic(auto)]
 mod file_calls;
 mod fixed_form;
 mod line;

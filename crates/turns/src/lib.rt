@@ -1,4 +1,5 @@
 // Fair turns at the disk (document 02, Q-11): sixteen readers' wants as marks, and which reader is next. A state by value; nothing here knows a reader.
+#![tactic(auto)]
 mod order;
 
 ghost use Rattle.std.specs.Prelude.{◌≡◌};
@@ -6,20 +7,20 @@ ghost use Rattle.turns.specs.Answers.{of_changed, of_turn};
 ghost use Rattle.turns.specs.Calls.{fresh, in_range, change_question, mark_reply, clear_reply, turn_reply};
 
 // The marks, bit n that of reader n, and the reader served last; docs/STATE.md gives their ranges.
-#[derive(Drop)]
+#[derive(Clone, Copy)]
 pub struct Turns {
     pub marks: usize,
     // 15 before any was: the first turn looks from reader 0 on
     pub last: usize,
 }
 
-#[derive(Drop)]
+#[derive(Clone, Copy)]
 pub enum Changed {
     Passed(Turns),
     Refused(u8),
 }
 
-#[derive(Drop)]
+#[derive(Clone, Copy)]
 pub enum Turn {
     // the reader that is served, and the turn-giver then
     Reader(usize, Turns),

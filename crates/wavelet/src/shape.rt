@@ -1,6 +1,6 @@
 // What is asked of a map: its size, its number of levels, where it starts on the grid, and its filter.
 #[repr(C)]
-#[derive(Drop)]
+#[derive(Clone, Copy)]
 pub struct Shape {
     pub width: usize,
     pub height: usize,

@@ -11,7 +11,7 @@ use crate::limits;
 use crate::shape::Shape;
 
 // Where a band row stands in its plane: start and length, or the number of the question that turned it away.
-#[derive(Drop)]
+#[derive(Clone, Copy)]
 pub enum Span {
     At(usize, usize),
     Refused(u8),

@@ -16,7 +16,7 @@ use progress::{counts, waits};
 use wavelet::sizes;
 
 // How many steps are done, and what waits.
-#[derive(Drop)]
+#[derive(Clone, Copy)]
 pub struct Closure {
     pub closed: usize,
     pub wait: Wait,

@@ -13,7 +13,7 @@ use progress::waits::Wait;
 use progress::{counts, waits};
 
 // A band row that waits, and where in the store its numbers begin.
-#[derive(Drop)]
+#[derive(Clone, Copy)]
 pub struct PlacedRow {
     pub level: usize,
     pub band: usize,

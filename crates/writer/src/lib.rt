@@ -1,4 +1,5 @@
 // The row-by-row writer: heights in, band rows out, in the order of document 01.
+#![tactic(auto)]
 mod after;
 mod cascade;
 mod closing;
@@ -24,7 +25,7 @@ use progress::levels;
 use wavelet::shape::Shape;
 
 // The counts of a writer; docs/STATE.md gives their ranges.
-#[derive(Drop)]
+#[derive(Clone, Copy)]
 pub struct Writer {
     pub width: usize,
     pub levels: usize,
@@ -49,7 +50,7 @@ pub struct Writer {
 }
 
 // A band row that was drawn: its values stand at the front of the output area.
-#[derive(Drop)]
+#[derive(Clone, Copy)]
 pub struct BandRow {
     pub level: usize,
     pub band: usize,
@@ -57,32 +58,32 @@ pub struct BandRow {
     pub length: usize,
 }
 
-#[derive(Drop)]
+#[derive(Clone, Copy)]
 pub enum SetUp {
     Ready(Writer),
     Refused(u8),
 }
 
-#[derive(Drop)]
+#[derive(Clone, Copy)]
 pub enum Offered {
     Taken(usize, Writer),
     Refused(u8),
 }
 
-#[derive(Drop)]
+#[derive(Clone, Copy)]
 pub enum Drawn {
     Row(BandRow, Writer),
     Nothing,
     Refused(u8),
 }
 
-#[derive(Drop)]
+#[derive(Clone, Copy)]
 pub enum Look {
     Row(BandRow),
     Refused(u8),
 }
 
-#[derive(Drop)]
+#[derive(Clone, Copy)]
 pub enum Finished {
     Closed(Writer),
     Refused(u8),

@@ -16,21 +16,21 @@ use progress::levels::Level;
 use progress::{counts, levels};
 
 // The heights taken, the rows put and the numbers that these have.
-#[derive(Drop)]
+#[derive(Clone, Copy)]
 pub struct Counts {
     pub taken: usize,
     pub rows: usize,
     pub numbers: usize,
 }
 
-#[derive(Drop)]
+#[derive(Clone, Copy)]
 pub enum Ran {
     Went(Counts, Writer),
     Refused(u8),
 }
 
 // A run on its way, and whether it goes on.
-#[derive(Drop)]
+#[derive(Clone, Copy)]
 struct Turn {
     on: bool,
     done: Counts,
@@ -38,7 +38,7 @@ struct Turn {
 }
 
 // A set whose rows are being put: the bands of it that are left.
-#[derive(Drop)]
+#[derive(Clone, Copy)]
 struct Part {
     left: usize,
     done: Counts,
