@@ -119,7 +119,7 @@ module _ (keep : ℤ → ℤ) (N : ℕ) where
 -- ---- memory
 pub halves-zero : (N : ℕ) (y : ℕ → ℤ) → halves_of (side 0 N) y ≡ halves.halves_of N y
 unfolding halves_of halves.halves_of
-halves-zero N y = fun_ext λ h. elim h [ lo ↦ refl | hi ↦ fun_ext λ n. ap (λ (m : ℕ). y (m + n)) (count-zero lo N) ]
+halves-zero N y = fun_ext λ h. elim h as (λ k. halves_of (side 0 N) y k ≡ halves.halves_of N y k) [ lo ↦ refl | hi ↦ fun_ext λ n. ap (λ (m : ℕ). y (m + n)) (count-zero lo N) ]
 
 pub in-halves-zero : (N : ℕ) (p : Half → ℕ → ℤ) (z : ℕ → ℤ) → in_halves (side 0 N) p z ≡ halves.in_halves N p z
 unfolding in_halves halves.in_halves

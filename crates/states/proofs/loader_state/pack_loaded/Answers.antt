@@ -1,0 +1,25 @@
+-- `loader_state::pack_loaded` meets its contract: what the answer says, in its three cases. Assumes nothing.
+use mathlib.Core.Path.{sym, ap, ◌∙◌}
+use borrow.Author.Rules.{rules}
+use Rattle.ground_loader.specs.declared.loader.Loaded.{Loaded}
+use Rattle.ground_loader.specs.LoaderAnswers.{of_loaded}
+use Rattle.states.specs.LoaderAnswers.{taken_number, loaded_words, taken_of}
+use Rattle.states.proofs.loader_state.pack_loaded.Goals as goal
+
+pub returns-in-Passed : goal.returns-in-Passed
+returns-in-Passed c =
+    let a = c.args in
+    let e = c.in-Passed.is in
+    record { value = sym (ap (λ (o : Loaded). taken_number (of_loaded o)) e); s_after = c.pack_loader.ensures ∙ sym (ap (λ (o : Loaded). loaded_words (of_loaded o) a.s.now) e); taken_after = sym (ap (λ (o : Loaded). taken_of (of_loaded o) a.taken.now) e) }
+
+pub returns-in-Impossible : goal.returns-in-Impossible
+returns-in-Impossible c =
+    let a = c.args in
+    let e = c.in-Impossible.is in
+    record { value = sym (ap (λ (o : Loaded). taken_number (of_loaded o)) e); s_after = c.pack_loader-in-Impossible.ensures ∙ sym (ap (λ (o : Loaded). loaded_words (of_loaded o) a.s.now) e); taken_after = sym (ap (λ (o : Loaded). taken_of (of_loaded o) a.taken.now) e) }
+
+pub returns-in-Refused : goal.returns-in-Refused
+returns-in-Refused c =
+    let a = c.args in
+    let e = c.in-Refused.is in
+    record { value = sym (ap (λ (o : Loaded). taken_number (of_loaded o)) e); s_after = sym (ap (λ (o : Loaded). loaded_words (of_loaded o) a.s.now) e); taken_after = sym (ap (λ (o : Loaded). taken_of (of_loaded o) a.taken.now) e) }
