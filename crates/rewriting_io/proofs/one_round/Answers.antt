@@ -18,6 +18,6 @@ shape_of-out c = c.turn-fed.auto.out
 
 pub returns : goal.returns
 returns c =
-    let e = c.turn.ensures in
-    round_is _ _ _ _ _ _ c.requires c.waits.ensures c.fill.ensures e.0 e.1 (sent_is _ e.0.wrote c.send-sent.ensures)
+    let e = (c.turn-fed.ensures.went, c.turn-fed.ensures.stops) in
+    round_is _ _ _ _ _ _ c.requires c.waits.ensures c.fill-filled.ensures e.0 e.1 (sent_is _ e.0.wrote c.send-sent.ensures)
     c.after.ensures

@@ -49,7 +49,7 @@ loop-j-smaller c = omega arith
 
 pub loop-j-preserved : goal.loop-j-preserved
 loop-j-preserved c =
-    let inv = c.loop.invariant in
+    let inv = c.loop-j.invariant in
     let size = c.put_eight.auto.area ∙ inv.6 in (
       inv.0,
       inv.1,
@@ -58,7 +58,7 @@ loop-j-preserved c =
       inv.4,
       omega arith,
       size,
-      interleave-eight _ _ _ _ _ _ c.loop.j c.loop.area inv.0 inv.1 (omega arith) inv.7 c.eight_at-v.result _ (omega arith)
+      interleave-eight _ _ _ _ _ _ c.loop-j.j c.loop-j.area inv.0 inv.1 (omega arith) inv.7 c.eight_at-v.result _ (omega arith)
           c.eight_at-v.ensures size c.put_eight.ensures,
     )
 

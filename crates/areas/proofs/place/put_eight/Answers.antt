@@ -34,7 +34,7 @@ loop-i-smaller c = omega arith
 
 pub loop-i-preserved : goal.loop-i-preserved
 loop-i-preserved c =
-    let v = c.args.t3 in
+    let v = c.args.eight in
     let i = c.loop-i.i in
     let inv = c.loop-i.invariant in (
       inv.0,

@@ -7,7 +7,7 @@ use Rattle.descriptors.proofs.input.fill.Goals as goal
 
 pub returns-then-reads_now : goal.returns-then-reads_now
 returns-then-reads_now c =
-    fills-read _ (sym c.reads_now.ensures ∙ c.if1.true) c.came.ensures
+    fills-read _ (sym c.reads_now.ensures ∙ c.if-reads_now.true) c.came.ensures
 
 pub returns : goal.returns
 returns c = keeps (sym c.reads_now.ensures ∙ c.if-reads_now.false) refl refl

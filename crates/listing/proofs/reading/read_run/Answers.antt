@@ -36,16 +36,16 @@ slice_bounds-offer-end c =
 
 pub slice_bounds-offer-end-2 : goal.slice_bounds-offer-end-2
 slice_bounds-offer-end-2 c =
-    sym (length-take-le _ _ (back-room c.args.run.now c.read.new.1.1.1.0 c.least.result
-    c.read.result (omega (arith, c.least.ensures)) c.read.auto.1.1.1.0 (omega (arith, c.read.ensures.0))))
+    sym (length-take-le _ _ (back-room c.args.run.now c.read-n.new.run c.least-most.result
+    c.read-n.result (omega (arith, c.least-most.ensures)) c.read-n.auto.run (omega (arith, c.read-n.ensures.value))))
 
 pub overflow_mul-result : goal.overflow_mul-result
 overflow_mul-result c =
     let a = c.args in
     let s = state_of a.listing (at a.store.now) (at a.row.now) in
     let run =
-    run-read s a.piece.now a.run.now c.read.new.1.1.1.0 a.used c.least.result c.read.result c.least.ensures c.if1.false
-    c.requires.4 c.read.ensures.0 c.read.ensures.1 in
+    run-read s a.piece.now a.run.now c.read-n.new.run a.used c.least-most.result c.read-n.result c.least-most.ensures c.if-n-eq0.false
+    c.requires.4 c.read-n.ensures.value c.read-n.ensures.run_after in
     let reply = sym (ap of_offered c.in-Taken.is) ∙ c.offer.ensures.result_value in
     rw c.size.ensures (omega (arith, taken-room (length a.store.now) (length a.row.now) s _ _ _ _ _ run reply))
 
@@ -54,8 +54,8 @@ overflow_add-result c =
     let a = c.args in
     let s = state_of a.listing (at a.store.now) (at a.row.now) in
     let run =
-    run-read s a.piece.now a.run.now c.read.new.1.1.1.0 a.used c.least.result c.read.result c.least.ensures c.if1.false
-    c.requires.4 c.read.ensures.0 c.read.ensures.1 in
+    run-read s a.piece.now a.run.now c.read-n.new.run a.used c.least-most.result c.read-n.result c.least-most.ensures c.if-n-eq0.false
+    c.requires.4 c.read-n.ensures.value c.read-n.ensures.run_after in
     let reply = sym (ap of_offered c.in-Taken.is) ∙ c.offer.ensures.result_value in
     rw c.size.ensures (omega (arith, taken-room (length a.store.now) (length a.row.now) s _ _ _ _ _ run reply))
 
@@ -68,16 +68,16 @@ shape_of-row-in-Taken c = c.draw.auto.row
 
 pub shape_of-run-in-Taken : goal.shape_of-run-in-Taken
 shape_of-run-in-Taken c =
-    back-size c.args.run.now c.read.new.1.1.1.0 c.least.result c.read.result
-    (omega (arith, c.least.ensures)) c.read.auto.1.1.1.0
+    back-size c.args.run.now c.read-n.new.run c.least-most.result c.read-n.result
+    (omega (arith, c.least-most.ensures)) c.read-n.auto.run
 
 pub returns-in-Taken : goal.returns-in-Taken
 returns-in-Taken c =
     let a = c.args in
     let s = state_of a.listing (at a.store.now) (at a.row.now) in
     let run =
-    run-read s a.piece.now a.run.now c.read.new.1.1.1.0 a.used c.least.result c.read.result c.least.ensures c.if1.false
-    c.requires.4 c.read.ensures.0 c.read.ensures.1 in
+    run-read s a.piece.now a.run.now c.read-n.new.run a.used c.least-most.result c.read-n.result c.least-most.ensures c.if-n-eq0.false
+    c.requires.4 c.read-n.ensures.value c.read-n.ensures.run_after in
     let reply = sym (ap of_offered c.in-Taken.is) ∙ c.offer.ensures.result_value in
     rw c.size.ensures (heights-on (length a.store.now) (length a.row.now) s _ _ _ _ _ run reply _ _ _ _ c.requires.0 c.requires.1 c.requires.2
     c.requires.6 c.offer.auto.store c.took.ensures c.offer.ensures.store_after c.draw.ensures)
@@ -91,8 +91,8 @@ shape_of-row-in-Refused c = c.read_byte-in-Refused.auto.row
 
 pub shape_of-run-in-Refused : goal.shape_of-run-in-Refused
 shape_of-run-in-Refused c =
-    back-size c.args.run.now c.read.new.1.1.1.0 c.least.result c.read.result
-    (omega (arith, c.least.ensures)) c.read.auto.1.1.1.0
+    back-size c.args.run.now c.read-n.new.run c.least-most.result c.read-n.result
+    (omega (arith, c.least-most.ensures)) c.read-n.auto.run
 
 pub returns-in-Refused : goal.returns-in-Refused
 returns-in-Refused c =

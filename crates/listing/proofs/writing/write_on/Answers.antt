@@ -8,7 +8,7 @@ use Rattle.listing.proofs.writing.write_on.Goals as goal
 
 pub write_values-requires : goal.write_values-requires
 write_values-requires c =
-    let f = c.are-next.ensures c.if1.true in
+    let f = c.are_next.ensures c.if-are_next.true in
     (f.0, f.1, f.2, f.3, room_after c.args.place 12 (length c.args.out.now) c.requires.1 f.4)
 
 pub shape_of-row-then-are_next : goal.shape_of-row-then-are_next

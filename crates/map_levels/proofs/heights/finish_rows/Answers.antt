@@ -48,19 +48,19 @@ slice_bounds-all_heights-end c =
     omega (arith, room)
 
 pub shape_of-work-then-not-all_heights : goal.shape_of-work-then-not-all_heights
-shape_of-work-then-not-all_heights c = c.loop.invariant.rows.size
+shape_of-work-then-not-all_heights c = c.loop-r.invariant.rows.size
 
 pub shape_of-heights-then-not-all_heights : goal.shape_of-heights-then-not-all_heights
 shape_of-heights-then-not-all_heights c =
-    swept-size c.loop.heights c.loop.invariant.heights c.args.heights.now refl
+    swept-size c.loop-r.heights c.loop-r.invariant.heights c.args.heights.now refl
 
 pub returns-then-not-all_heights : goal.returns-then-not-all_heights
 unfolding max_sample
 returns-then-not-all_heights c =
     let args = c.args in
     let w = args.width in
-    let a = c.loop.r * w in
-    finish-no (side args.x w) _ _ _ _ _ c.loop.heights c.loop.invariant (a + w - a) (omega arith) c.loop-test.true _
+    let a = c.loop-r.r * w in
+    finish-no (side args.x w) _ _ _ _ _ c.loop-r.heights c.loop-r.invariant (a + w - a) (omega arith) c.loop-r-test.true _
     c.all_heights.ensures (not-true _ c.if-not-all_heights.true-raw)
 
 pub offset_bounds-work-a-in-loop-r : goal.offset_bounds-work-a-in-loop-r
@@ -108,11 +108,11 @@ unfolding max_sample
 finish_row-requires c =
     let args = c.args in
     let w = args.width in
-    let i = c.loop.r in
+    let i = c.loop-r.r in
     let a = i * w in
-    let inv = c.loop.invariant in (
-      row-length w w args.height _ _ i (a + w - a) _ (omega arith) c.loop-test.true inv.rows
-          ∙ sym (swept-length c.loop.heights inv.heights (a + w - a) (omega arith) c.loop-test.true),
+    let inv = c.loop-r.invariant in (
+      row-length w w args.height _ _ i (a + w - a) _ (omega arith) c.loop-r-test.true inv.rows
+          ∙ sym (swept-length c.loop-r.heights inv.heights (a + w - a) (omega arith) c.loop-r-test.true),
       row-heights _ _ (sym c.all_heights.ensures ∙ not-false _ c.if-not-all_heights.false-raw),
     )
 
@@ -127,8 +127,8 @@ unfolding max_sample
 loop-r-preserved c =
     let args = c.args in
     let w = args.width in
-    let a = c.loop.r * w in
-    finish-turn (side args.x w) _ _ _ _ _ c.loop.heights c.loop.invariant (a + w - a) (omega arith) c.loop-test.true _
+    let a = c.loop-r.r * w in
+    finish-turn (side args.x w) _ _ _ _ _ c.loop-r.heights c.loop-r.invariant (a + w - a) (omega arith) c.loop-r-test.true _
     c.all_heights.ensures c.finish_row.new.row c.finish_row.new.heights (not-false _ c.if-not-all_heights.false-raw)
     c.finish_row.auto.row c.finish_row.auto.heights c.finish_row.ensures.heights_after c.finish_row.ensures.row_after
 

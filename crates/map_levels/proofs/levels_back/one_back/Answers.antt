@@ -20,11 +20,11 @@ pub put-fits-requires : goal.put-fits-requires
 put-fits-requires c =
     let R = c.requires.0 in
     let room = one-room _ _ _ _ _ _ _ _ R in
-    (omega (arith, c.unlift-single.auto.0, c.fetch.auto.1.1.0, room.0), room.2, room.3, R.level, λ t. absurd (false-true t))
+    (omega (arith, c.unlift_single-even.auto.work, c.fetch.auto.lines, room.0), room.2, room.3, R.level, λ t. absurd (false-true t))
 
 pub returns : goal.returns
 returns c =
     let a = c.args in
     one-back a.across (side a.x a.width) (side a.y a.height) _ _ _ _ _ c.requires.0.area.plane.some c.requires.1 c.requires.2
-    c.fetch.ensures c.unlift-single.ensures.1 a.level _ _ _ _ _ _ c.unlift-single.ensures.0 c.put-fits.ensures
-    (and_both c.unlift-single.result c.put-fits.result)
+    c.fetch.ensures c.unlift_single-even.ensures.work_after a.level _ _ _ _ _ _ c.unlift_single-even.ensures.value c.put-fits.ensures
+    (and_both c.unlift_single-even.result c.put-fits.result)

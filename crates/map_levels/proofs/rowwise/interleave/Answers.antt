@@ -13,9 +13,9 @@ use Rattle.map_levels.proofs.rowwise.interleave.Goals as goal
 
 pub returns : goal.returns
 returns c =
-    let copied = c.copy_tested in
+    let copied = c.copy_tested-ok in
     let row = c.args.row.now in
     let n = length row in
-    record { value = copied.ensures.0 ∙ between-read n (at row) (to_z-of_z w32 _ c.ranges.low) (to_z-of_z w32 _ c.ranges.high); row_after = interleave-through (side c.args.x n) (n - 0) _ (at row) _ copied.new.1.0 (omega arith) (omega (arith, copied.auto.1.0))
-          copied.ensures.1 n
+    record { value = copied.ensures.value ∙ between-read n (at row) (to_z-of_z w32 _ c.ranges.low) (to_z-of_z w32 _ c.ranges.high); row_after = interleave-through (side c.args.x n) (n - 0) _ (at row) _ copied.new.to (omega arith) (omega (arith, copied.auto.to))
+          copied.ensures.to_after n
           refl c.interleave_line.ensures.area }

@@ -30,5 +30,5 @@ pub returns : goal.returns
 returns c =
     let a = c.args in
     let P = c.requires.0.plane in
-    one-swept a.first a.across (side a.x a.width) (side a.y a.height) _ _ _ _ _ _ P.wide P.apart c.lay-one.ensures
+    one-swept a.first a.across (side a.x a.width) (side a.y a.height) _ _ _ _ _ _ P.wide P.apart c.lay_one.ensures
     c.lift_one.ensures c.save_low.ensures

@@ -79,14 +79,14 @@ overflow_add-n-2 c =
 pub put_high-requires : goal.put_high-requires
 put_high-requires c =
     let R = c.requires.0 in (
-      rw c.set-columns.auto.1.1.1.1.1.1.0 R.lines,
+      rw c.set_columns.auto.lines R.lines,
       R.halves,
-      rows-kept (c.lift-row.auto.0 ∙ c.lay-line.auto.1.1.0) R.area.plane,
+      rows-kept (c.lift_row.auto.area ∙ c.lay_line.auto.plane) R.area.plane,
     )
 
 pub shape_of-plane : goal.shape_of-plane
 shape_of-plane c =
-    c.put_high.auto.plane ∙ c.lift-row.auto.0 ∙ c.lay_line.auto.plane
+    c.put_high.auto.plane ∙ c.lift_row.auto.area ∙ c.lay_line.auto.plane
 
 pub shape_of-work : goal.shape_of-work
 shape_of-work c = c.copy_part.auto.to
@@ -105,4 +105,4 @@ returns c =
     let H = side a.y a.height in
     λ z₀ x₀ S.
     set-done a.first a.across W H _ z₀ x₀ a.n _ _ _ S c.requires.0.more c.requires.1 c.requires.0.area.plane.wide _ made.ensures _ _ _
-    (λ small. c.lay-line.ensures small _ c.lift-row.ensures) (rw c.low_count.ensures at copied.ensures) c.put_high.ensures
+    (λ small. c.lay_line.ensures small _ c.lift_row.ensures) (rw c.low_count-w.ensures at copied.ensures) c.put_high.ensures

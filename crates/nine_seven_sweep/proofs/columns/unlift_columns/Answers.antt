@@ -20,21 +20,21 @@ returns-then-width-eq0 c =
 
 pub columns_have-requires : goal.columns_have-requires
 columns_have-requires c =
-    let r = fit-rows _ _ _ _ (sym c.columns-fit.ensures ∙ not-false _ c.if1.false) (omega arith) in
+    let r = fit-rows _ _ _ _ (sym c.columns_fit.ensures ∙ not-false _ c.if-not-columns_fit.false-raw) (omega arith) in
     omega (arith, r.room)
 
 pub returns-then-not-columns_have : goal.returns-then-not-columns_have
 returns-then-not-columns_have c =
-    answer-area (oddly _ _ _ _ (sym c.columns-fit.ensures ∙ not-false _ c.if1.false) (sym c.columns_have.ensures ∙ not-true _ c.if-not-columns_have.true-raw))
+    answer-area (oddly _ _ _ _ (sym c.columns_fit.ensures ∙ not-false _ c.if-not-columns_fit.false-raw) (sym c.columns_have.ensures ∙ not-true _ c.if-not-columns_have.true-raw))
 
 pub unlift_all-requires : goal.unlift_all-requires
 unlift_all-requires c =
-    fit-rows _ _ _ _ (sym c.columns-fit.ensures ∙ not-false _ c.if1.false) (omega arith)
+    fit-rows _ _ _ _ (sym c.columns_fit.ensures ∙ not-false _ c.if-not-columns_fit.false-raw) (omega arith)
 
 pub shape_of-area : goal.shape_of-area
 shape_of-area c = c.unlift_all.auto.area
 
 pub returns : goal.returns
 returns c =
-    answer-area (passed _ _ _ _ _ (sym c.columns-fit.ensures ∙ not-false _ c.if1.false) (sym c.columns_have.ensures ∙ not-false _ c.if-not-columns_have.false-raw)
+    answer-area (passed _ _ _ _ _ (sym c.columns_fit.ensures ∙ not-false _ c.if-not-columns_fit.false-raw) (sym c.columns_have.ensures ∙ not-false _ c.if-not-columns_have.false-raw)
     c.unlift_all.ensures)

@@ -43,9 +43,9 @@ returns-then-kind-eq2 c =
     let a = c.args in
     let p =
     placed _ _ a.done c.row.result a.out.now c.row.new.out
-    (ap row_bytes (take-least _ _ _ c.least.ensures)
+    (ap row_bytes (take-least _ _ _ c.least-end.ensures)
     ∙ text-row a.width a.height a.row.now a.kind a.number c.if-kind-eq1.false c.if-kind-eq2.true)
-    (omega (arith, c.row.ensures.value, row-length (take c.least.result a.row.now)), c.row.ensures.out_after, c.row.ensures.result_bound) in
+    (omega (arith, c.row.ensures.value, row-length (take c.least-end.result a.row.now)), c.row.ensures.out_after, c.row.ensures.result_bound) in
     record { value = p.0; out_after = p.1; result_bound = p.2 }
 
 pub shape_of-out-then-kind-eq3 : goal.shape_of-out-then-kind-eq3

@@ -26,7 +26,7 @@ shape_of-out-then-written-out c = c.write_on-w.auto.out
 
 pub returns-then-written-out : goal.returns-then-written-out
 returns-then-written-out c =
-    record { went = writes-went c.requires.0 c.write_on-w.ensures; onward = write-on c.if-part-eq0.false c.if3.true c.write_on-w.ensures }
+    record { went = writes-went c.requires.0 c.write_on-w.ensures; onward = write-on c.if-part-eq0.false c.if-written-out.true c.write_on-w.ensures }
 
 pub returns-else-used-piece : goal.returns-else-used-piece
 returns-else-used-piece c =

@@ -19,7 +19,7 @@ returns-then-self-eq0 c =
     let z = heights_at a.out.now in
     let p = last.draw_question s (length a.store.now) (length a.out.now) in
     let q = levels.draw_question s (length a.store.now) x (length a.out.now) in
-    record { answer = by-none s.levels (last.draw_reply s) (levels-call.draw_reply s) p q c.if1.true c.draw.ensures.result_value; kept = by-none s.levels (λ (i : ℕ). x) (λ i. levels-call.draw_store s i x) p q c.if1.true refl; heights = by-none s.levels (λ i. last.draw_area s i x z) (λ i. levels-call.draw_area s i x z) p q c.if1.true c.draw.ensures.out_after }
+    record { answer = by-none s.levels (last.draw_reply s) (levels-call.draw_reply s) p q c.if-self-eq0.true c.draw.ensures.result_value; kept = by-none s.levels (λ (i : ℕ). x) (λ i. levels-call.draw_store s i x) p q c.if-self-eq0.true refl; heights = by-none s.levels (λ i. last.draw_area s i x z) (λ i. levels-call.draw_area s i x z) p q c.if-self-eq0.true c.draw.ensures.out_after }
 
 pub returns : goal.returns
 returns c =

@@ -71,9 +71,9 @@ work_all_due-requires c =
 pub hand_out-requires : goal.hand_out-requires
 hand_out-requires c =
     let one = store_in _ _ (sym c.counts_fit.ensures ∙ not-false _ c.if-not-counts_fit.false-raw)
-    (sym c.store_question-q.ensures ∙ c.if2.false) in
-    let draws = due_in _ (sym c.draw_due.ensures ∙ not-false _ c.if3.false) in
-    (one.0, draws.0, le_trans one.1 (le_of_eq (sym c.work-all-due.auto.1.0)), c.if4.false)
+    (sym c.store_question-q.ensures ∙ c.if-q-ne0.false) in
+    let draws = due_in _ (sym c.draw_due.ensures ∙ not-false _ c.if-not-draw_due.false-raw) in
+    (one.0, draws.0, le_trans one.1 (le_of_eq (sym c.work_all_due.auto.store)), c.if-out-self.false)
 
 pub shape_of-store-then-work_all_due : goal.shape_of-store-then-work_all_due
 shape_of-store-then-work_all_due c = c.work_all_due.auto.store
@@ -89,12 +89,12 @@ returns-then-work_all_due c =
     let m = length a.out.now in
     let x = at a.store.now in
     let fit = sym c.counts_fit.ensures ∙ not-false _ c.if-not-counts_fit.false-raw in
-    let one = sym c.store_question-q.ensures ∙ c.if2.false in
-    let is-due = sym c.draw_due.ensures ∙ not-false _ c.if3.false in
-    let made = told-yes c.work-all-due.result (at c.work-all-due.new.1.0) _ c.work-all-due.ensures.0 c.if5.true in
+    let one = sym c.store_question-q.ensures ∙ c.if-q-ne0.false in
+    let is-due = sym c.draw_due.ensures ∙ not-false _ c.if-not-draw_due.false-raw in
+    let made = told-yes c.work_all_due.result (at c.work_all_due.new.store) _ c.work_all_due.ensures.store_after c.if-work_all_due.true in
     answer-kept-heights-meaning (draw-also s n m x (heights_at a.out.now)
-    (draw-yes s _ x (heights_at a.out.now) c.hand_out.result (at c.work-all-due.new.1.0) _
-    (fits-yes _ _ made ∙ draw-last s n m x fit one is-due c.if4.false) is-due c.hand_out.ensures.value made c.hand_out.ensures.out_after))
+    (draw-yes s _ x (heights_at a.out.now) c.hand_out.result (at c.work_all_due.new.store) _
+    (fits-yes _ _ made ∙ draw-last s n m x fit one is-due c.if-out-self.false) is-due c.hand_out.ensures.value made c.hand_out.ensures.out_after))
 
 pub ending-requires : goal.ending-requires
 ending-requires c =

@@ -17,7 +17,7 @@ work_due-requires c = let p = c.requires in (p.0, p.1, p.2, p.4)
 pub hand_out-requires : goal.hand_out-requires
 hand_out-requires c =
     let p = c.requires in
-    (p.0, p.3, le_trans p.4 (le_of_eq (sym c.work-due.auto.1.1.0)), p.6)
+    (p.0, p.3, le_trans p.4 (le_of_eq (sym c.work_due.auto.store)), p.6)
 
 pub shape_of-store-then-work_due : goal.shape_of-store-then-work_due
 shape_of-store-then-work_due c = c.work_due.auto.store
@@ -31,7 +31,7 @@ returns-then-work_due c =
     let q = c.hand_out.ensures.place in
     record {
       passes = λ _. (
-        told-yes c.work-due.result (at c.work-due.new.1.1.0) _ c.work-due.ensures.0 c.if1.true,
+        told-yes c.work_due.result (at c.work_due.new.store) _ c.work_due.ensures.store_after c.if-work_due.true,
         drawn-place s c.hand_out.result q,
         c.hand_out.ensures.out_after,
       );

@@ -51,7 +51,7 @@ returns-then-s-eq0 c =
 pub last_draw-requires : goal.last_draw-requires
 last_draw-requires c =
     let p = c.requires in
-    (p.0, sym c.store-question.ensures ∙ c.if1.false, c.if2.false, omega (arith, c.if3.false), p.2, p.3, p.5)
+    (p.0, sym c.store_question-q.ensures ∙ c.if-q-ne0.false, c.if-s.false, omega (arith, c.if-s-eq0.false), p.2, p.3, p.5)
 
 pub shape_of-store : goal.shape_of-store
 shape_of-store c = refl

@@ -9,7 +9,7 @@ use Rattle.strokes.proofs.levels.mend_level.Goals as goal
 pub returns : goal.returns
 returns c =
     let a = c.args in
-    record { work_after = c.lift-level.ensures; plane_after = λ k u v u' v' G Lc Lr same. c.copy_highs.ensures k u v u' v' G (cells a.stride (at a.work.now)) Lc Lr same c.lift-level.ensures }
+    record { work_after = c.lift_level.ensures; plane_after = λ k u v u' v' G Lc Lr same. c.copy_highs.ensures k u v u' v' G (cells a.stride (at a.work.now)) Lc Lr same c.lift_level.ensures }
 
 pub lift_level-requires : goal.lift_level-requires
 lift_level-requires c =
@@ -21,7 +21,7 @@ lift_level-requires c =
 pub copy_highs-requires : goal.copy_highs-requires
 copy_highs-requires c =
     let p = c.requires in
-    (p.0, p.1, p.2, rows-kept c.lift-level.auto.0 p.4, p.5)
+    (p.0, p.1, p.2, rows-kept c.lift_level.auto.work p.4, p.5)
 
 pub shape_of-work : goal.shape_of-work
 shape_of-work c = c.lift_level.auto.work

@@ -88,29 +88,29 @@ copy_band-requires c =
       omega arith,
       omega arith,
       omega (arith, stride-small _ _ _ inv.5),
-      rows-kept c.mend-level2.auto.0 inv.6,
-      rows-kept c.mend-level2.auto.1.1.0 inv.7,
+      rows-kept c.mend_level-2.auto.work inv.6,
+      rows-kept c.mend_level-2.auto.plane inv.7,
     )
 
 pub shape_of-work : goal.shape_of-work
 shape_of-work c =
-    c.mend-level2.auto.0 ∙ c.loop-left.invariant.1
+    c.mend_level-2.auto.work ∙ c.loop-left.invariant.1
 
 pub shape_of-plane : goal.shape_of-plane
 shape_of-plane c =
-    c.copy_band.auto.plane ∙ c.mend-level2.auto.1.1.0 ∙ c.loop-left.invariant.2
+    c.copy_band.auto.plane ∙ c.mend_level-2.auto.plane ∙ c.loop-left.invariant.2
 
 pub returns : goal.returns
 returns c =
-    let inv = c.loop.invariant in
+    let inv = c.loop-left.invariant in
     let a = c.args in
-    let last : c.loop.left ≡ 1 = omega (arith, inv.0) in
-    let x = at c.loop.work in
+    let last : c.loop-left.left ≡ 1 = omega (arith, inv.0) in
+    let x = at c.loop-left.work in
     λ u v u' v' G Lc Lr same.
     let S = inv.9 _ u v u' v' (record { grid = G; columns = Lc; rows = Lr; agrees = same; is = refl }) in
-    standing-last a.across _ u v u' v' 0 c.loop.stride c.loop.c c.loop.r x _ (at c.loop.plane) _ inv.7.apart inv.6.wide
-    c.mend-level2.ensures.0 c.mend-level2.ensures.1 _ (rw last at S)
+    standing-last a.across _ u v u' v' 0 c.loop-left.stride c.loop-left.c c.loop-left.r x _ (at c.loop-left.plane) _ inv.7.apart inv.6.wide
+    c.mend_level-2.ensures.work_after c.mend_level-2.ensures.plane_after _ (rw last at S)
     (λ G' same' Lc' Lr'.
     c.copy_band.ensures _
-    (work-band u v u' v' 0 c.loop.c c.loop.r Lc' Lr' G' (cells c.loop.stride x) same' c.loop.stride inv.6.wide _
-    c.mend-level2.ensures.0 0 0 (omega arith) (omega arith)))
+    (work-band u v u' v' 0 c.loop-left.c c.loop-left.r Lc' Lr' G' (cells c.loop-left.stride x) same' c.loop-left.stride inv.6.wide _
+    c.mend_level-2.ensures.work_after 0 0 (omega arith) (omega arith)))

@@ -17,6 +17,6 @@ pub returns : goal.returns
 returns c =
     let row = c.args.row.now in
     let n = length row in
-    row-used n _ (at row) c.args.used c.if1.false
-    (forward-through n (n - 0) n _ (at row) _ c.copy.new.1.0 (omega arith) (omega (arith, c.copy.auto.1.0, c.requires)) refl
-    (did _ _ _ _ (le-leb n (length c.args.other.now) c.requires) c.copy.ensures.1) c.forward.ensures.out_after)
+    row-used n _ (at row) c.args.used c.if-not-used.false-raw
+    (forward-through n (n - 0) n _ (at row) _ c.copy.new.to (omega arith) (omega (arith, c.copy.auto.to, c.requires)) refl
+    (did _ _ _ _ (le-leb n (length c.args.other.now) c.requires) c.copy.ensures.area) c.forward.ensures.out_after)

@@ -27,12 +27,12 @@ returns-then-not-halve_even c =
 pub returns : goal.returns
 returns c =
     let a = c.args in
-    let at = c.row-place.result in
-    let so = not-false _ c.if1.false in
-    let halved = halve-tried (rows-some a.filter) a.w a.q at (at + a.w - at) a.stretch.now c.row-place.ensures.0 (omega arith)
+    let at = c.row_place-a.result in
+    let so = not-false _ c.if-not-halve_even.false-raw in
+    let halved = halve-tried (rows-some a.filter) a.w a.q at (at + a.w - at) a.stretch.now c.row_place-a.ensures.0 (omega arith)
     (omega arith)
-    _ c.halve-even.new.0 so (omega arith) c.halve-even.ensures.1 in
+    _ c.halve_even.new.row so (omega arith) c.halve_even.ensures.row in
     record { stretch_after = single-made (filter_of a.filter).rows (value_fits (filter_of a.filter)) a.k a.w a.q _ _ _
-          (sym (even-part (rows-some a.filter) a.w a.q at (at + a.w - at) a.stretch.now c.row-place.ensures.0 (omega arith)
+          (sym (even-part (rows-some a.filter) a.w a.q at (at + a.w - at) a.stretch.now c.row_place-a.ensures.0 (omega arith)
           (omega arith))
-          ∙ sym c.halve-even.ensures.0 ∙ so) halved c.admit_row.ensures; kept = kept-is _ _ _ _ (only_kept (only-halved (rows-some a.filter) (side 0 a.w) a.q _)) halved }
+          ∙ sym c.halve_even.ensures.even ∙ so) halved c.admit_row.ensures; kept = kept-is _ _ _ _ (only_kept (only-halved (rows-some a.filter) (side 0 a.w) a.q _)) halved }

@@ -67,7 +67,7 @@ shape_of-stretch c = c.undo_odd.auto.stretch
 pub returns : goal.returns
 returns c =
     let a = c.args in
-    record { stretch_after = last-made (columns_of a.filter) a.k a.w (side a.y a.h) a.n _ _ _ (omega arith) (sym c.is-single.ensures ∙ c.if2.false)
-          c.undo-odd.ensures
+    record { stretch_after = last-made (columns_of a.filter) a.k a.w (side a.y a.h) a.n _ _ _ (omega arith) (sym c.is_single.ensures ∙ c.if-is_single.false)
+          c.undo_odd.ensures
           c.admit_row.ensures; kept = kept-is _ _ _ _ (odd-kept (columns_of a.filter) (columns-laws a.filter) a.k a.w (side a.y a.h) (2 * a.n + 1) _)
-          c.undo-odd.ensures }
+          c.undo_odd.ensures }

@@ -13,6 +13,6 @@ shape_of-out c = c.save.auto.out
 pub returns : goal.returns
 returns c =
     let a = c.args in
-    saving-own a.plane.now a.state.now a.out.now a.written.now c.is-saver.result c.is-saver.ensures c.if-not-is_saver.false-raw
+    saving-own a.plane.now a.state.now a.out.now a.written.now c.is_saver.result c.is_saver.ensures c.if-not-is_saver.false-raw
     c.unpack_saver-s.result c.unpack_saver-s.ensures _ c.save.result c.save.ensures _ _ _ c.pack_saved.ensures.value
     c.pack_saved.ensures.s_after c.pack_saved.ensures.written_after

@@ -20,6 +20,6 @@ pub returns : goal.returns
 returns c =
     let a = c.args in
     let e =
-    went (is_turns a.turns.now) c.is-turns.result c.is-turns.ensures (λ (t : Turns). clear_reply t a.reader) (turns_of a.turns.now)
+    went (is_turns a.turns.now) c.is_turns.result c.is_turns.ensures (λ (t : Turns). clear_reply t a.reader) (turns_of a.turns.now)
     c.unpack_turns-t.result (refused 1) _ c.if-not-is_turns.false-raw c.unpack_turns-t.ensures c.clear.ensures in
     record { value = c.pack_changed.ensures.value ∙ sym (ap number e); turns_after = c.pack_changed.ensures.s_after ∙ sym (ap (λ (q : Reply Turns). changed_words q a.turns.now) e) }

@@ -20,6 +20,6 @@ pub returns : goal.returns
 returns c =
     let a = c.args in
     let e =
-    went (is_turns a.turns.now) c.is-turns.result c.is-turns.ensures turn_reply (turns_of a.turns.now) c.unpack_turns-t.result (refused 1) _
+    went (is_turns a.turns.now) c.is_turns.result c.is_turns.ensures turn_reply (turns_of a.turns.now) c.unpack_turns-t.result (refused 1) _
     c.if-not-is_turns.false-raw c.unpack_turns-t.ensures c.give.ensures in
     record { value = c.pack_turn.ensures.value ∙ sym (ap number e); turns_after = c.pack_turn.ensures.s_after ∙ sym (ap (λ (q : Reply Given). turn_words q a.turns.now) e); reader_after = c.pack_turn.ensures.reader_after ∙ sym (ap (λ (q : Reply Given). reader_of q a.reader.now) e) }

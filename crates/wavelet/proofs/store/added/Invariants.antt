@@ -13,12 +13,12 @@ use Rattle.wavelet.proofs.StoreLaws.{widths-none, widths-more, widths-le}
 use Rattle.wavelet.proofs.store.added.Given as goal
 
 pub record Summed (width x levels sum from length k : ℕ) : Type 0 where
-  most : k ≤ levels
-  narrow : width < 2 ^ 16
-  few : levels < 2 ^ 16
-  total : sum ≡ widths (side x width) k
-  level : side from length ≡ side_at k (side x width)
-  shorter : length ≤ width
+  pub most : k ≤ levels
+  pub narrow : width < 2 ^ 16
+  pub few : levels < 2 ^ 16
+  pub total : sum ≡ widths (side x width) k
+  pub level : side from length ≡ side_at k (side x width)
+  pub shorter : length ≤ width
 
 abbrev pub invariant-loop-k : goal.invariant-loop-k
 invariant-loop-k l = Summed l.width l.x l.levels l.sum l.from l.length l.k

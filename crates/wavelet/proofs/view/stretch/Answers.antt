@@ -20,9 +20,8 @@ use Rattle.wavelet.proofs.ViewLaws.{
   arm-HL,
   arm-LH,
   arm-HH,
-use Rattle.wavelet.proofs.view.stretch.Goals as goal
-
 }
+use Rattle.wavelet.proofs.view.stretch.Goals as goal
 
 pub returns-then-not-is_within : goal.returns-then-not-is_within
 returns-then-not-is_within c =
