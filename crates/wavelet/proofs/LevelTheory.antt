@@ -196,7 +196,7 @@ module _ (F : Filter) (W H : Side) (p : Band → Grid) where
         let a = both (rows_have W H p) (columns_have F W H p) e in
         let b = both (every (count lo H) (row_has lo)) (every (count hi H) (row_has hi)) a.0 in
         record {
-          rows = λ h. elim h [ lo ↦ every-each (count lo H) (row_has lo) b.0 | hi ↦ every-each (count hi H) (row_has hi) b.1 ];
+          rows = λ h. elim h as (λ k. (r : ℕ) → r < count k H → has_line W (λ a. p (band_of a k) r) ≡ true) [ lo ↦ every-each (count lo H) (row_has lo) b.0 | hi ↦ every-each (count hi H) (row_has hi) b.1 ];
           columns = every-each W.length column-has a.1;
         },
     λ h.

@@ -17,5 +17,4 @@ returns-in-3 c = let a = c.args in number-3 a.f a.i c.in-3.is
 pub returns-in_default : goal.returns-in_default
 returns-in_default c =
     let a = c.args in
-    let m = c.in_default.rest in
-    number-rest a.f a.i m.0.0.0.1 m.0.0.1 m.0.1 m.1
+    number-rest a.f a.i c.in_default.in_default-own.rest.0.0.0.1 c.in_default.in_default-own.rest.0.0.1 c.in_default.in_default-own.rest.0.1 c.in_default.in_default-own.rest.1

@@ -7,17 +7,17 @@ use Rattle.pgm.proofs.RunReads.{Run, start, room, next, stop, stands, end, finis
 use Rattle.pgm.proofs.runs.read.Goals as goal
 
 pub loop-i-init : goal.loop-i-init
-loop-i-init c = start _ _ _ _ _ _ c.is_IsWide.ensures c.whole-n.ensures
+loop-i-init c = start _ _ _ _ _ _ c.is_wide-wide.ensures c.whole-n.ensures
 
 pub sample_at-sample-requires : goal.sample_at-sample-requires
-sample_at-sample-requires c = room _ c.loop-i.invariant (omega arith) c.is_IsWide.ensures
+sample_at-sample-requires c = room _ c.loop-i.invariant (omega arith) c.is_wide-wide.ensures
 
 pub shape_of-run-then-not-is_within : goal.shape_of-run-then-not-is_within
 shape_of-run-then-not-is_within c = c.loop-i.invariant.size
 
 pub returns-then-not-is_within : goal.returns-then-not-is_within
 returns-then-not-is_within c =
-    record { value = stop _ _ c.loop-i.invariant (omega arith) c.is_IsWide.ensures c.sample_at-sample.ensures
+    record { value = stop _ _ c.loop-i.invariant (omega arith) c.is_wide-wide.ensures c.sample_at-sample.ensures
           (sym c.is_within.ensures ∙ not-true _ c.if-not-is_within.true-raw); run_after = stands c.loop-i.invariant }
 
 pub bounds-run-i : goal.bounds-run-i
@@ -31,7 +31,7 @@ loop-i-smaller c = omega arith
 
 pub loop-i-preserved : goal.loop-i-preserved
 loop-i-preserved c =
-    next _ _ c.loop-i.invariant (omega arith) c.is_IsWide.ensures c.sample_at-sample.ensures
+    next _ _ c.loop-i.invariant (omega arith) c.is_wide-wide.ensures c.sample_at-sample.ensures
     (sym c.is_within.ensures ∙ not-false _ c.if-not-is_within.false-raw)
 
 pub shape_of-run : goal.shape_of-run

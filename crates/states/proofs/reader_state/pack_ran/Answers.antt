@@ -9,11 +9,9 @@ use Rattle.states.proofs.reader_state.pack_ran.Goals as goal
 pub returns-in-Went : goal.returns-in-Went
 returns-in-Went c =
     let a = c.args in
-    let e = c.in-Went.is in
-    record { value = c.ending.ensures ∙ sym (ap (λ (o : Ran). ran_number (of_ran o)) e); s_after = c.pack_reader.ensures ∙ sym (ap (λ (o : Ran). ran_words (of_ran o) a.s.now) e); counts_after = sym (ap (λ (o : Ran). counts_of (of_ran o) a.counts.now) e) }
+    record { value = c.ending.ensures ∙ sym (ap (λ (o : Ran). ran_number (of_ran o)) c.in-Went.is); s_after = c.pack_reader.ensures ∙ sym (ap (λ (o : Ran). ran_words (of_ran o) a.s.now) c.in-Went.is); counts_after = sym (ap (λ (o : Ran). counts_of (of_ran o) a.counts.now) c.in-Went.is) }
 
 pub returns-in-Refused : goal.returns-in-Refused
 returns-in-Refused c =
     let a = c.args in
-    let e = c.in-Refused.is in
-    record { value = sym (ap (λ (o : Ran). ran_number (of_ran o)) e); s_after = sym (ap (λ (o : Ran). ran_words (of_ran o) a.s.now) e); counts_after = sym (ap (λ (o : Ran). counts_of (of_ran o) a.counts.now) e) }
+    record { value = sym (ap (λ (o : Ran). ran_number (of_ran o)) c.in-Refused.is); s_after = sym (ap (λ (o : Ran). ran_words (of_ran o) a.s.now) c.in-Refused.is); counts_after = sym (ap (λ (o : Ran). counts_of (of_ran o) a.counts.now) c.in-Refused.is) }

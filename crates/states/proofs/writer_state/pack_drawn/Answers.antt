@@ -9,17 +9,14 @@ use Rattle.states.proofs.writer_state.pack_drawn.Goals as goal
 pub returns-in-Row : goal.returns-in-Row
 returns-in-Row c =
     let a = c.args in
-    let e = c.in-Row.is in
-    record { value = sym (ap (λ (o : Drawn). number (of_drawn o)) e); s_after = (sym (ap (λ (o : Drawn). handed_words (of_drawn o) a.s.now) e), c.sized.ensures); row_after = sym (ap (λ (o : Drawn). row_of (of_drawn o) a.row.now) e) }
+    record { value = sym (ap (λ (o : Drawn). number (of_drawn o)) c.in-Row.is); s_after = (sym (ap (λ (o : Drawn). handed_words (of_drawn o) a.s.now) c.in-Row.is), c.sized.ensures); row_after = sym (ap (λ (o : Drawn). row_of (of_drawn o) a.row.now) c.in-Row.is) }
 
 pub returns-in-Nothing : goal.returns-in-Nothing
 returns-in-Nothing c =
     let a = c.args in
-    let e = c.in-Nothing.is in
-    record { value = sym (ap (λ (o : Drawn). number (of_drawn o)) e); s_after = (sym (ap (λ (o : Drawn). handed_words (of_drawn o) a.s.now) e), c.sized.ensures); row_after = sym (ap (λ (o : Drawn). row_of (of_drawn o) a.row.now) e) }
+    record { value = sym (ap (λ (o : Drawn). number (of_drawn o)) c.in-Nothing.is); s_after = (sym (ap (λ (o : Drawn). handed_words (of_drawn o) a.s.now) c.in-Nothing.is), c.sized.ensures); row_after = sym (ap (λ (o : Drawn). row_of (of_drawn o) a.row.now) c.in-Nothing.is) }
 
 pub returns-in-Refused : goal.returns-in-Refused
 returns-in-Refused c =
     let a = c.args in
-    let e = c.in-Refused.is in
-    record { value = sym (ap (λ (o : Drawn). number (of_drawn o)) e); s_after = (sym (ap (λ (o : Drawn). handed_words (of_drawn o) a.s.now) e), c.sized.ensures); row_after = sym (ap (λ (o : Drawn). row_of (of_drawn o) a.row.now) e) }
+    record { value = sym (ap (λ (o : Drawn). number (of_drawn o)) c.in-Refused.is); s_after = (sym (ap (λ (o : Drawn). handed_words (of_drawn o) a.s.now) c.in-Refused.is), c.sized.ensures); row_after = sym (ap (λ (o : Drawn). row_of (of_drawn o) a.row.now) c.in-Refused.is) }

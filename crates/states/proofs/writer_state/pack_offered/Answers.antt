@@ -9,11 +9,9 @@ use Rattle.states.proofs.writer_state.pack_offered.Goals as goal
 pub returns-in-Taken : goal.returns-in-Taken
 returns-in-Taken c =
     let a = c.args in
-    let e = c.in-Taken.is in
-    record { value = sym (ap (λ (o : Offered). number (of_offered o)) e); s_after = (sym (ap (λ (o : Offered). took_words (of_offered o) a.s.now) e), c.sized.ensures); taken_after = sym (ap (λ (o : Offered). taken_of (of_offered o) a.taken.now) e) }
+    record { value = sym (ap (λ (o : Offered). number (of_offered o)) c.in-Taken.is); s_after = (sym (ap (λ (o : Offered). took_words (of_offered o) a.s.now) c.in-Taken.is), c.sized.ensures); taken_after = sym (ap (λ (o : Offered). taken_of (of_offered o) a.taken.now) c.in-Taken.is) }
 
 pub returns-in-Refused : goal.returns-in-Refused
 returns-in-Refused c =
     let a = c.args in
-    let e = c.in-Refused.is in
-    record { value = sym (ap (λ (o : Offered). number (of_offered o)) e); s_after = (sym (ap (λ (o : Offered). took_words (of_offered o) a.s.now) e), c.sized.ensures); taken_after = sym (ap (λ (o : Offered). taken_of (of_offered o) a.taken.now) e) }
+    record { value = sym (ap (λ (o : Offered). number (of_offered o)) c.in-Refused.is); s_after = (sym (ap (λ (o : Offered). took_words (of_offered o) a.s.now) c.in-Refused.is), c.sized.ensures); taken_after = sym (ap (λ (o : Offered). taken_of (of_offered o) a.taken.now) c.in-Refused.is) }

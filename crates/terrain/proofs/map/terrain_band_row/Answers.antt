@@ -13,16 +13,14 @@ use Rattle.terrain.proofs.map.terrain_band_row.Goals as goal
 pub returns-in-At : goal.returns-in-At
 returns-in-At c =
     let a = c.args in
-    let e = c.first-1.given in
-    let s = span-at a.len (columns a.shape) (rows a.shape) a.shape.levels a.level a.band a.row e.0.0 e.0.1.0
-    (sym c.locate.ensures ∙ ap of_span e.1) in
+    let s = span-at a.len (columns a.shape) (rows a.shape) a.shape.levels a.level a.band a.row c.in-At.first c.in-At.length
+    (sym c.locate.ensures ∙ ap of_span c.in-At.is) in
     record { value = sym s.passes; start_after = sym s.starts; count_after = sym s.counts }
 
 pub returns-in-Refused : goal.returns-in-Refused
 returns-in-Refused c =
     let a = c.args in
-    let e = c.no-1.given in
-    let s = span-refused a.len (columns a.shape) (rows a.shape) a.shape.levels a.level a.band a.row e.0.0
-    (sym c.locate.ensures ∙ ap of_span e.1) in
-    let n : eqb e.0.0 0 ≡ false = ap (λ (q : ℕ). eqb q 0) (sym s.0) ∙ s.1 in
-    record { value = sym s.0; start_after = sym (pick_no (eqb e.0.0 0) _ _ n); count_after = sym (pick_no (eqb e.0.0 0) _ _ n) }
+    let s = span-refused a.len (columns a.shape) (rows a.shape) a.shape.levels a.level a.band a.row c.in-Refused.no
+    (sym c.locate.ensures ∙ ap of_span c.in-Refused.is) in
+    let n : eqb c.in-Refused.no 0 ≡ false = ap (λ (q : ℕ). eqb q 0) (sym s.0) ∙ s.1 in
+    record { value = sym s.0; start_after = sym (pick_no (eqb c.in-Refused.no 0) _ _ n); count_after = sym (pick_no (eqb c.in-Refused.no 0) _ _ n) }

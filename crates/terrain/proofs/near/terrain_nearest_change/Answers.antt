@@ -9,13 +9,11 @@ use Rattle.terrain.proofs.near.terrain_nearest_change.Goals as goal
 pub returns-in-At : goal.returns-in-At
 returns-in-At c =
     let a = c.args in
-    let e = c.c-1.given in
-    let t = takes-change _ a.width a.height (ground_of a.width a.heights.now) a.row a.column _ c.find.ensures e.0.0 e.1 in
+    let t = takes-change _ a.width a.height (ground_of a.width a.heights.now) a.row a.column _ c.find.ensures c.in-At.c c.in-At.is in
     record { value = sym t.0; pick = t.1 }
 
 pub returns-in-Refused : goal.returns-in-Refused
 returns-in-Refused c =
     let a = c.args in
-    let e = c.no-1.given in
-    let t = takes-number _ a.width a.height (ground_of a.width a.heights.now) a.row a.column _ c.find.ensures e.0.0 e.1 in
-    record { value = sym t.0; pick = stays e.0.0 _ _ t.1 }
+    let t = takes-number _ a.width a.height (ground_of a.width a.heights.now) a.row a.column _ c.find.ensures c.in-Refused.no c.in-Refused.is in
+    record { value = sym t.0; pick = stays c.in-Refused.no _ _ t.1 }

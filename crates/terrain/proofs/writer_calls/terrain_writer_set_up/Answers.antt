@@ -14,15 +14,13 @@ use Rattle.terrain.proofs.writer_calls.terrain_writer_set_up.Goals as goal
 pub returns-in-Ready : goal.returns-in-Ready
 returns-in-Ready c =
     let a = c.args in
-    let g = c.w-1.given in
     let e : set_up_reply a.shape.filter (columns a.shape) a.shape.y a.shape.levels (length a.store.now) ≡ _ =
-    sym c.set_up.ensures.result_value ∙ ap of_set_up g.1 in
+    sym c.set_up.ensures.result_value ∙ ap of_set_up c.in-Ready.is in
     record { value = sym (ap number e); state_after = c.pack_writer.ensures ∙ sym (ap (λ (q : Reply Writer). state_of q a.state.now) e); store_after = c.set_up.ensures.store_after }
 
 pub returns-in-Refused : goal.returns-in-Refused
 returns-in-Refused c =
     let a = c.args in
-    let g = c.no-1.given in
     let e : set_up_reply a.shape.filter (columns a.shape) a.shape.y a.shape.levels (length a.store.now) ≡ _ =
-    sym c.set_up.ensures.result_value ∙ ap of_set_up g.1 in
+    sym c.set_up.ensures.result_value ∙ ap of_set_up c.in-Refused.is in
     record { value = sym (ap number e); state_after = sym (ap (λ (q : Reply Writer). state_of q a.state.now) e); store_after = c.set_up.ensures.store_after }

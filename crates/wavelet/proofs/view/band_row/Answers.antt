@@ -10,41 +10,37 @@ use Rattle.wavelet.proofs.view.band_row.Goals as goal
 
 pub overflow_add-result : goal.overflow_add-result
 overflow_add-result c =
-    let s = c.start-1.given in
     let a = c.args in
     let W = columns a.shape in
     let H = rows a.shape in
-    let p = located-in a.plane.now W H a.shape.levels a.level a.band a.row s.0.0 s.0.1.0
-    (sym c.locate.ensures ∙ ap of_span s.1) in
+    let p = located-in a.plane.now W H a.shape.levels a.level a.band a.row c.in-At.start c.in-At.count
+    (sym c.locate.ensures ∙ ap of_span c.in-At.is) in
     omega arith
 
 pub offset_bounds-plane-start : goal.offset_bounds-plane-start
 offset_bounds-plane-start c =
-    let s = c.start-1.given in
     let a = c.args in
     let W = columns a.shape in
     let H = rows a.shape in
-    let p = located-in a.plane.now W H a.shape.levels a.level a.band a.row s.0.0 s.0.1.0
-    (sym c.locate.ensures ∙ ap of_span s.1) in
+    let p = located-in a.plane.now W H a.shape.levels a.level a.band a.row c.in-At.start c.in-At.count
+    (sym c.locate.ensures ∙ ap of_span c.in-At.is) in
     omega arith
 
 pub slice_bounds-result-end : goal.slice_bounds-result-end
 slice_bounds-result-end c =
-    let s = c.start-1.given in
     let a = c.args in
     let W = columns a.shape in
     let H = rows a.shape in
-    located-in a.plane.now W H a.shape.levels a.level a.band a.row s.0.0 s.0.1.0 (sym c.locate.ensures ∙ ap of_span s.1)
+    located-in a.plane.now W H a.shape.levels a.level a.band a.row c.in-At.start c.in-At.count (sym c.locate.ensures ∙ ap of_span c.in-At.is)
 
 pub returns-in-At : goal.returns-in-At
 unfolding address_of
 returns-in-At c =
-    let s = c.start-1.given in
     let a = c.args in
     let W = columns a.shape in
     let H = rows a.shape in
-    let e = sym c.locate.ensures ∙ ap of_span s.1 in
-    record { result_value = row-at a.plane.now W H a.shape.levels a.level a.band a.row s.0.0 s.0.1.0 e; ref_ptr_value = ap (address_of a.plane.ref_ptr) (place_at a.plane.now W H a.shape.levels a.level a.band a.row s.0.0 s.0.1.0 e) }
+    let e = sym c.locate.ensures ∙ ap of_span c.in-At.is in
+    record { result_value = row-at a.plane.now W H a.shape.levels a.level a.band a.row c.in-At.start c.in-At.count e; ref_ptr_value = ap (address_of a.plane.ref_ptr) (place_at a.plane.now W H a.shape.levels a.level a.band a.row c.in-At.start c.in-At.count e) }
 
 pub returns-in-Refused : goal.returns-in-Refused
 unfolding address_of
@@ -52,6 +48,5 @@ returns-in-Refused c =
     let a = c.args in
     let W = columns a.shape in
     let H = rows a.shape in
-    let g = c.enum_told-1.given in
-    let e = sym c.locate.ensures ∙ ap of_span g.1 in
-    record { result_value = row-none a.plane.now W H a.shape.levels a.level a.band a.row g.0.0 e; ref_ptr_value = ap (address_of a.plane.ref_ptr) (place_none a.plane.now W H a.shape.levels a.level a.band a.row g.0.0 e) }
+    let e = sym c.locate.ensures ∙ ap of_span c.in-Refused.is in
+    record { result_value = row-none a.plane.now W H a.shape.levels a.level a.band a.row c.in-Refused.field-0 e; ref_ptr_value = ap (address_of a.plane.ref_ptr) (place_none a.plane.now W H a.shape.levels a.level a.band a.row c.in-Refused.field-0 e) }

@@ -10,9 +10,8 @@ use Rattle.wavelet.proofs.view.band_row_question.Goals as goal
 pub returns-in-At : goal.returns-in-At
 returns-in-At c =
     let a = c.args in
-    let e = c.enum_told-1.given in
-    sym (span-at (length a.plane.now) (columns a.shape) (rows a.shape) a.shape.levels a.level a.band a.row e.0.0 e.0.1.0
-    (sym c.locate.ensures ∙ ap of_span e.1)).passes
+    sym (span-at (length a.plane.now) (columns a.shape) (rows a.shape) a.shape.levels a.level a.band a.row c.in-At.field-0 c.in-At.field-1
+    (sym c.locate.ensures ∙ ap of_span c.in-At.is)).passes
 
 pub returns-in-Refused : goal.returns-in-Refused
 returns-in-Refused c =

@@ -169,6 +169,5 @@ returns-in-3 c =
 
 pub returns-in_default : goal.returns-in_default
 returns-in_default c =
-    let m = c.in_default.rest in
     let a = c.args in
-    refused-code (columns a.shape) (rows a.shape) a.shape.levels a.level a.band a.row m.0.0.0.1 m.0.0.1 m.0.1 m.1
+    refused-code (columns a.shape) (rows a.shape) a.shape.levels a.level a.band a.row c.in_default.in_default-own.rest.0.0.0.1 c.in_default.in_default-own.rest.0.0.1 c.in_default.in_default-own.rest.0.1 c.in_default.in_default-own.rest.1
