@@ -6,8 +6,7 @@ ghost use Rattle.ground_file.specs.Header.{header_number, header_in};
 use ground_file::header;
 
 // The shape and the step that the first 24 bytes of a file say, as seven numbers. The questions are 5, 22, 2, 3, 18, 4 and 20; a no leaves these.
-#[unsafe(no_mangle)]
-pub extern "C" fn terrain_file_header(bytes: &[u8], header: &mut [u64; 7]) -> u32
+pub fn terrain_file_header(bytes: &[u8], header: &mut [u64; 7]) -> u32
     ensures value { result ≡ header_number bytes.now }
     ensures header_after { header.new ≡ pick (eqb result 0) (header_in bytes.now) header.old }
 {

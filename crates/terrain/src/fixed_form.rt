@@ -6,8 +6,7 @@ ghost use Rattle.picture.specs.Form.{row_bytes, HeadPut, answered};
 use picture::{form, rows};
 
 // The header's bytes from place `from` on, at the front of `out`. The questions are 2 and 3.
-#[unsafe(no_mangle)]
-pub extern "C" fn terrain_picture_head(
+pub fn terrain_picture_head(
     width: usize,
     height: usize,
     from: usize,
@@ -21,8 +20,7 @@ pub extern "C" fn terrain_picture_head(
 }
 
 // A row's bytes from place `from` on, at the front of `out`: how many were written.
-#[unsafe(no_mangle)]
-pub extern "C" fn terrain_picture_row(heights: &[u16], from: usize, out: &mut [u8]) -> usize
+pub fn terrain_picture_row(heights: &[u16], from: usize, out: &mut [u8]) -> usize
     ensures value { result ≡ min (2 * length heights.now - from) (length out.old) }
     ensures out_after { out.new ≡ paste out.old 0 (drop from (row_bytes heights.now)) result }
 {

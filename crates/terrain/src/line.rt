@@ -10,8 +10,7 @@ use lifting::line;
 use nine_seven::line as nine_seven_line;
 
 // A line to its low values, then its high values, at the front of `out`, by the 5/3. 5, and nothing changed, where `out` is shorter than the line.
-#[unsafe(no_mangle)]
-pub extern "C" fn terrain_line_forward(line: &[i32], start: usize, out: &mut [i32]) -> u32
+pub fn terrain_line_forward(line: &[i32], start: usize, out: &mut [i32]) -> u32
     ensures value { result ≡ pick (leb (length line.now) (length out.old)) 0 5 }
     ensures out_after { at out.new ≡ pick (leb (length line.now) (length out.old))
         (forward_into (side start (length line.now)) (at line.now) (at out.old)) (at out.old) }
@@ -21,8 +20,7 @@ pub extern "C" fn terrain_line_forward(line: &[i32], start: usize, out: &mut [i3
 
 // Low values, then high values, to the line that has them, at the front of `out`. With nothing changed 5, where `out` is shorter, then 14, for an only high
 // value that is odd.
-#[unsafe(no_mangle)]
-pub extern "C" fn terrain_line_backward(coefficients: &[i32], start: usize, out: &mut [i32]) -> u32
+pub fn terrain_line_backward(coefficients: &[i32], start: usize, out: &mut [i32]) -> u32
     ensures value { result ≡ pick (leb (length coefficients.now) (length out.old))
         (pick (has_line_in (side start (length coefficients.now)) (at coefficients.now)) 0 14) 5 }
     ensures out_after { at out.new ≡ pick (both (leb (length coefficients.now) (length out.old))
@@ -33,8 +31,7 @@ pub extern "C" fn terrain_line_backward(coefficients: &[i32], start: usize, out:
 }
 
 // The same two by the integer 9/7 of CCSDS 122.0 (document 02, Q-8).
-#[unsafe(no_mangle)]
-pub extern "C" fn terrain_ccsds_line_forward(line: &[i32], start: usize, out: &mut [i32]) -> u32
+pub fn terrain_ccsds_line_forward(line: &[i32], start: usize, out: &mut [i32]) -> u32
     ensures value { result ≡ pick (leb (length line.now) (length out.old)) 0 5 }
     ensures out_after { at out.new ≡ pick (leb (length line.now) (length out.old))
         (nine_seven_forward_into (side start (length line.now)) (at line.now) (at out.old)) (at out.old) }
@@ -42,12 +39,7 @@ pub extern "C" fn terrain_ccsds_line_forward(line: &[i32], start: usize, out: &m
     nine_seven_line::forward(line, start, out) as u32
 }
 
-#[unsafe(no_mangle)]
-pub extern "C" fn terrain_ccsds_line_backward(
-    coefficients: &[i32],
-    start: usize,
-    out: &mut [i32],
-) -> u32
+pub fn terrain_ccsds_line_backward(coefficients: &[i32], start: usize, out: &mut [i32]) -> u32
     ensures value { result ≡ pick (leb (length coefficients.now) (length out.old))
         (pick (has_line_in (side start (length coefficients.now)) (at coefficients.now)) 0 14) 5 }
     ensures out_after { at out.new ≡ pick (both (leb (length coefficients.now) (length out.old))

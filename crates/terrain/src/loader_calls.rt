@@ -14,8 +14,7 @@ use states::loader_state;
 use wavelet::shape::Shape;
 
 // A fresh loader of a file with this shape and step. The questions are 2, 3, 18, 4, 20, 22 and 5.
-#[unsafe(no_mangle)]
-pub extern "C" fn terrain_load_set_up(
+pub fn terrain_load_set_up(
     state: &mut [u64; 32],
     shape: Shape,
     step: usize,
@@ -36,8 +35,7 @@ pub extern "C" fn terrain_load_set_up(
 }
 
 // What the loader wants: 0 bytes, 1 Draw, 2 Done, 3 Ended. The question is 1.
-#[unsafe(no_mangle)]
-pub extern "C" fn terrain_load_want(state: &[u64; 32], want: &mut u32) -> u32
+pub fn terrain_load_want(state: &[u64; 32], want: &mut u32) -> u32
     ensures value { result ≡ number (wanting state.now) }
     ensures want_after { want.new ≡ want_of (wanting state.now) want.old }
 {
@@ -67,8 +65,7 @@ pub extern "C" fn terrain_load_want(state: &[u64; 32], want: &mut u32) -> u32
 }
 
 // The next bytes of the file. The questions are 1, 5, 9 and 8; then, byte by byte, 22, 7 and 14.
-#[unsafe(no_mangle)]
-pub extern "C" fn terrain_load_take(
+pub fn terrain_load_take(
     state: &mut [u64; 32],
     store: &mut [i32],
     row: &mut [i32],
@@ -102,8 +99,7 @@ pub extern "C" fn terrain_load_take(
 }
 
 // A height row drawn, or Nothing. The questions are 1, 5, 9, 12 and 14; 14 leaves the ended loader.
-#[unsafe(no_mangle)]
-pub extern "C" fn terrain_load_draw(
+pub fn terrain_load_draw(
     state: &mut [u64; 32],
     store: &mut [i32],
     out: &mut [u16],

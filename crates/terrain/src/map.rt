@@ -14,8 +14,7 @@ use wavelet::view;
 use wavelet::view::Span;
 
 // A map of heights to its plane, by the filter of its shape. The questions are 2, 3, 18, 4 and 5.
-#[unsafe(no_mangle)]
-pub extern "C" fn terrain_map_forward(
+pub fn terrain_map_forward(
     heights: &[u16],
     shape: Shape,
     plane: &mut [i32],
@@ -32,8 +31,7 @@ pub extern "C" fn terrain_map_forward(
 }
 
 // A plane to the map that has it. The questions are 2, 3, 18, 4, 5, 7 and 14.
-#[unsafe(no_mangle)]
-pub extern "C" fn terrain_map_backward(
+pub fn terrain_map_backward(
     plane: &[i32],
     shape: Shape,
     heights: &mut [u16],
@@ -52,8 +50,7 @@ pub extern "C" fn terrain_map_backward(
 
 // First place and length of a band row in a plane of `len` numbers. The questions are 2, 3, 4, 5 and 6; a no leaves both numbers. The filter is not
 // read: sizes alone say where a band row stands.
-#[unsafe(no_mangle)]
-pub extern "C" fn terrain_band_row(
+pub fn terrain_band_row(
     len: usize,
     shape: Shape,
     level: usize,

@@ -7,8 +7,7 @@ ghost use Rattle.nearest_change.specs.Calls.{nearest_question, change_in};
 use nearest_change::Nearest;
 
 // The nearest change that alters a cell of the level-1 LL: row, column and new height. The questions are 2, 3, 5 and 6; a no leaves all three numbers.
-#[unsafe(no_mangle)]
-pub extern "C" fn terrain_nearest_change(
+pub fn terrain_nearest_change(
     heights: &[u16],
     width: usize,
     height: usize,

@@ -19,12 +19,7 @@ use states::reader_state;
 use wavelet::shape::Shape;
 
 // A fresh reader. The questions are 2, 3, 18, 4 and 5.
-#[unsafe(no_mangle)]
-pub extern "C" fn terrain_reader_set_up(
-    state: &mut [u64; 16],
-    shape: Shape,
-    store: &mut [i32],
-) -> u32
+pub fn terrain_reader_set_up(state: &mut [u64; 16], shape: Shape, store: &mut [i32]) -> u32
     ensures value { result ≡
         number
         (set_up_reply shape.filter (columns shape) (rows shape) shape.levels
@@ -47,8 +42,7 @@ pub extern "C" fn terrain_reader_set_up(
 }
 
 // A fresh reader with a stop. The questions are 2, 3, 18, 4, 17 and 5.
-#[unsafe(no_mangle)]
-pub extern "C" fn terrain_reader_set_up_at(
+pub fn terrain_reader_set_up_at(
     state: &mut [u64; 16],
     shape: Shape,
     stop: usize,
@@ -71,8 +65,7 @@ pub extern "C" fn terrain_reader_set_up_at(
 }
 
 // A fresh tolerant reader. The questions are 2, 3, 4 and 5.
-#[unsafe(no_mangle)]
-pub extern "C" fn terrain_tolerant_set_up(
+pub fn terrain_tolerant_set_up(
     state: &mut [u64; 16],
     width: usize,
     height: usize,
@@ -94,13 +87,7 @@ pub extern "C" fn terrain_tolerant_set_up(
 }
 
 // The columns and rows of a level's low-low part. The questions are 2, 3, 18, 4 and 17.
-#[unsafe(no_mangle)]
-pub extern "C" fn terrain_level_size(
-    shape: Shape,
-    level: usize,
-    across: &mut usize,
-    down: &mut usize,
-) -> u32
+pub fn terrain_level_size(shape: Shape, level: usize, across: &mut usize, down: &mut usize) -> u32
     ensures value { result ≡ size_number (sizing shape.filter (columns shape) (rows shape) shape.levels level) }
     ensures across_after { across.new ≡ columns_of (sizing shape.filter (columns shape) (rows shape) shape.levels level) across.old }
     ensures down_after { down.new ≡ rows_of (sizing shape.filter (columns shape) (rows shape) shape.levels level) down.old }
@@ -116,8 +103,7 @@ pub extern "C" fn terrain_level_size(
 }
 
 // What the reader wants. The question is 1.
-#[unsafe(no_mangle)]
-pub extern "C" fn terrain_reader_want(state: &[u64; 16], want: &mut [u64; 5]) -> u32
+pub fn terrain_reader_want(state: &[u64; 16], want: &mut [u64; 5]) -> u32
     ensures value { result ≡ number (wanting state.now) }
     ensures want_after { want.new ≡ want_of (wanting state.now) want.old }
 {
@@ -147,8 +133,7 @@ pub extern "C" fn terrain_reader_want(state: &[u64; 16], want: &mut [u64; 5]) ->
 }
 
 // A band row fed. The questions are 1, 5, 9, 8, 13, 7 and 14; 14 leaves the ended reader.
-#[unsafe(no_mangle)]
-pub extern "C" fn terrain_reader_feed(state: &mut [u64; 16], store: &mut [i32], run: &[i32]) -> u32
+pub fn terrain_reader_feed(state: &mut [u64; 16], store: &mut [i32], run: &[i32]) -> u32
     ensures value { result ≡
         number
         (feeding state.old (length store.old) (at store.old) (length run.now) (at run.now)) }
@@ -167,8 +152,7 @@ pub extern "C" fn terrain_reader_feed(state: &mut [u64; 16], store: &mut [i32], 
 }
 
 // A height row drawn, or Nothing. The questions are 1, 5, 9, 12 and 14; 14 leaves the ended reader.
-#[unsafe(no_mangle)]
-pub extern "C" fn terrain_reader_draw(
+pub fn terrain_reader_draw(
     state: &mut [u64; 16],
     store: &mut [i32],
     out: &mut [u16],
@@ -194,8 +178,7 @@ pub extern "C" fn terrain_reader_draw(
 }
 
 // Many rows at once. The questions are 1, 5, 9 and, where nothing could be done, 12, 8, 13 and 7; 14 leaves the ended reader.
-#[unsafe(no_mangle)]
-pub extern "C" fn terrain_reader_run(
+pub fn terrain_reader_run(
     state: &mut [u64; 16],
     store: &mut [i32],
     run: &[i32],

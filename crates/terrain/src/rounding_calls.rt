@@ -7,8 +7,7 @@ ghost use Rattle.rounding.specs.Figure.{error_bound};
 ghost use Rattle.rounding.specs.Calls.{round_question, bound_question};
 
 // A plane by the 5/3, from the origin, its HL, LH and HH values rounded toward zero to multiples of a step. The questions are 2, 3, 4, 20 and 5.
-#[unsafe(no_mangle)]
-pub extern "C" fn terrain_round(
+pub fn terrain_round(
     plane: &mut [i32],
     width: usize,
     height: usize,
@@ -23,8 +22,7 @@ pub extern "C" fn terrain_round(
 }
 
 // How far off a height can be that a tolerant reader draws from such a plane. The questions are 4 and 20; a no leaves the bound.
-#[unsafe(no_mangle)]
-pub extern "C" fn terrain_error_bound(levels: usize, step: usize, bound: &mut usize) -> u32
+pub fn terrain_error_bound(levels: usize, step: usize, bound: &mut usize) -> u32
     ensures value { result ≡ bound_question levels step }
     ensures bound_after { bound.new ≡ pick (eqb result 0) (error_bound levels step) bound.old }
 {

@@ -11,8 +11,7 @@ use states::saver_state;
 use wavelet::shape::Shape;
 
 // A saver that has written nothing. The questions are 2, 3, 18, 4, 20 and 22; a no leaves the array.
-#[unsafe(no_mangle)]
-pub extern "C" fn terrain_save_set_up(state: &mut [u64; 32], shape: Shape, step: usize) -> u32
+pub fn terrain_save_set_up(state: &mut [u64; 32], shape: Shape, step: usize) -> u32
     ensures value { result ≡ set_up_number shape step }
     ensures state_after { state.new ≡ pick (eqb result 0) (saver_words (fresh shape step)) state.old }
 {
@@ -26,8 +25,7 @@ pub extern "C" fn terrain_save_set_up(state: &mut [u64; 32], shape: Shape, step:
 
 // The next bytes of the plane's file, as many as the area has room for. The questions are 1 and 5, and before a row is begun 7 and 22; a no leaves array, area
 // and count.
-#[unsafe(no_mangle)]
-pub extern "C" fn terrain_save(
+pub fn terrain_save(
     state: &mut [u64; 32],
     plane: &[i32],
     out: &mut [u8],

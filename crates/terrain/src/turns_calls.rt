@@ -9,8 +9,7 @@ use states::turns_state;
 use turns::Turns;
 
 // A fresh turn-giver. No question is asked.
-#[unsafe(no_mangle)]
-pub extern "C" fn terrain_turns_set_up(turns: &mut [u64; 4]) -> u32
+pub fn terrain_turns_set_up(turns: &mut [u64; 4]) -> u32
     ensures value { result ≡ 0 }
     ensures turns_after { turns.new ≡ turns_words fresh }
 {
@@ -19,8 +18,7 @@ pub extern "C" fn terrain_turns_set_up(turns: &mut [u64; 4]) -> u32
 }
 
 // A reader wants a band row. The questions are 1 and 21.
-#[unsafe(no_mangle)]
-pub extern "C" fn terrain_turns_mark(turns: &mut [u64; 4], reader: usize) -> u32
+pub fn terrain_turns_mark(turns: &mut [u64; 4], reader: usize) -> u32
     ensures value { result ≡ number (marking turns.old reader) }
     ensures turns_after { turns.new ≡ changed_words (marking turns.old reader) turns.old }
 {
@@ -32,8 +30,7 @@ pub extern "C" fn terrain_turns_mark(turns: &mut [u64; 4], reader: usize) -> u32
 }
 
 // It wants none. The questions are 1 and 21.
-#[unsafe(no_mangle)]
-pub extern "C" fn terrain_turns_clear(turns: &mut [u64; 4], reader: usize) -> u32
+pub fn terrain_turns_clear(turns: &mut [u64; 4], reader: usize) -> u32
     ensures value { result ≡ number (clearing turns.old reader) }
     ensures turns_after { turns.new ≡ changed_words (clearing turns.old reader) turns.old }
 {
@@ -45,8 +42,7 @@ pub extern "C" fn terrain_turns_clear(turns: &mut [u64; 4], reader: usize) -> u3
 }
 
 // The reader whose turn it is, or 16 for Nothing. The question is 1.
-#[unsafe(no_mangle)]
-pub extern "C" fn terrain_turns_give(turns: &mut [u64; 4], reader: &mut usize) -> u32
+pub fn terrain_turns_give(turns: &mut [u64; 4], reader: &mut usize) -> u32
     ensures value { result ≡ number (giving turns.old) }
     ensures turns_after { turns.new ≡ turn_words (giving turns.old) turns.old }
     ensures reader_after { reader.new ≡ reader_of (giving turns.old) reader.old }

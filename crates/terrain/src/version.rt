@@ -3,8 +3,7 @@ ghost use Rattle.std.specs.Prelude.{◌≡◌};
 ghost use Rattle.terrain.specs.Version.{version};
 
 // include/terrain.h's TERRAIN_VERSION.
-#[unsafe(no_mangle)]
-pub extern "C" fn terrain_version() -> u32
+pub fn terrain_version() -> u32
     ensures { result ≡ version }
 {
     300

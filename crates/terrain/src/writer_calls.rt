@@ -15,8 +15,7 @@ use wavelet::shape::Shape;
 use writer::{Finished, Look, SetUp, Writer, runs};
 
 // The numbers that the line store of a writer needs, more than a reader's; 0 where set-up would give 2, 18 or 4. The height does not count.
-#[unsafe(no_mangle)]
-pub extern "C" fn terrain_store_length(shape: Shape) -> usize
+pub fn terrain_store_length(shape: Shape) -> usize
     ensures { result ≡
         pick (streamable shape.filter (columns shape) shape.levels) (writer_store_by shape.filter (columns shape) shape.levels) 0 }
 {
@@ -29,8 +28,7 @@ pub extern "C" fn terrain_store_length(shape: Shape) -> usize
 }
 
 // Those that a reader's needs.
-#[unsafe(no_mangle)]
-pub extern "C" fn terrain_reader_store_length(shape: Shape) -> usize
+pub fn terrain_reader_store_length(shape: Shape) -> usize
     ensures { result ≡ pick (streamable shape.filter (columns shape) shape.levels) (store_by shape.filter (columns shape) shape.levels) 0 }
 {
     filters::store_length(
@@ -42,12 +40,7 @@ pub extern "C" fn terrain_reader_store_length(shape: Shape) -> usize
 }
 
 // A fresh writer. The questions are 2, 18, 4 and 5. The height is not read.
-#[unsafe(no_mangle)]
-pub extern "C" fn terrain_writer_set_up(
-    state: &mut [u64; 16],
-    shape: Shape,
-    store: &mut [i32],
-) -> u32
+pub fn terrain_writer_set_up(state: &mut [u64; 16], shape: Shape, store: &mut [i32]) -> u32
     ensures value { result ≡ number (set_up_reply shape.filter (columns shape) shape.y shape.levels (length store.old)) }
     ensures state_after { state.new ≡
         state_of (set_up_reply shape.filter (columns shape) shape.y shape.levels (length store.old)) state.old }
@@ -64,8 +57,7 @@ pub extern "C" fn terrain_writer_set_up(
 }
 
 // Heights offered. The questions are 1, 5, 9 and 10.
-#[unsafe(no_mangle)]
-pub extern "C" fn terrain_writer_offer(
+pub fn terrain_writer_offer(
     state: &mut [u64; 16],
     store: &mut [i32],
     run: &[u16],
@@ -86,8 +78,7 @@ pub extern "C" fn terrain_writer_offer(
 }
 
 // A band row drawn, or Nothing. The questions are 1, 5 and 12.
-#[unsafe(no_mangle)]
-pub extern "C" fn terrain_writer_draw(
+pub fn terrain_writer_draw(
     state: &mut [u64; 16],
     store: &mut [i32],
     out: &mut [i32],
@@ -111,8 +102,7 @@ pub extern "C" fn terrain_writer_draw(
 }
 
 // A look at the band row that waits, for the next draw; level 0 where none does. The question is 1.
-#[unsafe(no_mangle)]
-pub extern "C" fn terrain_writer_waits(state: &[u64; 16], row: &mut [u64; 4]) -> u32
+pub fn terrain_writer_waits(state: &[u64; 16], row: &mut [u64; 4]) -> u32
     ensures value { result ≡ number (waiting state.now) }
     ensures row_after { row.new ≡ look_of (waiting state.now) row.old }
 {
@@ -130,8 +120,7 @@ pub extern "C" fn terrain_writer_waits(state: &[u64; 16], row: &mut [u64; 4]) ->
 }
 
 // The map finished. The questions are 1, 5, 9, 8 and 11.
-#[unsafe(no_mangle)]
-pub extern "C" fn terrain_writer_finish(state: &mut [u64; 16], store: &mut [i32]) -> u32
+pub fn terrain_writer_finish(state: &mut [u64; 16], store: &mut [i32]) -> u32
     ensures value { result ≡ number (finished state.old (length store.old) (at store.old)) }
     ensures state_after { state.new ≡ state_of (finished state.old (length store.old) (at store.old))
         state.old }
@@ -151,8 +140,7 @@ pub extern "C" fn terrain_writer_finish(state: &mut [u64; 16], store: &mut [i32]
 }
 
 // Many rows at once. The questions are 1, 5, 9, 12 and 10, the last two where nothing could be done.
-#[unsafe(no_mangle)]
-pub extern "C" fn terrain_writer_run(
+pub fn terrain_writer_run(
     state: &mut [u64; 16],
     store: &mut [i32],
     heights: &[u16],

@@ -1,6 +1,7 @@
 // The calls of `lifting` that the C interface leaves out, exported for the tests and the benchmark: the row calls, the pair calls, the in-place line calls,
 // and the line calls with a start. Each has `lifting`'s own promise. The library that a program links is `terrain`, not this.
 #![tactic(auto)]
+
 mod nine_seven_back;
 mod nine_seven_columns;
 mod nine_seven_level;
