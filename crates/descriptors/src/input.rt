@@ -3,6 +3,8 @@ ghost use Rattle.std.specs.Prelude.{◌≡◌, length};
 ghost use Rattle.descriptors.specs.Left.{used_of, reads_now, came, Fills};
 
 use crate::again;
+use crate::tell::tell;
+use std::io::{Print, Read};
 
 // The bytes of the chunk from `from` to `to`.
 #[derive(Clone, Copy)]
@@ -40,36 +42,22 @@ pub fn used(left: Left, count: usize) -> Left
     }
 }
 
-// What a call of `read` answered, and whether it is to be made again.
-#[derive(Clone, Copy)]
-struct Tried {
-    got: isize,
-    again: bool,
-}
-
-fn try_read(fd: i32, chunk: &mut [u8]) -> Tried {
-    let got = libc::read(fd, chunk);
-    if got < 0 {
-        return Tried {
-            got,
-            again: again::again(),
-        };
+// Reads, and again while a call is to be made again: what the last call answered, -1 where it failed. A proved loop has to end, so it counts its turns up to
+// a number that no run uses up.
+fn read_some<R: Read, E: Print>(from: &mut R, name: &[u8], chunk: &mut [u8], errors: &E) -> isize {
+    for _ in 0..u64::MAX {
+        match from.read(chunk) {
+            Ok(count) => return count as isize,
+            Err(error) => {
+                if !again::again(&error) {
+                    tell(errors, name, error);
+                    return -1;
+                }
+            }
+        }
     }
-    Tried { got, again: false }
-}
-
-// A proved loop has to end, so it counts its turns down from a number that no run uses up.
-fn read_some(fd: i32, name: &[u8], chunk: &mut [u8]) -> isize {
-    let mut now = try_read(fd, chunk);
-    let mut turns = u64::MAX;
-    while turns > 0 && now.again {
-        now = try_read(fd, chunk);
-        turns -= 1;
-    }
-    if now.got < 0 {
-        os::fail(name);
-    }
-    now.got
+    tell(errors, name, "tried too often");
+    -1
 }
 
 fn reads_now(left: Left, wanted: bool) -> bool
@@ -97,11 +85,18 @@ fn came(got: isize, chunk: &[u8]) -> Filled
 }
 
 // Reads, if nothing is left and more is wanted. What fails is told by the input's name.
-pub fn fill(left: Left, wanted: bool, fd: i32, name: &[u8], chunk: &mut [u8]) -> Filled
+pub fn fill<R: Read, E: Print>(
+    left: Left,
+    wanted: bool,
+    from: &mut R,
+    name: &[u8],
+    chunk: &mut [u8],
+    errors: &E,
+) -> Filled
     ensures { Fills wanted left chunk.old chunk.new result }
 {
     if reads_now(left, wanted) {
-        let got = read_some(fd, name, chunk);
+        let got = read_some(from, name, chunk, errors);
         return came(got, chunk);
     }
     Filled {

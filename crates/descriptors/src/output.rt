@@ -3,7 +3,8 @@ ghost use Rattle.std.specs.Prelude.{◌≡◌, ◌+◌, ◌-◌, ◌≤◌, eqb,
 ghost use Rattle.io.specs.Counts.{clamp_len};
 
 use crate::again;
-use libc::STDERR_FILENO;
+use crate::tell::tell;
+use std::io::{Error, Print, Write};
 
 // How many of the bytes the writes took, in sum, and whether that is all of them.
 #[derive(Clone, Copy)]
@@ -20,48 +21,51 @@ struct Put {
     open: bool,
 }
 
-// A write that takes nothing, without an error.
-fn tell_stuck(name: &[u8]) {
-    io::write_all(STDERR_FILENO, name);
-    io::write_all(STDERR_FILENO, b": nothing more is taken\n");
-}
-
-// Whether there may be another write after one that took no byte: `got` is what it answered.
-fn continues(got: isize, name: &[u8]) -> bool {
-    if got == 0 {
-        tell_stuck(name);
-        return false;
-    }
-    if again::again() {
+// Whether there may be another write after one that failed with `error`.
+fn continues<E: Print>(error: Error, name: &[u8], errors: &E) -> bool {
+    if again::again(&error) {
         return true;
     }
-    os::fail(name);
+    tell(errors, name, error);
     false
 }
 
+// A write that takes nothing, without an error, is the last.
+fn takes_more<E: Print>(count: usize, name: &[u8], errors: &E) -> bool {
+    if count == 0 {
+        tell(errors, name, "nothing more is taken");
+        return false;
+    }
+    true
+}
+
 // One write of the bytes from place `from` on.
-fn try_write(fd: i32, name: &[u8], bytes: &[u8], from: usize) -> Put
+fn try_write<W: Write, E: Print>(
+    to: &mut W,
+    name: &[u8],
+    bytes: &[u8],
+    from: usize,
+    errors: &E,
+) -> Put
     requires { from ≤ length bytes.now }
     ensures { result.to ≡ from + clamp_len result.got (length bytes.now - from) }
 {
-    let rest = &bytes[from..];
-    let got = libc::write(fd, rest);
-    let count = io::count(got, rest);
-    if count > 0 {
-        return Put {
-            got,
+    match to.write(&bytes[from..]) {
+        Ok(count) => Put {
+            got: count as isize,
             to: from + count,
-            open: true,
-        };
-    }
-    Put {
-        got,
-        to: from,
-        open: continues(got, name),
+            open: takes_more(count, name, errors),
+        },
+        Err(error) => Put {
+            got: -1,
+            to: from,
+            open: continues(error, name, errors),
+        },
     }
 }
 
-pub fn send(fd: i32, name: &[u8], bytes: &[u8]) -> Sent
+// Writes all of the bytes, in as many writes as the writer wants. What fails is told by the output's name.
+pub fn send<W: Write, E: Print>(to: &mut W, name: &[u8], bytes: &[u8], errors: &E) -> Sent
     ensures count_in_bounds { result.count ≤ length bytes.now }
     ensures whole_value { result.whole ≡ eqb result.count (length bytes.now) }
 {
@@ -72,7 +76,7 @@ pub fn send(fd: i32, name: &[u8], bytes: &[u8]) -> Sent
     };
     let mut turns = u64::MAX;
     while turns > 0 && done.open && done.to < bytes.len() {
-        done = try_write(fd, name, bytes, done.to);
+        done = try_write(to, name, bytes, done.to, errors);
         turns -= 1;
     }
     Sent {

@@ -18,7 +18,7 @@ use Rattle.descriptors.specs.declared.input.Filled.{Filled}
 use Rattle.descriptors.specs.declared.output.Sent.{Sent}
 use Rattle.descriptors.proofs.LeftLaws.{fills-within, used-within, used-left}
 use Rattle.rounds.specs.Machine.{Machine}
-use Rattle.rounds.specs.Rounds.{waits_at, over_at, waiting, over, failed, ended, ends, whole}
+use Rattle.rounds.specs.Rounds.{waits_at, over_at, waiting, over, failed, ended, ends}
 use Rattle.rounds.specs.Rounds.{going, started, outcome_of, Round, Rounds, begun, then, Ran}
 use Rattle.rounds.specs.Rounds.{most_rounds, before, after, Completed}
 use Rattle.rounds.specs.declared.round.Outcome.{Outcome}

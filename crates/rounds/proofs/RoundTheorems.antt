@@ -8,21 +8,19 @@
 use mathlib.Core.Path.{◌≡◌, refl, sym, ap, subst, ◌∙◌}
 use mathlib.Core.Bool.{Bool, true, false}
 use mathlib.Core.List.{List, [], ◌++◌, append-nil, append_assoc}
-use Prim.Native.Nat.{ℕ, zero, suc, ◌+◌, ◌-◌, ◌*◌, ◌≤◌, ◌<◌}
+use Prim.Native.Nat.{ℕ, suc, ◌+◌, ◌*◌, ◌≤◌, ◌<◌}
 use native.Mathlib.Omega.{arith}
 use native.Mathlib.Decide.{dec_lt}
 use borrow.Author.Tests.{lt-ltb, le-leb, eq-eqb}
-use lib.Dec.{eqb, ltb, leb}
 use lib.IntN.{ℤ, pos}
 use lib.Signed.{lt_z}
 use lib.ListN.{length, take, length-append}
 use lib.Seq.{length-take-le}
-use Rattle.io.specs.Counts.{clamp_len}
 use Rattle.numbers.specs.Signal.{pick, both}
 use Rattle.text.specs.Moves.{Goes, stays, then, Stops, full, idle}
 use Rattle.text.proofs.TextLaws.{wrote-size}
 use Rattle.text.proofs.MoveLaws.{goes-on, call-wrote}
-use Rattle.descriptors.specs.Left.{left_in, Within, reads_now, came, Fills, keeps, reads}
+use Rattle.descriptors.specs.Left.{left_in, reads_now, came, Fills, keeps, reads}
 use Rattle.descriptors.specs.declared.input.Left.{Left}
 use Rattle.descriptors.specs.declared.input.Filled.{Filled}
 use Rattle.descriptors.proofs.LeftLaws.{none_left, fills-left, length-left, clamped-most}
@@ -30,7 +28,7 @@ use Rattle.rounds.specs.Machine.{Machine}
 use Rattle.rounds.specs.Rounds.{most_rounds, over_at, waits_at, waiting, over, failed, ended, ends, going, Round, Rounds, Ran, Run, before, after}
 use Rattle.rounds.specs.Rounds as rounds
 use Rattle.rounds.specs.declared.round.Outcome.{Outcome}
-use Rattle.rounds.proofs.RoundLaws.{false-true, waits-at, over-at, reads-waits, going_on, going-not, ends-not, ended-parts, round-within, round-left}
+use Rattle.rounds.proofs.RoundLaws.{false-true, waits-at, reads-waits, going_on, going-not, ends-not, ended-parts, round-within, round-left}
 use Rattle.rounds.proofs.RoundLaws.{all-used, rounds-idle, ends-parts}
 
 -- ---- rounds are moves
@@ -60,7 +58,7 @@ reached-on {M = M} {s = s} {s₂ = s₂} {u = u} {t = t} {c = c} {c' = c'} {l = 
     parts : left_in c' r.filled.left ≡ d.went.bytes ++ left_in c' r.left
     parts = d.went.read ∙ ap (λ y. d.went.bytes ++ y) (sym (round-left d))
 
-pub rounds-go : {S : Type 0} {M : Machine S} {A m : ℕ} {s s' : S} {u t c : List ℕ} {r : Outcome} → Rounds M A s m u t s' c r
+pub rounds-go : {S : Type 0} {M : Machine S} {A : ℕ} {s : S} {m : ℕ} {s' : S} {u t c : List ℕ} {r : Outcome} → Rounds M A s m u t s' c r
     → ReachedBy M s u t s' (left_in c r.left)
 rounds-go {s = s} {c = c} rounds.begun = record { fed = []; goes = stays s; left = sym (none_left c _ (omega arith)) }
 rounds-go (rounds.then g e d) = reached-on (rounds-go g) d
@@ -84,7 +82,7 @@ not-read : {w : Bool} {l : Left} {c c' : List ℕ} {g : Filled} (u : List ℕ) �
 not-read {c' = c'} {g = g} u n (keeps e q k) z = (ap (λ y. y ++ take g.read c') z ∙ ap (λ y. take y.read c') q, ap (λ y. y.ended) q)
 not-read {w} {l} u n (reads e q) z = absurd (n (reads-waits w l e).0)
 
-pub nothing_read : {S : Type 0} {M : Machine S} {A m : ℕ} {s s' : S} {u t c : List ℕ} {r : Outcome} → MachineLaws M → 3 < M.phase s
+pub nothing_read : {S : Type 0} {M : Machine S} {A : ℕ} {s : S} {m : ℕ} {s' : S} {u t c : List ℕ} {r : Outcome} → MachineLaws M → 3 < M.phase s
     → Rounds M A s m u t s' c r → NothingRead M u s' r
 nothing_read L h rounds.begun = record { read = refl; phase = h; ended = refl }
 nothing_read {M = M} L h (rounds.then {s₁ = s₁} {u = u} g e d) =
@@ -121,7 +119,7 @@ record Few (b m : ℕ) (u t : List ℕ) (r : Outcome) : Type 0 where
   pub busy : 0 < b → m ≤ length u + 2 * length t + late r
 
 -- where nothing is being written nothing is left
-rounds-done : {S : Type 0} {M : Machine S} {A m : ℕ} {s s' : S} {u t c : List ℕ} {r : Outcome} → Rounds M A s m u t s' c r → M.busy s' ≡ 0
+rounds-done : {S : Type 0} {M : Machine S} {A : ℕ} {s : S} {m : ℕ} {s' : S} {u t c : List ℕ} {r : Outcome} → Rounds M A s m u t s' c r → M.busy s' ≡ 0
     → r.left.to ≤ r.left.from
 rounds-done rounds.begun b = omega arith
 rounds-done {M = M} {s' = s'} {r = r} (rounds.then {c' = c'} {o = o} g h d) b = go d.stops refl
@@ -188,7 +186,7 @@ module _ {S : Type 0} {M : Machine S} {A m : ℕ} {s s₁ s₂ : S} {u t c c' o 
   }
   few-then (idle x y) k = record { all = quiet k d.fills; busy = λ h. absurd (omega (arith, x, h)) }
 
-few : {S : Type 0} {M : Machine S} {A m : ℕ} {s s' : S} {u t c : List ℕ} {r : Outcome} → 0 < A → Rounds M A s m u t s' c r → Few (M.busy s') m u t r
+few : {S : Type 0} {M : Machine S} {A : ℕ} {s : S} {m : ℕ} {s' : S} {u t c : List ℕ} {r : Outcome} → 0 < A → Rounds M A s m u t s' c r → Few (M.busy s') m u t r
 few p rounds.begun = record { all = omega arith; busy = λ _. omega arith }
 few p (rounds.then g e d) = few-then p g e d (few p g) d.stops refl
 
@@ -200,7 +198,7 @@ late-most r = go (failed r) (ended r)
     go false true = omega arith
     go false false = omega arith
 
-pub few-rounds : {S : Type 0} {M : Machine S} {A m : ℕ} {s s' : S} {u t c : List ℕ} {r : Outcome} → 0 < A → Rounds M A s m u t s' c r
+pub few-rounds : {S : Type 0} {M : Machine S} {A : ℕ} {s : S} {m : ℕ} {s' : S} {u t c : List ℕ} {r : Outcome} → 0 < A → Rounds M A s m u t s' c r
     → m ≤ length u + 2 * length t + 2
 few-rounds {r = r} p g = omega (arith, (few p g).all, late-most r)
 

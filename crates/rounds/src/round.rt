@@ -7,7 +7,7 @@ ghost use Rattle.rounds.specs.Rounds.{waits_at, over_at, failed, ended, ends, wh
 use descriptors::input::{Filled, Left};
 use descriptors::output::Sent;
 use descriptors::{input, output};
-use libc::STDOUT_FILENO;
+use std::io::{Print, Write};
 
 // What is left of the chunk after a round, and of that round: what was read, how many bytes of the area were written and how many of those were sent,
 // and whether nothing is left to feed or to write.
@@ -63,8 +63,8 @@ pub fn start() -> Outcome
     }
 }
 
-// What was written goes to standard output; nothing of what does not fit the area.
-pub fn send(out: &[u8], written: usize) -> Sent
+// What was written goes to standard output, which `to` is; nothing of what does not fit the area. What fails is told by that name.
+pub fn send<W: Write, E: Print>(to: &mut W, out: &[u8], written: usize, errors: &E) -> Sent
     ensures { result.whole ≡ pick (leb written (length out.now)) (eqb result.count written) false }
 {
     if out.len() < written {
@@ -73,7 +73,7 @@ pub fn send(out: &[u8], written: usize) -> Sent
             whole: false,
         };
     }
-    output::send(STDOUT_FILENO, b"standard output", &out[..written])
+    output::send(to, b"standard output", &out[..written], errors)
 }
 
 // After a round: `used` bytes of what stood in the chunk were fed, which wrote `written`.

@@ -6,8 +6,8 @@ use Rattle.descriptors.proofs.input.came.Goals as goal
 
 pub returns-then-failed : goal.returns-then-failed
 returns-then-failed c =
-    came-failed _ _ _ _ (to_z-of_z w64 _ c.ranges.got) c.count-count.ensures.1 c.if-failed.true
+    came-failed _ _ _ _ (to_z-of_z w64 _ c.ranges.got) c.count-count.ensures.value c.if-failed.true
 
 pub returns-else-failed : goal.returns-else-failed
 returns-else-failed c =
-    came-some _ _ _ _ (to_z-of_z w64 _ c.ranges.got) c.count-count.ensures.1 c.if-failed.false
+    came-some _ _ _ _ (to_z-of_z w64 _ c.ranges.got) c.count-count.ensures.value c.if-failed.false

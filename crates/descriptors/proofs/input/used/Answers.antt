@@ -1,7 +1,6 @@
 -- `descriptors::input::used` is the definition, case by case. Assumes nothing.
 use mathlib.Core.Path.{sym}
 use native.Mathlib.Omega.{arith}
-use borrow.Author.Rules.{rules}
 use Rattle.descriptors.proofs.LeftLaws.{used-is, used_all}
 use Rattle.descriptors.proofs.input.used.Goals as goal
 

@@ -6,3 +6,7 @@ use Rattle.rounds.proofs.round.has_ended.Goals as goal
 pub returns : goal.returns
 unfolding ended
 returns c = search rules
+
+pub returns-then-filled : goal.returns-then-filled
+unfolding ended
+returns-then-filled c = simp c.if-filled.true

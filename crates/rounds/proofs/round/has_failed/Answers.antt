@@ -6,3 +6,7 @@ use Rattle.rounds.proofs.round.has_failed.Goals as goal
 pub returns : goal.returns
 unfolding failed
 returns c = search rules
+
+pub returns-then-filled : goal.returns-then-filled
+unfolding failed
+returns-then-filled c = simp c.if-filled.true
