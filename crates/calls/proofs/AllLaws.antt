@@ -11,6 +11,7 @@ pub data In {A : Type 0} (x : A) : List A → Type 0 where
 
 module _ {A : Type 0} where
   pub in_left : (x : A) (s t : List A) → In x s → In x (s ++ t)
+  in_left x [] t i = elim i [ ]
   in_left x (y ∷ s) t first = first
   in_left x (y ∷ s) t (later i) = later (in_left x s t i)
 
@@ -50,5 +51,6 @@ module _ {A : Type 0} {P : A → Type 0} where
   all_in (x ∷ xs) f = all_more (f x first) (all_in xs (λ y i. f y (later i)))
 
   pub in_all : (x : A) (xs : List A) → In x xs → All P xs → P x
+  in_all x [] i _ = elim i [ ]
   in_all x (y ∷ xs) first (all_more p a) = p
   in_all x (y ∷ xs) (later i) (all_more p a) = in_all x xs i a

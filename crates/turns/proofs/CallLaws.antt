@@ -12,40 +12,40 @@ use Rattle.turns.specs.declared.Turns.{Turns}
 use Rattle.turns.specs.Marks.{readers, all_marked, marked}
 use Rattle.turns.specs.Order.{Served, reader, nobody, number_of, next_after}
 use Rattle.turns.specs.Answers.{Given, a_reader, nothing}
-use Rattle.turns.specs.Calls.{in-range, change_question, turn_question, lent, turn_reply}
+use Rattle.turns.specs.Calls.{in_range, change_question, turn_question, lent, turn_reply}
 use Rattle.turns.proofs.OrderLaws.{found-wants}
 
 module _ (t : Turns) where
   -- a turn-giver in its ranges
-  pub in_range : t.marks ≤ all_marked → t.last ≤ 15 → in-range t ≡ true
-  unfolding in-range
+  pub in_range : t.marks ≤ all_marked → t.last ≤ 15 → in_range t ≡ true
+  unfolding in_range
   in_range m l = rw (le-leb t.marks all_marked m, le-leb t.last 15 l) refl
 
-  pub ranges : in-range t ≡ true → (t.marks ≤ all_marked) × (t.last ≤ 15)
-  unfolding in-range
+  pub ranges : in_range t ≡ true → (t.marks ≤ all_marked) × (t.last ≤ 15)
+  unfolding in_range
   ranges e =
       let b = sweep.both (leb t.marks all_marked) (leb t.last 15) e in
       (leb-true _ _ b.0, leb-true _ _ b.1)
 
   -- ---- the questions of mark and clear
-  pub one-no : (n : ℕ) → in-range t ≡ false → 1 ≡ change_question t n
+  pub one-no : (n : ℕ) → in_range t ≡ false → 1 ≡ change_question t n
   unfolding change_question
   one-no n e = rw e refl
 
-  pub number-no : (n : ℕ) → in-range t ≡ true → 15 < n → 21 ≡ change_question t n
+  pub number-no : (n : ℕ) → in_range t ≡ true → 15 < n → 21 ≡ change_question t n
   unfolding change_question
   number-no n e h = rw (e, lt-leb n 15 h) refl
 
-  pub change-yes : (n : ℕ) → in-range t ≡ true → n ≤ 15 → 0 ≡ change_question t n
+  pub change-yes : (n : ℕ) → in_range t ≡ true → n ≤ 15 → 0 ≡ change_question t n
   unfolding change_question
   change-yes n e h = rw (e, le-leb n 15 h) refl
 
   -- no question: the numbers are in their ranges
-  pub yes-change : (n : ℕ) → change_question t n ≡ 0 → (in-range t ≡ true) × (n ≤ 15)
+  pub yes-change : (n : ℕ) → change_question t n ≡ 0 → (in_range t ≡ true) × (n ≤ 15)
   unfolding change_question
-  yes-change n e = go (in-range t) (leb n 15) refl refl e
+  yes-change n e = go (in_range t) (leb n 15) refl refl e
     where
-      go : (a b : Bool) → in-range t ≡ a → leb n 15 ≡ b → ◌≡◌ {A = ℕ} (pick a (pick b 0 21) 1) 0 → (in-range t ≡ true) × (n ≤ 15)
+      go : (a b : Bool) → in_range t ≡ a → leb n 15 ≡ b → ◌≡◌ {A = ℕ} (pick a (pick b 0 21) 1) 0 → (in_range t ≡ true) × (n ≤ 15)
       go true true p q e = (p, leb-true n 15 q)
       go true false p q e = absurd (omega arith)
       go false b p q e = absurd (omega arith)
@@ -64,16 +64,16 @@ module _ {A : Type 0} (q r : ℕ) (a : A) (is : r ≡ q) where
 
 -- ---- a turn
 module _ (t : Turns) where
-  pub turn-no : in-range t ≡ false → refused 1 ≡ turn_reply t
+  pub turn-no : in_range t ≡ false → refused 1 ≡ turn_reply t
   unfolding turn_reply turn_question
   turn-no e = rw e refl
 
-  pub turn-yes : in-range t ≡ true → turn_reply t ≡ gives (lent t (next_after (marked t.marks) t.last))
+  pub turn-yes : in_range t ≡ true → turn_reply t ≡ gives (lent t (next_after (marked t.marks) t.last))
   unfolding turn_reply turn_question
   turn-yes e = rw e refl
 
   -- r is the number of whom the search gave; a reader's is not 16
-  module _ (r : ℕ) (is : r ≡ number_of (next_after (marked t.marks) t.last)) (e : in-range t ≡ true) where
+  module _ (r : ℕ) (is : r ≡ number_of (next_after (marked t.marks) t.last)) (e : in_range t ≡ true) where
     small : (n : ℕ) → next_after (marked t.marks) t.last ≡ reader n → n < readers
     small n h = (found-wants (marked t.marks) t.last n h).0
 

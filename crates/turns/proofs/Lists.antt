@@ -15,7 +15,7 @@ use Rattle.turns.specs.declared.Turns.{Turns}
 use Rattle.turns.specs.Marks.{readers, all_marked, marked, with_mark, without_mark}
 use Rattle.turns.specs.Order.{Served, reader, nobody, first_from, next_after}
 use Rattle.turns.specs.Answers.{Given, a_reader, nothing}
-use Rattle.turns.specs.Calls.{fresh, in-range, change_question, mark_reply, clear_reply, lent, turn_reply}
+use Rattle.turns.specs.Calls.{fresh, in_range, change_question, mark_reply, clear_reply, lent, turn_reply}
 use Rattle.turns.specs.Lists.{Call, mark, clear, turn, Event, marks, clears, turns, served, changed_to, turned_to, event, next, events, final}
 use Rattle.turns.specs.Lists.{wants_by, wants_after, last_by, last_served, Fair, OfCalls, turns_in, clears_reader, serves, ServedWithin}
 use Rattle.turns.proofs.MarkLaws.{put, put-at, put-range, none-marked}
@@ -24,7 +24,7 @@ use Rattle.turns.proofs.CallLaws.{in_range, ranges, number-no, change-yes, turn-
 
 -- ---- the state says what the calls said: who wants is marked, and `last` is the last one served, l
 record Agrees (t : Turns) (wants : ℕ → Bool) (l : ℕ) : Type 0 where
-  in_range : in-range t ≡ true
+  in_range : in_range t ≡ true
   marked : (n : ℕ) → n < readers → marked t.marks n ≡ wants n
   last : t.last ≡ l
 

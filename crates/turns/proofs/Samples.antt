@@ -7,7 +7,7 @@ use Rattle.calls.specs.Lists.{gives}
 use Rattle.calls.specs.Lists as lists
 use Rattle.turns.specs.Marks.{readers, marked, with_mark}
 use Rattle.turns.specs.Order.{reader, first_from, next_after}
-use Rattle.turns.specs.Calls.{fresh, in-range, change_question, turn_question, mark_reply, turn_reply}
+use Rattle.turns.specs.Calls.{fresh, in_range, change_question, turn_question, mark_reply, turn_reply}
 use Rattle.turns.specs.Lists.{Call, mark, turn, turns, event, next, events, final}
 
 pub marks-all : List Call
@@ -17,6 +17,6 @@ pub sixteen : List Call
 sixteen = in_turn readers (λ _. turn ∷ [])
 
 pub sixteenth : events sixteen (final marks-all fresh) ≡ in_turn readers (λ n. turns (gives (reader n)) ∷ [])
-unfolding marks-all sixteen in_turn lists.events lists.final event next mark_reply turn_reply in-range change_question turn_question marked with_mark first_from
+unfolding marks-all sixteen in_turn lists.events lists.final event next mark_reply turn_reply in_range change_question turn_question marked with_mark first_from
     next_after
 sixteenth = refl

@@ -13,14 +13,14 @@ abbrev pub fresh : Turns
 fresh = record { marks = 0; last = last_reader }
 
 -- ---- "Question 1 is asked of the turn-giver's state first. Refused: 21, if a reader number is not 0 to 15."
-unfoldable pub in-range : Turns → Bool
-in-range t = both (leb t.marks all_marked) (leb t.last last_reader)
+unfoldable pub in_range : Turns → Bool
+in_range t = both (leb t.marks all_marked) (leb t.last last_reader)
 
 unfoldable pub change_question : Turns → ℕ → ℕ
-change_question t n = ask (in-range t) 1 (ask (leb n last_reader) 21 0)
+change_question t n = ask (in_range t) 1 (ask (leb n last_reader) 21 0)
 
 unfoldable pub turn_question : Turns → ℕ
-turn_question t = ask (in-range t) 1 0
+turn_question t = ask (in_range t) 1 0
 
 -- ---- a want is marked and cleared: the order stays
 unfoldable pub mark_reply : Turns → ℕ → Reply Turns

@@ -9,7 +9,7 @@ use Rattle.turns.specs.declared.Turns.{Turns}
 use Rattle.turns.specs.Marks.{readers, last_reader}
 use Rattle.turns.specs.Order.{Served, reader, nobody, next_after}
 use Rattle.turns.specs.Answers.{Given, a_reader, nothing}
-use Rattle.turns.specs.Calls.{fresh, in-range, mark_reply, clear_reply, turn_reply}
+use Rattle.turns.specs.Calls.{fresh, in_range, mark_reply, clear_reply, turn_reply}
 
 -- ---- calls, and what is seen of them
 pub data Call : Type 0 where
@@ -90,7 +90,7 @@ pub record Fair (cs : List Call) (es : List Event) (then : Call → Event) : Typ
 
 -- of a list of calls on a fresh turn-giver: question 1 always passes, and the claim
 pub record OfCalls (cs : List Call) : Type 0 where
-  pub in_range : in-range (final cs fresh) ≡ true
+  pub in_range : in_range (final cs fresh) ≡ true
   pub claim : Fair cs (events cs fresh) (λ c. event c (final cs fresh))
 
 -- ---- "any reader that goes on wanting is served within 16 turns, however the others ask"

@@ -21,7 +21,7 @@ returns c =
     let x = a.line.now in
     let N = length x in
     let ok = le-leb N (length a.out.now) (omega arith) in
-    let size = c.part_line.auto.start in
+    let size = c.part_line.auto.row in
     let from = c.part_line.ensures.area in
     record { value = simp ok; out_after = simp ok
           (forward-front (side a.start N) (N - 0) (at x) (at a.out.now) _ c.lift.new.line (omega arith) (omega arith)

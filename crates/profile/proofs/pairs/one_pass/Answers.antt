@@ -11,7 +11,7 @@ open-s-requires c = c.requires.0
 
 pub loop-p-init : goal.loop-p-init
 loop-p-init c =
-    begun (length c.args.row.now) (heights c.args.row.now) c.args.out.now c.requires.0 c.requires.1 c.«open».ensures
+    begun (length c.args.row.now) (heights c.args.row.now) c.args.out.now c.requires.0 c.requires.1 c.open-s.ensures
 
 pub overflow_add-p : goal.overflow_add-p
 overflow_add-p c = omega (arith, c.loop-p.invariant.inside)
