@@ -17,9 +17,9 @@ use Rattle.turns.proofs.OrderLaws.{found-wants}
 
 module _ (t : Turns) where
   -- a turn-giver in its ranges
-  pub in_range : t.marks ≤ all_marked → t.last ≤ 15 → in_range t ≡ true
+  pub in-range : t.marks ≤ all_marked → t.last ≤ 15 → in_range t ≡ true
   unfolding in_range
-  in_range m l = rw (le-leb t.marks all_marked m, le-leb t.last 15 l) refl
+  in-range m l = rw (le-leb t.marks all_marked m, le-leb t.last 15 l) refl
 
   pub ranges : in_range t ≡ true → (t.marks ≤ all_marked) × (t.last ≤ 15)
   unfolding in_range

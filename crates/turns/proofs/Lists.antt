@@ -20,7 +20,7 @@ use Rattle.turns.specs.Lists.{Call, mark, clear, turn, Event, marks, clears, tur
 use Rattle.turns.specs.Lists.{wants_by, wants_after, last_by, last_served, Fair, OfCalls, turns_in, clears_reader, serves, ServedWithin}
 use Rattle.turns.proofs.MarkLaws.{put, put-at, put-range, none-marked}
 use Rattle.turns.proofs.OrderLaws.{found-wants, same-search, found-nobody, nobody-found, distance, Nearer, its-turn, another, nearer}
-use Rattle.turns.proofs.CallLaws.{in_range, ranges, number-no, change-yes, turn-yes}
+use Rattle.turns.proofs.CallLaws.{in-range, ranges, number-no, change-yes, turn-yes}
 
 -- ---- the state says what the calls said: who wants is marked, and `last` is the last one served, l
 record Agrees (t : Turns) (wants : ℕ → Bool) (l : ℕ) : Type 0 where
@@ -29,7 +29,7 @@ record Agrees (t : Turns) (wants : ℕ → Bool) (l : ℕ) : Type 0 where
   last : t.last ≡ l
 
 fresh-agrees : Agrees fresh (λ n. false) 15
-fresh-agrees = record { in_range = in_range fresh (omega arith) (omega arith); marked = λ n h. none-marked n; last = refl }
+fresh-agrees = record { in_range = in-range fresh (omega arith) (omega arith); marked = λ n h. none-marked n; last = refl }
 
 -- ---- marking (b true) or clearing (b false) reader n
 module _ (t : Turns) (wants : ℕ → Bool) (l : ℕ) (a : Agrees t wants l) (b : Bool) (n : ℕ) where
@@ -46,7 +46,7 @@ module _ (t : Turns) (wants : ℕ → Bool) (l : ℕ) (a : Agrees t wants l) (b 
   change-agrees h =
       let r = ranges t a.in_range in
       record {
-        in_range = in_range changed (let x : put b t.marks n < 2 ^ 16 = put-range 16 b t.marks n (omega arith) (omega arith) in omega arith) r.1;
+        in_range = in-range changed (let x : put b t.marks n < 2 ^ 16 = put-range 16 b t.marks n (omega arith) (omega arith) in omega arith) r.1;
         marked = λ m g. put-at b t.marks n m ∙ ap (pick (eqb n m) b) (a.marked m g);
         last = a.last;
       }
@@ -98,7 +98,7 @@ module _ (t : Turns) (wants : ℕ → Bool) (l : ℕ) (a : Agrees t wants l) whe
   unfolding next last_by
   turn_step (reader n) e =
       subst (λ r. Agrees (turned_to t r) wants n) (sym (turn-serves (reader n) e)) (record {
-        in_range = in_range _ (ranges t a.in_range).0 (let h = (found-wants wants l n e).0 in omega arith);
+        in_range = in-range _ (ranges t a.in_range).0 (let h = (found-wants wants l n e).0 in omega arith);
         marked = a.marked;
         last = refl;
       })
