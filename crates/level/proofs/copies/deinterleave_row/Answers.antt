@@ -53,7 +53,7 @@ separate-requires c =
     let low = c.low_count-low.result in (
       omega arith,
       omega arith,
-      shifted a.to o (low - o) (a.v / 2) (rw (← e) at f).apart,
+      shifted a.to o (low - o) (a.v / 2) (rw e f.apart),
       omega arith,
       omega arith,
     )
