@@ -1,5 +1,7 @@
 // What was compared, and how often it differed.
 use crate::area;
+use std::io;
+use std::io::Print;
 
 #[derive(Clone, Copy)]
 pub struct Tally {
@@ -32,14 +34,11 @@ impl Tally {
     }
 
     // "whole map: 10 runs, 20 numbers, 0 differences"
-    pub fn print(self, name: &[u8]) {
-        io::write_all(1, name);
-        io::write_all(1, b": ");
-        io::print_decimal(1, self.runs);
-        io::write_all(1, b" runs, ");
-        io::print_decimal(1, self.numbers);
-        io::write_all(1, b" numbers, ");
-        io::print_decimal(1, self.differences);
-        io::write_all(1, b" differences\n");
+    pub fn print<P: Print>(self, rt: &P, name: &[u8]) -> io::Result<()> {
+        let runs = self.runs;
+        let numbers = self.numbers;
+        let differences = self.differences;
+        rt.write_all(name)?;
+        println!(rt; ": {runs} runs, {numbers} numbers, {differences} differences")
     }
 }

@@ -1,4 +1,4 @@
-use Rattle.std.proofs.Common.{◌-◌, arith, rules}
+use Rattle.std.proofs.Common.{arith}
 use Rattle.reference.proofs.area.differences.Goals as goal
 
 pub overflow_add-i : goal.overflow_add-i

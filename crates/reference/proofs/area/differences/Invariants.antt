@@ -1,5 +1,5 @@
 -- `reference::area::differences` is safe and ends. In the loop nothing is asked. Assumes nothing.
-use Rattle.std.proofs.Common.{◌-◌, arith, rules}
+use Rattle.std.proofs.Common.{◌-◌}
 use Rattle.reference.proofs.area.differences.Given as goal
 
 abbrev pub invariant-loop-i : goal.invariant-loop-i

@@ -1,5 +1,5 @@
 -- `reference::area::height_differences` is safe and ends. In the loop nothing is asked. Assumes nothing.
-use Rattle.std.proofs.Common.{◌-◌, arith, rules}
+use Rattle.std.proofs.Common.{◌-◌}
 use Rattle.reference.proofs.area.height_differences.Given as goal
 
 abbrev pub invariant-loop-i : goal.invariant-loop-i

@@ -1,5 +1,5 @@
 -- `reference::area::raised` is safe: what is raised by 2^40 is not negative, and fits. Assumes nothing.
-use Rattle.std.proofs.Common.{◌≡◌, ◌≤◌, T, ℤ, pos, ◌+ℤ◌, nat_abs, arith, w32, w64, SFits, to_z, of_z, rules}
+use Rattle.std.proofs.Common.{◌≡◌, ◌≤◌, T, ℤ, pos, ◌+ℤ◌, nat_abs, arith, w32, w64, SFits, to_z, of_z}
 use lib.Signed.{non_neg}
 use mir.ValLaws.{to_z-of_z}
 use Rattle.numbers.proofs.Integers.{each, lin}

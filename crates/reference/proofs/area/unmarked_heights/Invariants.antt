@@ -1,5 +1,5 @@
 -- `reference::area::unmarked_heights` is safe and ends. In the loop nothing is asked. Assumes nothing.
-use Rattle.std.proofs.Common.{◌-◌, length, arith, rules}
+use Rattle.std.proofs.Common.{◌-◌, length}
 use Rattle.reference.proofs.area.unmarked_heights.Given as goal
 
 abbrev pub invariant-loop-i : goal.invariant-loop-i

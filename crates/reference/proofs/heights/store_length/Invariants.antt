@@ -1,5 +1,5 @@
 -- `reference::heights::store-length` is safe and ends. In the loop nothing is asked. Assumes nothing.
-use Rattle.std.proofs.Common.{◌-◌, arith, rules}
+use Rattle.std.proofs.Common.{◌-◌}
 use Rattle.reference.proofs.heights.store_length.Given as goal
 
 abbrev pub invariant-loop-k : goal.invariant-loop-k

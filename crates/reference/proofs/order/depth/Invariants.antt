@@ -1,5 +1,5 @@
 -- `reference::order::depth` is safe and ends. In the loop nothing is asked. Assumes nothing.
-use Rattle.std.proofs.Common.{◌-◌, arith, rules}
+use Rattle.std.proofs.Common.{◌-◌}
 use Rattle.reference.proofs.order.depth.Given as goal
 
 abbrev pub invariant-loop-k : goal.invariant-loop-k

@@ -1,5 +1,5 @@
 -- `reference::order::push_finish` is safe and ends. In the loop the area keeps its length. Assumes nothing.
-use Rattle.std.proofs.Common.{◌≡◌, ◌-◌, length, arith, rules}
+use Rattle.std.proofs.Common.{◌≡◌, ◌-◌, length}
 use Rattle.reference.proofs.order.push_finish.Given as goal
 
 abbrev pub invariant-loop-k : goal.invariant-loop-k

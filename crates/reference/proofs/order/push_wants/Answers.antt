@@ -1,4 +1,4 @@
-use Rattle.std.proofs.Common.{◌≡◌, length, arith, rules}
+use Rattle.std.proofs.Common.{arith}
 use Rattle.reference.proofs.order.push_wants.Goals as goal
 
 pub overflow_sub-k : goal.overflow_sub-k

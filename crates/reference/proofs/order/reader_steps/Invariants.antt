@@ -1,5 +1,5 @@
 -- `reference::order::reader_steps` is safe and ends. In the loop the area keeps its length. Assumes nothing.
-use Rattle.std.proofs.Common.{◌≡◌, ◌-◌, length, arith, rules}
+use Rattle.std.proofs.Common.{◌≡◌, ◌-◌, length}
 use Rattle.reference.proofs.order.reader_steps.Given as goal
 
 abbrev pub invariant-loop-r : goal.invariant-loop-r

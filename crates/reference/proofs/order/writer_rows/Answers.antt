@@ -1,4 +1,4 @@
-use Rattle.std.proofs.Common.{◌≡◌, ◌-◌, length, arith, rules}
+use Rattle.std.proofs.Common.{arith}
 use Rattle.reference.proofs.order.writer_rows.Goals as goal
 
 pub overflow_add-r : goal.overflow_add-r

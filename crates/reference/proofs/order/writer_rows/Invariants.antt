@@ -1,5 +1,5 @@
 -- `reference::order::writer_rows` is safe and ends. In the loop the area keeps its length. Assumes nothing.
-use Rattle.std.proofs.Common.{◌≡◌, ◌-◌, length, arith, rules}
+use Rattle.std.proofs.Common.{◌≡◌, ◌-◌, length}
 use Rattle.reference.proofs.order.writer_rows.Given as goal
 
 abbrev pub invariant-loop-r : goal.invariant-loop-r

@@ -1,4 +1,4 @@
-use Rattle.std.proofs.Common.{◌≡◌, ◌-◌, length, arith, rules}
+use Rattle.std.proofs.Common.{arith}
 use Rattle.reference.proofs.t800.lift_rows.Goals as goal
 
 pub overflow_add-j : goal.overflow_add-j

@@ -1,5 +1,5 @@
 -- `reference::t800::lift_rows` is safe and ends. In the loop the area keeps its length. Assumes nothing.
-use Rattle.std.proofs.Common.{◌≡◌, ◌-◌, length, arith, rules}
+use Rattle.std.proofs.Common.{◌≡◌, ◌-◌, length}
 use Rattle.reference.proofs.t800.lift_rows.Given as goal
 
 abbrev pub invariant-loop-j : goal.invariant-loop-j
