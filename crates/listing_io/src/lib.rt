@@ -1,7 +1,8 @@
-// The listing program over descriptors: rounds of read, turn and write, within a constant memory.
+// The listing program over std's readers and writers: rounds of read, turn and write, within a constant memory.
 // No contract can say what is read or written; what becomes of the bytes between is said of each round, and by a theorem of all of them
 // (proofs/ListedTheorem.antt).
 #![tactic(auto)]
+
 ghost use Rattle.std.specs.Prelude.{◌≡◌, length};
 ghost use Rattle.numbers.specs.Signal.{at};
 ghost use Rattle.descriptors.specs.Left.{left_in, Within};
@@ -15,6 +16,7 @@ use descriptors::input::Left;
 use listing::listing::{Fed, Listing};
 use rounds::round;
 use rounds::round::Outcome;
+use std::io::{Print, Read, Write};
 
 // The listing after a round, and what the round left.
 #[derive(Clone, Copy)]
@@ -67,10 +69,12 @@ fn turn(
 }
 
 // Read, turn, write.
-fn one_round(
+fn one_round<R: Read, W: Write, E: Print>(
     run: Run,
-    fd: i32,
+    from: &mut R,
     name: &[u8],
+    to: &mut W,
+    errors: &E,
     chunk: &mut [u8],
     store: &mut [i32],
     row: &mut [i32],
@@ -84,9 +88,9 @@ fn one_round(
 {
     let listing = run.listing;
     let outcome = run.outcome;
-    let filled = input::fill(outcome.left, waits(listing), fd, name, chunk);
+    let filled = input::fill(outcome.left, waits(listing), from, name, chunk, errors);
     let fed = turn(listing, filled.left, chunk, store, row, out);
-    let sent = round::send(out, fed.written);
+    let sent = round::send(to, out, fed.written, errors);
     let next = fed.listing;
     Run {
         listing: next,
@@ -95,10 +99,12 @@ fn one_round(
 }
 
 // A proved loop has to end, so it counts its turns down from a number that no run uses up.
-fn all_rounds(
+fn all_rounds<R: Read, W: Write, E: Print>(
     listing: Listing,
-    fd: i32,
+    from: &mut R,
     name: &[u8],
+    to: &mut W,
+    errors: &E,
     chunk: &mut [u8],
     store: &mut [i32],
     row: &mut [i32],
@@ -114,16 +120,18 @@ fn all_rounds(
     };
     let mut turns = u64::MAX;
     while turns > 0 && continues(now) {
-        now = one_round(now, fd, name, chunk, store, row, out);
+        now = one_round(now, from, name, to, errors, chunk, store, row, out);
         turns -= 1;
     }
     now
 }
 
 // All of an input: rounds until it ends, and on with what its end makes due.
-fn list_all(
-    fd: i32,
+fn list_all<R: Read, W: Write, E: Print>(
+    from: &mut R,
     name: &[u8],
+    to: &mut W,
+    errors: &E,
     chunk: &mut [u8],
     store: &mut [i32],
     row: &mut [i32],
@@ -134,24 +142,36 @@ fn list_all(
         (state_of started (at store.old) (at row.old))
         (state_of result.listing (at store.new) (at row.new)) result.outcome }
 {
-    let run = all_rounds(Listing::start(), fd, name, chunk, store, row, out);
+    let run = all_rounds(
+        Listing::start(),
+        from,
+        name,
+        to,
+        errors,
+        chunk,
+        store,
+        row,
+        out,
+    );
     if round::ends(run.outcome) {
         let listing = run.listing;
         let ended = listing.end(store, row);
-        return all_rounds(ended, fd, name, chunk, store, row, out);
+        return all_rounds(ended, from, name, to, errors, chunk, store, row, out);
     }
     run
 }
 
-// Lists the map that the descriptor gives, whatever map it is that a listing takes. What fails is told on standard error. Answers whether the listing is
-// written whole.
-pub fn list(fd: i32, name: &[u8]) -> bool
+// Lists the map that the reader gives, whatever map it is that a listing takes, to the writer. What fails is told on standard error, which `errors` is, by
+// the input's name or "standard output". Answers whether the listing is written whole.
+pub fn list<R: Read, W: Write, E: Print>(from: &mut R, name: &[u8], to: &mut W, errors: &E) -> bool
     ensures { Listed result }
 {
     let mut chunk = [0u8; 65536];
     let mut store = [0i32; Listing::STORE];
     let mut row = [0i32; Listing::ROW];
     let mut out = [0u8; 65536];
-    let run = list_all(fd, name, &mut chunk, &mut store, &mut row, &mut out);
+    let run = list_all(
+        from, name, to, errors, &mut chunk, &mut store, &mut row, &mut out,
+    );
     round::is_whole(is_over(run.listing), run.outcome)
 }

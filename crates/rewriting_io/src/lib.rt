@@ -1,7 +1,8 @@
-// The rewriting program over descriptors: rounds of read, turn and write, within a constant memory.
+// The rewriting program over std's readers and writers: rounds of read, turn and write, within a constant memory.
 // No contract can say what is read or written; what becomes of the bytes between is said of each round, and by a theorem of all of them
 // (proofs/RewrittenTheorem.antt).
 #![tactic(auto)]
+
 ghost use Rattle.std.specs.Prelude.{◌≡◌, length};
 ghost use Rattle.text.specs.Moves.{Went, Stops};
 ghost use Rattle.descriptors.specs.Left.{left_in, Within};
@@ -14,6 +15,7 @@ use descriptors::input::Left;
 use picture::rewriting::{Fed, Rewriting};
 use rounds::round;
 use rounds::round::Outcome;
+use std::io::{Print, Read, Write};
 
 // The rewriting after a round, and what the round left.
 #[derive(Clone, Copy)]
@@ -58,10 +60,12 @@ fn turn(rewriting: Rewriting, left: Left, chunk: &[u8], row: &mut [u16], out: &m
 }
 
 // Read, turn, write.
-fn one_round(
+fn one_round<R: Read, W: Write, E: Print>(
     run: Run,
-    fd: i32,
+    from: &mut R,
     name: &[u8],
+    to: &mut W,
+    errors: &E,
     chunk: &mut [u8],
     row: &mut [u16],
     out: &mut [u8],
@@ -72,9 +76,9 @@ fn one_round(
 {
     let rewriting = run.rewriting;
     let outcome = run.outcome;
-    let filled = input::fill(outcome.left, waits(rewriting), fd, name, chunk);
+    let filled = input::fill(outcome.left, waits(rewriting), from, name, chunk, errors);
     let fed = turn(rewriting, filled.left, chunk, row, out);
-    let sent = round::send(out, fed.written);
+    let sent = round::send(to, out, fed.written, errors);
     let next = fed.rewriting;
     Run {
         rewriting: next,
@@ -83,10 +87,12 @@ fn one_round(
 }
 
 // A proved loop has to end, so it counts its turns down from a number that no run uses up.
-fn all_rounds(
+fn all_rounds<R: Read, W: Write, E: Print>(
     rewriting: Rewriting,
-    fd: i32,
+    from: &mut R,
     name: &[u8],
+    to: &mut W,
+    errors: &E,
     chunk: &mut [u8],
     row: &mut [u16],
     out: &mut [u8],
@@ -100,33 +106,46 @@ fn all_rounds(
     };
     let mut turns = u64::MAX;
     while turns > 0 && continues(now) {
-        now = one_round(now, fd, name, chunk, row, out);
+        now = one_round(now, from, name, to, errors, chunk, row, out);
         turns -= 1;
     }
     now
 }
 
 // All of an input: rounds until it ends, and on with what its end makes due.
-fn rewrite_all(fd: i32, name: &[u8], chunk: &mut [u8], row: &mut [u16], out: &mut [u8]) -> Run
+fn rewrite_all<R: Read, W: Write, E: Print>(
+    from: &mut R,
+    name: &[u8],
+    to: &mut W,
+    errors: &E,
+    chunk: &mut [u8],
+    row: &mut [u16],
+    out: &mut [u8],
+) -> Run
     ensures { Completed rewriting_machine (length out.old) end_kept (kept started row.old)
         (kept result.rewriting row.new) result.outcome }
 {
-    let run = all_rounds(Rewriting::start(), fd, name, chunk, row, out);
+    let run = all_rounds(Rewriting::start(), from, name, to, errors, chunk, row, out);
     if round::ends(run.outcome) {
         let rewriting = run.rewriting;
-        return all_rounds(rewriting.end(), fd, name, chunk, row, out);
+        return all_rounds(rewriting.end(), from, name, to, errors, chunk, row, out);
     }
     run
 }
 
-// Rewrites the picture that the descriptor gives, whatever picture it is that a rewriting takes. What fails is told on standard error. Answers whether
-// all is written.
-pub fn rewrite(fd: i32, name: &[u8]) -> bool
+// Rewrites the picture that the reader gives, whatever picture it is that a rewriting takes, to the writer. What fails is told on standard error, which
+// `errors` is, by the input's name or "standard output". Answers whether all is written.
+pub fn rewrite<R: Read, W: Write, E: Print>(
+    from: &mut R,
+    name: &[u8],
+    to: &mut W,
+    errors: &E,
+) -> bool
     ensures { Rewritten result }
 {
     let mut chunk = [0u8; 65536];
     let mut row = [0u16; Rewriting::ROW];
     let mut out = [0u8; 65536];
-    let run = rewrite_all(fd, name, &mut chunk, &mut row, &mut out);
+    let run = rewrite_all(from, name, to, errors, &mut chunk, &mut row, &mut out);
     round::is_whole(is_over(run.rewriting), run.outcome)
 }
