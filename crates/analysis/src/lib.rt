@@ -2,6 +2,7 @@
 // keeps eight. Any other number counts as 1 here; question 18 is asked above. The streams above know where a level's stretch begins and how many rows it has
 // received; what stands in the stretch, only this crate knows. The filter's number is branched on where a row is changed and where a slot is told.
 #![tactic(auto)]
+
 mod columns;
 pub mod forward;
 mod near;

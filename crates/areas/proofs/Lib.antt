@@ -5,5 +5,4 @@ pub mod HeightLaws
 pub mod Splices
 pub mod HalfLaws
 pub mod ApartLaws
-
 mod Clauses

@@ -1,6 +1,7 @@
 // The table of filters, by number, 0 the 5/3 and 1 the integer 9/7: levels, rows kept, look-ahead, ranges, what a stream needs, and which numbers are filters
 // (question 18). Any other number counts as 1 here; question 18 is asked above.
 #![tactic(auto)]
+
 pub mod range;
 
 ghost use Rattle.std.specs.Prelude.{◌≡◌, min, pos, leb};

@@ -25,5 +25,4 @@ pub mod StepLaws
 pub mod CallLaws
 pub mod RunLaws
 pub mod RangeLaws
-
 mod Clauses

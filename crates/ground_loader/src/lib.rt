@@ -1,5 +1,6 @@
 // Loading a ground file (docs/FORMAT.md), from its bytes: a band row as its bytes come in, the checksum, and the loader over them.
 #![tactic(auto)]
+
 mod header;
 pub mod loader;
 mod parts;

@@ -1,5 +1,6 @@
 // The questions that both ways of a whole map ask of its shape and its areas.
 #![tactic(auto)]
+
 ghost use Rattle.std.specs.Prelude.{◌≡◌};
 ghost use Rattle.map_questions.specs.Calls.{shape_questions, size_questions};
 

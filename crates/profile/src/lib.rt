@@ -1,5 +1,6 @@
 // The smooth profile of one row: the 9/7 lifting of ITU-T T.800 without its scaling, in 32-bit floats, in one pass over the row.
 #![tactic(auto)]
+
 mod carry;
 mod ends;
 mod pairs;

@@ -35,5 +35,4 @@ pub mod RunLaws
 pub mod RunLast
 pub mod RunOver
 pub mod RunList
-
 mod Clauses

@@ -1,5 +1,6 @@
 // The row-by-row reader: band rows in, in the order that it wants them, height rows out. A state of numbers by value; the line store is the caller's.
 #![tactic(auto)]
+
 mod last;
 mod limited;
 mod questions;

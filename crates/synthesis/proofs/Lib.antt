@@ -17,5 +17,4 @@ pub mod CallLaws
 pub mod PairMade
 pub mod TolerantColumns
 pub mod TolerantCalls
-
 mod Clauses

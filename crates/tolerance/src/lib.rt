@@ -1,6 +1,7 @@
 // The way back that limits each value to its level's range where the strict way gives 14: its definitions, what is done to a row of it, and how far apart two
 // lines are on it. Document 02, Q-10.
 #![tactic(auto)]
+
 ghost use Rattle.std.specs.Prelude.{◌≡◌, length};
 ghost use Rattle.numbers.specs.Signal.{at};
 ghost use Rattle.lifting.specs.Halves.{fronted};

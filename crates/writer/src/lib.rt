@@ -1,5 +1,6 @@
 // The row-by-row writer: heights in, band rows out, in the order of document 01.
 #![tactic(auto)]
+
 mod after;
 mod cascade;
 mod closing;

@@ -133,10 +133,13 @@ returns-then-next_fits c =
     let fit = part-fits (c.low_waits.result * a.w) (c.rows_kept.result * a.w + c.slot.result * c.low_count-v.result) c.low_count-v.result
     (length a.store.now) (omega arith) (omega arith) in
     let o = c.deinterleave_row.ensures in
-    record { value = simp ok (o.value ∙ simp fit); store_after = simp ok
+    record {
+      value = simp ok (o.value ∙ simp fit);
+      store_after = simp ok
           (delivered-as a.filter (side a.x a.w) a.n a.q _ _ _ _ _ _ (ap (λ (j : ℕ). j * a.w) c.low_waits.ensures.0) c.low_count-v.ensures
           (ap₂ (λ (g h : ℕ). g * a.w + h * c.low_count-v.result) c.rows_kept.ensures c.slot.ensures.0) (c.next_start.ensures a.w)
-          (o.store_after ∙ simp fit)) }
+          (o.store_after ∙ simp fit));
+    }
 
 pub returns : goal.returns
 returns c = let bad = sym c.next_fits.ensures ∙ c.if-next_fits.false in

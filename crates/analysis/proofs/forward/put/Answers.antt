@@ -52,9 +52,12 @@ returns-then-level_fits c =
     let p = c.slot.result * a.w in
     let room = in-room (filter_of a.filter).rows a.w c.slot.result (in_rows a.filter c.slot.result a.q c.slot.ensures.0) in
     let e = ap (λ (i : ℕ). i * a.w) c.slot.ensures.0 in
-    record { value = put-answer a.filter (side a.x a.w) a.q a.column a.n a.from (length a.run.now) (λ j. height_at a.run.now (a.from + j)) p
-          (p + a.w - p) a.store.now c.put.new.row ok e (omega arith) (omega arith) _ c.put.ensures.value; store_after = put-area a.filter (side a.x a.w) a.q a.column a.n a.from (length a.run.now) (λ j. height_at a.run.now (a.from + j)) p
-          (p + a.w - p) a.store.now c.put.new.row ok e (omega arith) (omega arith) (search rules) c.put.ensures.row_after }
+    record {
+      value = put-answer a.filter (side a.x a.w) a.q a.column a.n a.from (length a.run.now) (λ j. height_at a.run.now (a.from + j)) p
+          (p + a.w - p) a.store.now c.put.new.row ok e (omega arith) (omega arith) _ c.put.ensures.value;
+      store_after = put-area a.filter (side a.x a.w) a.q a.column a.n a.from (length a.run.now) (λ j. height_at a.run.now (a.from + j)) p
+          (p + a.w - p) a.store.now c.put.new.row ok e (omega arith) (omega arith) (search rules) c.put.ensures.row_after;
+    }
 
 pub returns : goal.returns
 returns c =

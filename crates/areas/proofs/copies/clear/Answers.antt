@@ -31,11 +31,10 @@ pub loop-i-smaller : goal.loop-i-smaller
 loop-i-smaller c = omega arith
 
 pub loop-i-preserved : goal.loop-i-preserved
-loop-i-preserved c =
-    (
-      omega arith,
-      store (pos 0) c.loop-i.invariant.1 (omega arith) (sym (front_at _ _ _ c.loop-i.i (omega arith))),
-    )
+loop-i-preserved c = (
+  omega arith,
+  store (pos 0) c.loop-i.invariant.1 (omega arith) (sym (front_at _ _ _ c.loop-i.i (omega arith))),
+)
 
 pub shape_of-area : goal.shape_of-area
 shape_of-area c = c.loop-i.invariant.1.size

@@ -32,11 +32,10 @@ pub loop-i-smaller : goal.loop-i-smaller
 loop-i-smaller c = omega arith
 
 pub loop-i-preserved : goal.loop-i-preserved
-loop-i-preserved c =
-    (
-      omega arith,
-      rw wholes-set (store (pos 0) c.loop-i.invariant.1 (omega arith) (sym (front_at _ _ _ c.loop-i.i (omega arith)))),
-    )
+loop-i-preserved c = (
+  omega arith,
+  rw wholes-set (store (pos 0) c.loop-i.invariant.1 (omega arith) (sym (front_at _ _ _ c.loop-i.i (omega arith)))),
+)
 
 pub shape_of-heights : goal.shape_of-heights
 shape_of-heights c = size-heights c.loop-i.heights c.loop-i.invariant.1

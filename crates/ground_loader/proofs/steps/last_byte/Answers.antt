@@ -81,5 +81,8 @@ returns c =
     ∙ not-false _ c.if-not-all_within.false-raw in
     let came = put ∙ sym (over-put g.l x y n g.byte d.band m one) in
     let fed = front-is m _ ∙ ap (windowed 0 m) came in
-    record { became = row-fed-by g.l x y n g.byte d.band m f.result _ _ _ _ (sym (slice_bounds-feed-end-2 c.before.before)) p.3 p.4 fed came
-          (feed-on due p.0.stop.0 n p.2.0 x _ (ap (run_fits g.l.reader.filter d.level m) fed ∙ fits)) f.ensures.store_after f.ensures.fed_step; onward = f.ensures.onward }
+    record {
+      became = row-fed-by g.l x y n g.byte d.band m f.result _ _ _ _ (sym (slice_bounds-feed-end-2 c.before.before)) p.3 p.4 fed came
+          (feed-on due p.0.stop.0 n p.2.0 x _ (ap (run_fits g.l.reader.filter d.level m) fed ∙ fits)) f.ensures.store_after f.ensures.fed_step;
+      onward = f.ensures.onward;
+    }

@@ -19,8 +19,11 @@ returns-then-d-eq0 c =
     let y = at g.row.now in
     let n = length g.store.now in
     let e = c.header_byte.ensures in
-    record { became = subst (Became (world_of g.l x y) c.header_byte.result x y)
-          (sym ((byte-by g.l g.d x y n g.byte c.requires.0.due).0 c.if-d-eq0.true)) (e.header_taken n x y); onward = e.onward }
+    record {
+      became = subst (Became (world_of g.l x y) c.header_byte.result x y)
+          (sym ((byte-by g.l g.d x y n g.byte c.requires.0.due).0 c.if-d-eq0.true)) (e.header_taken n x y);
+      onward = e.onward;
+    }
 
 pub row_byte-requires : goal.row_byte-requires
 row_byte-requires c = (c.requires.0, c.if-d-eq1.true, c.requires.1)
@@ -32,8 +35,11 @@ returns-then-d-eq1 c =
     let y = at g.row.now in
     let n = length g.store.now in
     let e = c.row_byte.ensures in
-    record { became = subst (Became (world_of g.l x y) c.row_byte.result _ _)
-          (sym ((byte-by g.l g.d x y n g.byte c.requires.0.due).1 c.if-d-eq1.true)) e.became; onward = e.onward }
+    record {
+      became = subst (Became (world_of g.l x y) c.row_byte.result _ _)
+          (sym ((byte-by g.l g.d x y n g.byte c.requires.0.due).1 c.if-d-eq1.true)) e.became;
+      onward = e.onward;
+    }
 
 pub tail_byte-requires : goal.tail_byte-requires
 tail_byte-requires c = (c.requires.0, omega (arith, c.requires.0.bytes))
@@ -45,5 +51,8 @@ returns c =
     let y = at g.row.now in
     let n = length g.store.now in
     let e = c.tail_byte.ensures in
-    record { became = subst (Became (world_of g.l x y) c.tail_byte.result x y)
-          (sym ((byte-by g.l g.d x y n g.byte c.requires.0.due).2 (omega (arith, c.requires.0.bytes)))) (e.tail_taken n x y); onward = e.onward }
+    record {
+      became = subst (Became (world_of g.l x y) c.tail_byte.result x y)
+          (sym ((byte-by g.l g.d x y n g.byte c.requires.0.due).2 (omega (arith, c.requires.0.bytes)))) (e.tail_taken n x y);
+      onward = e.onward;
+    }

@@ -40,5 +40,8 @@ returns c =
     let S = side a.start N in
     let ok = le-leb N (length a.out.now) (omega arith) in
     let has = has_more S (highs_laid S (at l) (at a.out.now)) (omega arith) in
-    record { value = simp (ok, has); out_after = simp (ok, has) (unlifted-front S (N - 0) l a.out.now lifted.new.out (omega arith) (omega arith) lifted.auto.out
-          lifted.ensures) }
+    record {
+      value = simp (ok, has);
+      out_after = simp (ok, has) (unlifted-front S (N - 0) l a.out.now lifted.new.out (omega arith) (omega arith) lifted.auto.out
+          lifted.ensures);
+    }

@@ -35,8 +35,11 @@ returns-then-is_even c =
     let test : is_even (at l 0) ≡ true =
     ap is_even (sym (read_back (at l 0) c.is_even-arg-1.given)) ∙ sym c.is_even.ensures ∙ c.if-is_even.true in
     let has = has_first S (highs_laid S (at l) (at o)) high ∙ ap (λ y. is_even (y 0)) (laid-single S high (at l) (at o)) ∙ test in
-    record { value = simp has; out_after = simp has (rw (read_back _ c.halve.type_inv, c.halve.ensures, read_back (at l 0) c.halve-arg-1.given)
-          (fronted-single S high (at l) o c.requires.1)) }
+    record {
+      value = simp has;
+      out_after = simp has (rw (read_back _ c.halve.type_inv, c.halve.ensures, read_back (at l 0) c.halve-arg-1.given)
+          (fronted-single S high (at l) o c.requires.1));
+    }
 
 pub returns-then-single_high : goal.returns-then-single_high
 returns-then-single_high c =

@@ -234,13 +234,16 @@ returns-then-n-gt0 c =
     let low = c.lows-low.result in
     let p = facts in
     let ok = le-leb N (length a.out.now) p.room in
-    record { value = simp ok; out_after = simp ok
+    record {
+      value = simp ok;
+      out_after = simp ok
           (forward-parts S x a.out.now ((put_mid 0 (c.lows-low.result - 0) c.args.out.now c.copy_evens.new.out)) ((put_mid c.lows-low.result (length c.args.line.now - c.lows-low.result) ((put_mid 0 (c.lows-low.result - 0) c.args.out.now c.copy_evens.new.out)) c.copy_evens-then-n-gt0.new.out)) c.copy_evens.new.out c.copy_evens-then-n-gt0.new.out
           c.lift.new.line low (low - 0)
           (N - 0) p.some refl p.room c.lows-low.ensures (less_none low) (less_none N)
           c.copy_evens.auto.out c.copy_evens.ensures refl
           c.copy_evens-then-n-gt0.auto.out c.copy_evens-then-n-gt0.ensures refl
-          c.lift.auto.line c.lift.ensures) }
+          c.lift.auto.line c.lift.ensures);
+    }
 
 pub returns-else-n-gt0 : goal.returns-else-n-gt0
 returns-else-n-gt0 c =

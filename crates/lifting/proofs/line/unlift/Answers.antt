@@ -39,5 +39,8 @@ returns c =
     let x = a.line.now in
     let more = c.if-n-lt2.false in
     let has = has_more (side a.start (length x)) (at x) more in
-    record { value = simp has; line_after = simp has (unlifted-by (side a.start (length x)) _ x c.unupdate_lows.new.line c.unpredict_highs.new.line refl
-          c.unupdate_lows.auto.line more c.lows-low.ensures c.unupdate_lows.ensures c.unpredict_highs.ensures) }
+    record {
+      value = simp has;
+      line_after = simp has (unlifted-by (side a.start (length x)) _ x c.unupdate_lows.new.line c.unpredict_highs.new.line refl
+          c.unupdate_lows.auto.line more c.lows-low.ensures c.unupdate_lows.ensures c.unpredict_highs.ensures);
+    }

@@ -71,5 +71,8 @@ returns c =
     let other = c.requires.4 in
     let least = to_z-of_z w32 a.least c.ranges.least in
     let most = to_z-of_z w32 a.most c.ranges.most in
-    record { value = back-tested m a.h a.l a.r a.b s v _ c.requires.0 c.requires.1 other d es ev _ _ a.least a.most _ _ least most
-          c.is_within.ensures c.is_within-2.ensures; area_after = back-stores m a.h a.l a.r a.b s v _ c.requires.0 c.requires.1 other d es ev }
+    record {
+      value = back-tested m a.h a.l a.r a.b s v _ c.requires.0 c.requires.1 other d es ev _ _ a.least a.most _ _ least most
+          c.is_within.ensures c.is_within-2.ensures;
+      area_after = back-stores m a.h a.l a.r a.b s v _ c.requires.0 c.requires.1 other d es ev;
+    }

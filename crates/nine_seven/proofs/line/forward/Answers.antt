@@ -23,6 +23,9 @@ returns c =
     let ok = le-leb N (length a.out.now) (omega arith) in
     let size = c.part_line.auto.row in
     let from = c.part_line.ensures.area in
-    record { value = simp ok; out_after = simp ok
+    record {
+      value = simp ok;
+      out_after = simp ok
           (forward-front (side a.start N) (N - 0) (at x) (at a.out.now) _ c.lift.new.line (omega arith) (omega arith)
-          c.lift.auto.line c.lift.ensures (simp ok at from)) }
+          c.lift.auto.line c.lift.ensures (simp ok at from));
+    }

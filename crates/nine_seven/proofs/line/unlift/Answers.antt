@@ -53,7 +53,9 @@ returns c =
     let x = a.line.now in
     let S = side a.start (length x) in
     let has = has_more S (at x) (omega arith) in
-    record { value = simp has; line_after = simp has
+    record {
+      value = simp has;
+      line_after = simp has
           (cc (
             c.unpredict_highs.ensures,
             c.unupdate_lows.ensures,
@@ -61,4 +63,5 @@ returns c =
             c.lows-low.ensures,
             unlifted-is S (at x)
                 (omega arith),
-          )) }
+          ));
+    }

@@ -17,8 +17,11 @@ shape_of-run-then-not-is_within c = c.loop-i.invariant.size
 
 pub returns-then-not-is_within : goal.returns-then-not-is_within
 returns-then-not-is_within c =
-    record { value = stop _ _ c.loop-i.invariant (omega arith) c.is_wide-wide.ensures c.sample_at-sample.ensures
-          (sym c.is_within.ensures ∙ not-true _ c.if-not-is_within.true-raw); run_after = stands c.loop-i.invariant }
+    record {
+      value = stop _ _ c.loop-i.invariant (omega arith) c.is_wide-wide.ensures c.sample_at-sample.ensures
+          (sym c.is_within.ensures ∙ not-true _ c.if-not-is_within.true-raw);
+      run_after = stands c.loop-i.invariant;
+    }
 
 pub bounds-run-i : goal.bounds-run-i
 bounds-run-i c = let v = c.loop-i.invariant in omega (arith, v.count, v.size)

@@ -47,12 +47,11 @@ next_of-next-requires c = (store_in _ _ (sym c.counts_fit.ensures ∙ not-false 
     (sym c.store_question-q.ensures ∙ c.if-q-ne0.false)).0
 
 pub row_question-r-requires : goal.row_question-r-requires
-row_question-r-requires c =
-    (
-      (store_in _ _ (sym c.counts_fit.ensures ∙ not-false _ c.if-not-counts_fit.false-raw)
-          (sym c.store_question-q.ensures ∙ c.if-q-ne0.false)).0,
-      c.next_of-next.ensures,
-    )
+row_question-r-requires c = (
+  (store_in _ _ (sym c.counts_fit.ensures ∙ not-false _ c.if-not-counts_fit.false-raw)
+      (sym c.store_question-q.ensures ∙ c.if-q-ne0.false)).0,
+  c.next_of-next.ensures,
+)
 
 pub returns-then-r-ne0 : goal.returns-then-r-ne0
 returns-then-r-ne0 c =

@@ -55,5 +55,8 @@ returns c =
     let a = c.args in
     let s = a.self in
     let p = c.requires in
-    record { value = drawn-reader s c.moved.result _ c.descend_from-p.result refl (enter-is _ _ _ _ _ _ c.descend_from-p.ensures) c.moved.ensures; out_after = row-handed s p.0 p.1 c.row_place-a.result a.store.now _ _ p.2 c.row_place-a.ensures.place
-          c.row_place-a.ensures.room c.draw_row.ensures }
+    record {
+      value = drawn-reader s c.moved.result _ c.descend_from-p.result refl (enter-is _ _ _ _ _ _ c.descend_from-p.ensures) c.moved.ensures;
+      out_after = row-handed s p.0 p.1 c.row_place-a.result a.store.now _ _ p.2 c.row_place-a.ensures.place
+          c.row_place-a.ensures.room c.draw_row.ensures;
+    }

@@ -54,13 +54,12 @@ next_up-requires c =
     (counts-small s counts, omega arith, omega (arith, counts.at, counts.few), c.own_level-l.ensures.0)
 
 pub want_for-requires-2 : goal.want_for-requires-2
-want_for-requires-2 c =
-    (
-      next-at c.args.self _ _ c.own_level-l.ensures.1 c.next_up.ensures,
-      c.if-self.false,
-      omega arith,
-      counts-in _ (sym c.counts_fit.ensures ∙ not-false _ c.if-not-counts_fit.false-raw),
-    )
+want_for-requires-2 c = (
+  next-at c.args.self _ _ c.own_level-l.ensures.1 c.next_up.ensures,
+  c.if-self.false,
+  omega arith,
+  counts-in _ (sym c.counts_fit.ensures ∙ not-false _ c.if-not-counts_fit.false-raw),
+)
 
 pub returns : goal.returns
 returns c =

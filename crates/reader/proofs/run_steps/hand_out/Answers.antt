@@ -57,6 +57,9 @@ returns c =
     let a = c.args in
     let s = a.s in
     let p = c.requires in
-    record { place = is-place s.filter (columns s) (rows s) (s.drawn + 1) _ c.descend_from-p.result c.placed.result
-          (enter-is _ _ _ _ _ _ c.descend_from-p.ensures) c.placed.ensures; out_after = row-handed s p.0 p.1 c.row_place-a.result a.store.now _ _ p.2 c.row_place-a.ensures.place
-          c.row_place-a.ensures.room c.draw_row.ensures }
+    record {
+      place = is-place s.filter (columns s) (rows s) (s.drawn + 1) _ c.descend_from-p.result c.placed.result
+          (enter-is _ _ _ _ _ _ c.descend_from-p.ensures) c.placed.ensures;
+      out_after = row-handed s p.0 p.1 c.row_place-a.result a.store.now _ _ p.2 c.row_place-a.ensures.place
+          c.row_place-a.ensures.room c.draw_row.ensures;
+    }

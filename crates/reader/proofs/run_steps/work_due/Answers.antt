@@ -11,8 +11,11 @@ use Rattle.reader.proofs.run_steps.work_due.Goals as goal
 pub returns-then-s-to : goal.returns-then-s-to
 returns-then-s-to c =
     let s = c.args.s in
-    record { store_after = work-due-none s.admission s.filter s.stop (columns s) (rows s) s.levels _ s.level (spot_now s).set _ c.if-s-to.true
-          ∙ settles-is s c.args.to (spot_now s).set c.requires.2 refl _; kept = kept-none _ _ }
+    record {
+      store_after = work-due-none s.admission s.filter s.stop (columns s) (rows s) s.levels _ s.level (spot_now s).set _ c.if-s-to.true
+          ∙ settles-is s c.args.to (spot_now s).set c.requires.2 refl _;
+      kept = kept-none _ _;
+    }
 
 pub work_due-requires : goal.work_due-requires
 work_due-requires c =

@@ -28,11 +28,14 @@ returns-then-out-a c =
     let p = c.requires in
     let e = c.stays.ensures in
     let some = (counts-in s p.0).deep.0 in
-    record { by_index = λ m v within.
+    record {
+      by_index = λ m v within.
           let u = row-wide (length a.store.now) m v (length a.out.now) a.done s (at a.store.now) (heights_at a.out.now) some p.0 p.1
           p.2 p.3 (sym p.6) c.if-out-a.true in
           turn-stays (length a.store.now) m v (length a.out.now) a.done s (at a.store.now) (heights_at a.out.now) a.p _ _ 12 _ _ e.0
-          e.1 e.2 e.3 p.4 u.0 (λ _ _. u.1) within p.7; own = own-stays s a.p _ e.3 p.4 p.5 }
+          e.1 e.2 e.3 p.4 u.0 (λ _ _. u.1) within p.7;
+      own = own-stays s a.p _ e.3 p.4 p.5;
+    }
 
 pub offset_bounds-out-a : goal.offset_bounds-out-a
 offset_bounds-out-a c = omega (arith, c.requires.7, c.well_formed.1.1.1.0.1)
@@ -83,8 +86,11 @@ returns c =
     let q = c.draw-q.result in
     let f = subst (λ (u : ℕ → ℤ). DrawnTo s x y u (heights_at part) q) (heights-rest from a.out.now) c.draw-q.ensures in
     let after = heights-join from a.out.now part p.7 in
-    record { by_index = λ m v within.
+    record {
+      by_index = λ m v within.
           subst (λ (o : Place). Turned n m v k (run_at a.done s x z) (run_at c.goes.result.done (reader_at s o) y (heights_at (put_mid from (k - from)
           a.out.now part))) c.goes.result.on c.goes.result.no) (sym g.1)
           (drew-turn n m v k a.done s x z some p.0 p.1 p.2 p.3 (sym p.6) (omega (arith, c.if-out-a.false)) p.7 within y (heights_at part) _ q f
-          after c.goes.result.done c.goes.result.on c.goes.result.no g.0 g.2 g.3); own = subst (λ (o : Place). Own (reader_at s o) o.at) (sym g.1) f.own }
+          after c.goes.result.done c.goes.result.on c.goes.result.no g.0 g.2 g.3);
+      own = subst (λ (o : Place). Own (reader_at s o) o.at) (sym g.1) f.own;
+    }

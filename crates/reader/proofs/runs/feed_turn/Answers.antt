@@ -31,11 +31,14 @@ returns-then-length-eq0 c =
     let e = c.stays.ensures in
     let some = (counts-in s p.0).deep.0 in
     let wanted : 0 < (state.next s).level = omega (arith, p.6.spot.level, p.7) in
-    record { by_index = λ k z wide.
+    record {
+      by_index = λ k z wide.
           let u = row-empty (length a.store.now) (length a.run.now) (at a.run.now) k a.done s (at a.store.now) z some p.0 p.1 p.2
           p.3 wanted (sym c.row_length-length.ensures ∙ c.if-length-eq0.true) in
           turn-stays (length a.store.now) (length a.run.now) (at a.run.now) k a.done s (at a.store.now) z a.p _ _ 0 _ _ e.0 e.1
-          e.2 e.3 p.4 u.0 (λ _ _. u.1) p.8 wide; own = own-stays s a.p _ e.3 p.4 p.5 }
+          e.2 e.3 p.4 u.0 (λ _ _. u.1) p.8 wide;
+      own = own-stays s a.p _ e.3 p.4 p.5;
+    }
 
 pub overflow_sub-run : goal.overflow_sub-run
 overflow_sub-run c = c.requires.8
@@ -48,11 +51,14 @@ returns-then-run-a c =
     let e = c.stays-then-run-a.ensures in
     let some = (counts-in s p.0).deep.0 in
     let wanted : 0 < (state.next s).level = omega (arith, p.6.spot.level, p.7) in
-    record { by_index = λ k z wide.
+    record {
+      by_index = λ k z wide.
           let u = row-short (length a.store.now) (length a.run.now) (at a.run.now) k a.done s (at a.store.now) z some p.0 p.1 p.2
           p.3 wanted (omega (arith, c.if-run-a.true, c.row_length-length.ensures)) in
           turn-stays (length a.store.now) (length a.run.now) (at a.run.now) k a.done s (at a.store.now) z a.p _ _ _ _ _ e.0
-          (e.1 ∙ c.where_some.ensures) e.2 e.3 p.4 u.0 (λ _ _. u.1) p.8 wide; own = own-stays s a.p _ e.3 p.4 p.5 }
+          (e.1 ∙ c.where_some.ensures) e.2 e.3 p.4 u.0 (λ _ _. u.1) p.8 wide;
+      own = own-stays s a.p _ e.3 p.4 p.5;
+    }
 
 pub slice_bounds-run_fits-end : goal.slice_bounds-run_fits-end
 slice_bounds-run_fits-end c = omega arith
@@ -77,11 +83,14 @@ returns-then-not-run_fits c =
     let long : next_length s ≤ length a.run.now - a.done.used = omega (arith, c.if-run-a.false, c.row_length-length.ensures) in
     let large = part-fits s.filter s.stop a.n.spot.level (state.next s).level a.run.now a.done.used c.row_length-length.result (next_length s)
     p.6.spot.level c.row_length-length.ensures (omega (arith, p.8)) _ c.run_fits.ensures in
-    record { by_index = λ k z wide.
+    record {
+      by_index = λ k z wide.
           let u = row-large (length a.store.now) (length a.run.now) (at a.run.now) k a.done s (at a.store.now) z some p.0 p.1 p.2
           p.3 wanted long (sym large ∙ not-true _ c.if-not-run_fits.true-raw) in
           turn-stays (length a.store.now) (length a.run.now) (at a.run.now) k a.done s (at a.store.now) z a.p _ _ _ _ _ e.0
-          (e.1 ∙ c.where_some-then-not-run_fits.ensures) e.2 e.3 p.4 u.0 (λ _ _. u.1) p.8 wide; own = own-stays s a.p _ e.3 p.4 p.5 }
+          (e.1 ∙ c.where_some-then-not-run_fits.ensures) e.2 e.3 p.4 u.0 (λ _ _. u.1) p.8 wide;
+      own = own-stays s a.p _ e.3 p.4 p.5;
+    }
 
 pub slice_bounds-feed-end : goal.slice_bounds-feed-end
 slice_bounds-feed-end c = omega arith
@@ -125,9 +134,12 @@ returns c =
     let y = at c.feed-q.new.store in
     let q = c.feed-q.result in
     let f = subst (λ (u : ℕ → ℤ). FedTo s u x y q) w c.feed-q.ensures in
-    record { by_index = λ k z wide.
+    record {
+      by_index = λ k z wide.
           subst (λ (o : Place). Turned (length a.store.now) (length a.run.now) (at a.run.now) k (run_at a.done s x z)
           (run_at c.goes.result.done (reader_at s o) y z) c.goes.result.on c.goes.result.no) (sym g.1)
           (fed-turn (length a.store.now) (length a.run.now) (at a.run.now) k a.done s x z some p.0 p.1 p.2 p.3 wanted long
           nonempty (sym small ∙ not-false _ c.if-not-run_fits.false-raw) wide p.8 y q f c.goes.result.done c.goes.result.on c.goes.result.no g.0
-          g.2 (λ e. ((g.3 e).0 ∙ ap (λ i. a.done.used + i) len, (g.3 e).1))); own = subst (λ (o : Place). Own (reader_at s o) o.at) (sym g.1) f.own }
+          g.2 (λ e. ((g.3 e).0 ∙ ap (λ i. a.done.used + i) len, (g.3 e).1)));
+      own = subst (λ (o : Place). Own (reader_at s o) o.at) (sym g.1) f.own;
+    }

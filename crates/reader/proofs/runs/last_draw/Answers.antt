@@ -28,11 +28,14 @@ returns-then-w-eq0 c =
     let p = c.requires in
     let e = c.stays.ensures in
     let fed : s.band ≡ 0 → ⊥ = λ h. omega (arith, p.3) in
-    record { by_index = λ m v within.
+    record {
+      by_index = λ m v within.
           let u = last-narrow (length a.store.now) m v (length a.out.now) a.done s (at a.store.now) (heights_at a.out.now) p.0 p.1
           p.2 fed c.if-w-eq0.true in
           turn-stays (length a.store.now) m v (length a.out.now) a.done s (at a.store.now) (heights_at a.out.now) a.p _ _ 0 _ _ e.0
-          e.1 e.2 e.3 p.4 u.0 (λ _ _. u.1) within p.6; own = own-stays s a.p _ e.3 p.4 p.5 }
+          e.1 e.2 e.3 p.4 u.0 (λ _ _. u.1) within p.6;
+      own = own-stays s a.p _ e.3 p.4 p.5;
+    }
 
 pub overflow_mul-a : goal.overflow_mul-a
 overflow_mul-a c = omega (arith, c.requires.6, c.well_formed.1.1.1.0.1)
@@ -47,11 +50,14 @@ returns-then-out-a c =
     let p = c.requires in
     let e = c.stays-then-out-a.ensures in
     let fed : s.band ≡ 0 → ⊥ = λ h. omega (arith, p.3) in
-    record { by_index = λ m v within.
+    record {
+      by_index = λ m v within.
           let u = last-wide (length a.store.now) m v (length a.out.now) a.done s (at a.store.now) (heights_at a.out.now) p.0 p.1 p.2
           fed c.if-out-a.true in
           turn-stays (length a.store.now) m v (length a.out.now) a.done s (at a.store.now) (heights_at a.out.now) a.p _ _ 12 _ _ e.0
-          e.1 e.2 e.3 p.4 u.0 (λ _ _. u.1) within p.6; own = own-stays s a.p _ e.3 p.4 p.5 }
+          e.1 e.2 e.3 p.4 u.0 (λ _ _. u.1) within p.6;
+      own = own-stays s a.p _ e.3 p.4 p.5;
+    }
 
 pub slice_bounds-limit_row-end : goal.slice_bounds-limit_row-end
 slice_bounds-limit_row-end c = room_in c.args.s _ c.requires.1
@@ -100,8 +106,11 @@ returns c =
     let alive : q.ended ≡ false = ap (λ (t : Reader). t.ended) es in
     let flat : q.level ≡ 0 = ap (λ (t : Reader). t.level) es in
     let d = g.3 alive in
-    record { by_index = λ m v within.
+    record {
+      by_index = λ m v within.
           subst (λ (o : Place). Turned n m v k (run_at a.done s x z) (run_at c.goes.result.done (reader_at s o) x (heights_at (put_mid from (k - from)
           a.out.now part))) c.goes.result.on c.goes.result.no) (sym g.1)
           (last-drew n m v k a.done s x z p.0 p.1 p.2 fed some (omega (arith, c.if-out-a.false)) p.6 within (heights_at part) _ q
-          c.goes.result.done c.goes.result.on c.goes.result.no g.0 ez after es d.0 d.1); own = subst (λ (o : Place). Own (reader_at s o) o.at) (sym g.1) (λ h. absurd (omega (arith, flat, h))) }
+          c.goes.result.done c.goes.result.on c.goes.result.no g.0 ez after es d.0 d.1);
+      own = subst (λ (o : Place). Own (reader_at s o) o.at) (sym g.1) (λ h. absurd (omega (arith, flat, h)));
+    }

@@ -25,11 +25,14 @@ returns-then-s-eq0 c =
     let s = a.s in
     let p = c.requires in
     let e = c.stays.ensures in
-    record { by_index = λ k z wide.
+    record {
+      by_index = λ k z wide.
           let u = last_empty (length a.store.now) (length a.run.now) (at a.run.now) k a.done s (at a.store.now) z p.0 p.1 p.2
           p.3 c.if-s-eq0.true in
           turn-stays (length a.store.now) (length a.run.now) (at a.run.now) k a.done s (at a.store.now) z a.p _ _ 0 _ _ e.0 e.1
-          e.2 e.3 p.4 u.0 (λ _ _. u.1) p.6 wide; own = own-stays s a.p _ e.3 p.4 p.5 }
+          e.2 e.3 p.4 u.0 (λ _ _. u.1) p.6 wide;
+      own = own-stays s a.p _ e.3 p.4 p.5;
+    }
 
 pub overflow_sub-run : goal.overflow_sub-run
 overflow_sub-run c = c.requires.6
@@ -40,11 +43,14 @@ returns-then-run-a c =
     let s = a.s in
     let p = c.requires in
     let e = c.stays-then-run-a.ensures in
-    record { by_index = λ k z wide.
+    record {
+      by_index = λ k z wide.
           let u = last-short (length a.store.now) (length a.run.now) (at a.run.now) k a.done s (at a.store.now) z p.0 p.1 p.2
           p.3 c.if-run-a.true in
           turn-stays (length a.store.now) (length a.run.now) (at a.run.now) k a.done s (at a.store.now) z a.p _ _ _ _ _ e.0
-          (e.1 ∙ c.where_some.ensures) e.2 e.3 p.4 u.0 (λ _ _. u.1) p.6 wide; own = own-stays s a.p _ e.3 p.4 p.5 }
+          (e.1 ∙ c.where_some.ensures) e.2 e.3 p.4 u.0 (λ _ _. u.1) p.6 wide;
+      own = own-stays s a.p _ e.3 p.4 p.5;
+    }
 
 pub run_fits-requires : goal.run_fits-requires
 run_fits-requires c =
@@ -58,11 +64,14 @@ returns-then-not-run_fits c =
     let e = c.stays-then-not-run_fits.ensures in
     let long : s.width ≤ length a.run.now - a.done.used = omega (arith, c.if-run-a.false) in
     let large = part-fits-at s.filter s.stop a.run.now a.done.used s.width (omega (arith, p.6)) _ c.run_fits.ensures in
-    record { by_index = λ k z wide.
+    record {
+      by_index = λ k z wide.
           let u = last-large (length a.store.now) (length a.run.now) (at a.run.now) k a.done s (at a.store.now) z p.0 p.1 p.2
           p.3 long (sym large ∙ not-true _ c.if-not-run_fits.true-raw) in
           turn-stays (length a.store.now) (length a.run.now) (at a.run.now) k a.done s (at a.store.now) z a.p _ _ _ _ _ e.0
-          (e.1 ∙ c.where_some-then-not-run_fits.ensures) e.2 e.3 p.4 u.0 (λ _ _. u.1) p.6 wide; own = own-stays s a.p _ e.3 p.4 p.5 }
+          (e.1 ∙ c.where_some-then-not-run_fits.ensures) e.2 e.3 p.4 u.0 (λ _ _. u.1) p.6 wide;
+      own = own-stays s a.p _ e.3 p.4 p.5;
+    }
 
 pub shape_of-store : goal.shape_of-store
 shape_of-store c = c.copy.auto.to
@@ -91,8 +100,11 @@ returns c =
     let alive : q.ended ≡ false = ap (λ (t : Reader). t.ended) es in
     let flat : q.level ≡ 0 = ap (λ (t : Reader). t.level) es in
     let d = g.3 alive in
-    record { by_index = λ k z wide.
+    record {
+      by_index = λ k z wide.
           subst (λ (o : Place). Turned n m (at a.run.now) k (run_at a.done s x z) (run_at c.goes.result.done (reader_at s o) y z)
           c.goes.result.on c.goes.result.no) (sym g.1)
           (last-fed n m (at a.run.now) k a.done s x z p.0 p.1 p.2 p.3 long (sym small ∙ not-false _ c.if-not-run_fits.false-raw) some wide p.6 y q
-          c.goes.result.done c.goes.result.on c.goes.result.no g.0 ey es d.0 d.1); own = subst (λ (o : Place). Own (reader_at s o) o.at) (sym g.1) (λ h. absurd (omega (arith, flat, h))) }
+          c.goes.result.done c.goes.result.on c.goes.result.no g.0 ey es d.0 d.1);
+      own = subst (λ (o : Place). Own (reader_at s o) o.at) (sym g.1) (λ h. absurd (omega (arith, flat, h)));
+    }

@@ -17,10 +17,13 @@ returns-then-q-ne0 c =
     let m = length a.run.now in
     let k = length a.out.now in
     let q = c.store_question-q.ensures in
-    record { turned = turn-stays n m (at a.run.now) k a.done a.s (at a.store.now) (heights_at a.out.now) a.p _ _ _ _ _ e.0 e.1 e.2 e.3 p.2
+    record {
+      turned = turn-stays n m (at a.run.now) k a.done a.s (at a.store.now) (heights_at a.out.now) a.p _ _ _ _ _ e.0 e.1 e.2 e.3 p.2
           (last-early n m (at a.run.now) k a.done a.s (at a.store.now) (heights_at a.out.now) p.0 _ q c.if-q-ne0.true)
           (last-says n m (at a.run.now) k a.done a.s (at a.store.now) (heights_at a.out.now) p.0 _ q c.if-q-ne0.true p.1)
-          p.4 p.5; own = own-stays a.s a.p _ e.3 p.2 p.3 }
+          p.4 p.5;
+      own = own-stays a.s a.p _ e.3 p.2 p.3;
+    }
 
 pub returns-then-s : goal.returns-then-s
 returns-then-s c =
@@ -32,8 +35,11 @@ returns-then-s c =
     let k = length a.out.now in
     let one = sym c.store_question-q.ensures ∙ c.if-q-ne0.false in
     let u = last-done n m (at a.run.now) k a.done a.s (at a.store.now) (heights_at a.out.now) p.0 one c.if-s.true in
-    record { turned = turn-stays n m (at a.run.now) k a.done a.s (at a.store.now) (heights_at a.out.now) a.p _ _ _ _ _ e.0
-          (e.1 ∙ c.where_some.ensures) e.2 e.3 p.2 u.0 (λ _ _. u.1) p.4 p.5; own = own-stays a.s a.p _ e.3 p.2 p.3 }
+    record {
+      turned = turn-stays n m (at a.run.now) k a.done a.s (at a.store.now) (heights_at a.out.now) a.p _ _ _ _ _ e.0
+          (e.1 ∙ c.where_some.ensures) e.2 e.3 p.2 u.0 (λ _ _. u.1) p.4 p.5;
+      own = own-stays a.s a.p _ e.3 p.2 p.3;
+    }
 
 pub last_feed-requires : goal.last_feed-requires
 last_feed-requires c =

@@ -16,10 +16,13 @@ returns-then-s c =
     let a = c.args in
     let p = c.requires in
     let e = c.stays.ensures in
-    record { turned = turn-stays (length a.store.now) (length a.run.now) (at a.run.now) (length a.out.now) a.done a.s (at a.store.now)
+    record {
+      turned = turn-stays (length a.store.now) (length a.run.now) (at a.run.now) (length a.out.now) a.done a.s (at a.store.now)
           (heights_at a.out.now) a.p _ _ 9 _ _ e.0 e.1 e.2 e.3 p.3
           (after-14 (length a.store.now) (length a.run.now) (at a.run.now) (length a.out.now) a.done a.s (at a.store.now)
-          (heights_at a.out.now) p.0 c.if-s.true) (λ _ h. false-not-true h c.if-s.true) p.5 p.6; own = own-stays a.s a.p _ e.3 p.3 p.4 }
+          (heights_at a.out.now) p.0 c.if-s.true) (λ _ h. false-not-true h c.if-s.true) p.5 p.6;
+      own = own-stays a.s a.p _ e.3 p.3 p.4;
+    }
 
 pub returns-then-not-place_fits : goal.returns-then-not-place_fits
 returns-then-not-place_fits c =
@@ -27,10 +30,13 @@ returns-then-not-place_fits c =
     let p = c.requires in
     let left = range-left a.s (sym c.place_fits.ensures ∙ not-true _ c.if-not-place_fits.true-raw) in
     let e = c.stays-then-not-place_fits.ensures in
-    record { turned = turn-stays (length a.store.now) (length a.run.now) (at a.run.now) (length a.out.now) a.done a.s (at a.store.now)
+    record {
+      turned = turn-stays (length a.store.now) (length a.run.now) (at a.run.now) (length a.out.now) a.done a.s (at a.store.now)
           (heights_at a.out.now) a.p _ _ 1 _ _ e.0 e.1 e.2 e.3 p.3
           (out_of_range (length a.store.now) (length a.run.now) (at a.run.now) (length a.out.now) a.done a.s (at a.store.now)
-          (heights_at a.out.now) p.0 left) (λ h _. not-fit a.s p.0 left h) p.5 p.6; own = own-stays a.s a.p _ e.3 p.3 p.4 }
+          (heights_at a.out.now) p.0 left) (λ h _. not-fit a.s p.0 left h) p.5 p.6;
+      own = own-stays a.s a.p _ e.3 p.3 p.4;
+    }
 
 pub returns-then-s-2 : goal.returns-then-s-2
 returns-then-s-2 c =
@@ -41,8 +47,11 @@ returns-then-s-2 c =
     let e = c.stays-then-s-2.ensures in
     let u = all_drawn (length a.store.now) (length a.run.now) (at a.run.now) (length a.out.now) a.done a.s (at a.store.now)
     (heights_at a.out.now) p.0 fit p.2 alive c.if-s-2.true in
-    record { turned = turn-stays (length a.store.now) (length a.run.now) (at a.run.now) (length a.out.now) a.done a.s (at a.store.now)
-          (heights_at a.out.now) a.p _ _ _ _ _ e.0 (e.1 ∙ c.where_some.ensures) e.2 e.3 p.3 u.0 (λ _ _. u.1) p.5 p.6; own = own-stays a.s a.p _ e.3 p.3 p.4 }
+    record {
+      turned = turn-stays (length a.store.now) (length a.run.now) (at a.run.now) (length a.out.now) a.done a.s (at a.store.now)
+          (heights_at a.out.now) a.p _ _ _ _ _ e.0 (e.1 ∙ c.where_some.ensures) e.2 e.3 p.3 u.0 (λ _ _. u.1) p.5 p.6;
+      own = own-stays a.s a.p _ e.3 p.3 p.4;
+    }
 
 pub next_from-n-requires : goal.next_from-n-requires
 next_from-n-requires c =

@@ -60,10 +60,13 @@ returns-then-not-complete c =
     let room = store_in (filter_of s.filter).rows (columns s) (p.level - 1 + 1) s.levels (omega (arith, near.0, c.requires.0.at)) in
     let own = fed-kept s.filter (columns s) (rows s) (p.level - 1) n p.band _ _ in
     let fed = kept-is _ _ _ _ (kept_more _ _ _ _ room own) c.put_row.ensures in
-    record { store_after = finish-not s.admission s.filter s.stop (columns s) (rows s) s.levels (p.level - 1) n p.band _ _ c.requires.3
+    record {
+      store_after = finish-not s.admission s.filter s.stop (columns s) (rows s) s.levels (p.level - 1) n p.band _ _ c.requires.3
           (not-true _ c.if-not-complete.true-raw)
           ∙ ap (λ y. finished s.admission s.filter s.stop (columns s) (rows s) s.levels (p.level - 1) n p.band y) c.put_row.ensures
-          ∙ feed-on s p due _ _ _ n (omega arith) (c.requires.1.set c.requires.2) settled; kept = kept-both _ _ _ _ c.work_due.ensures.kept fed }
+          ∙ feed-on s p due _ _ _ n (omega arith) (c.requires.1.set c.requires.2) settled;
+      kept = kept-both _ _ _ _ c.work_due.ensures.kept fed;
+    }
 
 pub work_at-requires : goal.work_at-requires
 work_at-requires c =
@@ -94,8 +97,11 @@ returns c =
     let room = store_in (filter_of s.filter).rows (columns s) (p.level - 1 + 1) s.levels (omega (arith, near.0, c.requires.0.at)) in
     let own = fed-kept s.filter (columns s) (rows s) (p.level - 1) n p.band _ _ in
     let fed = kept-is _ _ _ _ (kept_more _ _ _ _ room own) c.put_row.ensures in
-    record { store_after = c.work_at.ensures.store_after
+    record {
+      store_after = c.work_at.ensures.store_after
           ∙ finish-set s.admission s.filter s.stop (columns s) (rows s) s.levels (p.level - 1) n p.band _ _ c.requires.3
           (not-false _ c.if-not-complete.false-raw)
           ∙ ap (λ y. finished s.admission s.filter s.stop (columns s) (rows s) s.levels (p.level - 1) n p.band y) c.put_row.ensures
-          ∙ feed-on s p due _ _ _ n (omega arith) (c.requires.1.set c.requires.2) settled; kept = kept-both _ _ _ _ (kept-both _ _ _ _ c.work_due.ensures.kept fed) c.work_at.ensures.kept }
+          ∙ feed-on s p due _ _ _ n (omega arith) (c.requires.1.set c.requires.2) settled;
+      kept = kept-both _ _ _ _ (kept-both _ _ _ _ c.work_due.ensures.kept fed) c.work_at.ensures.kept;
+    }

@@ -11,8 +11,11 @@ use Rattle.reader.proofs.steps.work_all_due.Goals as goal
 pub returns-then-s-eq0 : goal.returns-then-s-eq0
 returns-then-s-eq0 c =
     let s = c.args.s in
-    record { store_after = work-due-none s.admission s.filter s.stop (columns s) (rows s) s.levels _ s.level (spot_now s).set _ (omega arith)
-          ∙ settles-is s 0 (spot_now s).set c.requires.1 refl _; kept = kept-none _ _ }
+    record {
+      store_after = work-due-none s.admission s.filter s.stop (columns s) (rows s) s.levels _ s.level (spot_now s).set _ (omega arith)
+          ∙ settles-is s 0 (spot_now s).set c.requires.1 refl _;
+      kept = kept-none _ _;
+    }
 
 pub own_level-requires : goal.own_level-requires
 own_level-requires c = (c.requires.0, omega arith)

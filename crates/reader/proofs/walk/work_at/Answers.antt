@@ -24,9 +24,12 @@ pub returns-then-not-is_there : goal.returns-then-not-is_there
 returns-then-not-is_there c =
     let a = c.args in
     let none = sym (c.is_there.ensures a.l.x) ∙ not-true _ c.if-not-is_there.true-raw in
-    record { store_after = work_none a.admission a.filter a.base (side a.x a.width) (side a.y a.height) a.levels a.drawn a.k a.l _
-          c.requires.3 none; kept = kept-none
-          _ _ }
+    record {
+      store_after = work_none a.admission a.filter a.base (side a.x a.width) (side a.y a.height) a.levels a.drawn a.k a.l _
+          c.requires.3 none;
+      kept = kept-none
+          _ _;
+    }
 
 pub offset_bounds-store-a : goal.offset_bounds-store-a
 offset_bounds-store-a c =
@@ -87,7 +90,10 @@ returns c =
     let W = side a.x a.width in
     let H = side a.y a.height in
     let there = sym (c.is_there.ensures l.x) ∙ not-false _ c.if-not-is_there.false-raw in
-    record { store_after = work-done a.admission a.filter a.base W H a.levels a.drawn a.k l s p.3 (p.0.0, p.0.2) p.1 p.2 p.4
+    record {
+      store_after = work-done a.admission a.filter a.base W H a.levels a.drawn a.k l s p.3 (p.0.0, p.0.2) p.1 p.2 p.4
           c.work_by.new.stretch
-          c.work_by.result there c.work_by.auto.stretch c.work_by.ensures.stretch_after; kept = part-kept a.filter W H a.drawn a.k a.levels l p.3 s c.work_by.new.stretch p.2 p.4 c.work_by.auto.stretch
-          c.work_by.ensures.kept }
+          c.work_by.result there c.work_by.auto.stretch c.work_by.ensures.stretch_after;
+      kept = part-kept a.filter W H a.drawn a.k a.levels l p.3 s c.work_by.new.stretch p.2 p.4 c.work_by.auto.stretch
+          c.work_by.ensures.kept;
+    }

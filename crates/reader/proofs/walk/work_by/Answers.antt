@@ -15,8 +15,11 @@ pub returns-then-admission-ne0 : goal.returns-then-admission-ne0
 returns-then-admission-ne0 c =
     let a = c.args in
     let is = c.requires (omega (arith, c.if-admission-ne0.true)) in
-    record { stretch_after = c.work_tolerant.ensures.memory
-          ∙ tolerant-work a.admission a.filter a.x a.w a.y a.h a.last a.k a.n _ (at a.stretch.now) c.if-admission-ne0.true is; kept = rows_of a.filter a.w _ _ is.0 c.work_tolerant.ensures.kept }
+    record {
+      stretch_after = c.work_tolerant.ensures.memory
+          ∙ tolerant-work a.admission a.filter a.x a.w a.y a.h a.last a.k a.n _ (at a.stretch.now) c.if-admission-ne0.true is;
+      kept = rows_of a.filter a.w _ _ is.0 c.work_tolerant.ensures.kept;
+    }
 
 pub shape_of-stretch : goal.shape_of-stretch
 shape_of-stretch c = c.work_set.auto.stretch
@@ -27,5 +30,8 @@ returns c =
     let W = side a.x a.w in
     let H = side a.y a.h in
     let room = workable_of a.filter a.last a.k W H a.n (length a.stretch.now) in
-    record { stretch_after = c.work_set.ensures.memory
-          ∙ strict-work a.admission a.filter room a.last a.k W H a.n (at a.stretch.now) c.if-admission-ne0.false; kept = c.work_set.ensures.kept }
+    record {
+      stretch_after = c.work_set.ensures.memory
+          ∙ strict-work a.admission a.filter room a.last a.k W H a.n (at a.stretch.now) c.if-admission-ne0.false;
+      kept = c.work_set.ensures.kept;
+    }

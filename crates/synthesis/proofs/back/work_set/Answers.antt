@@ -70,5 +70,10 @@ returns c =
     let long = le-leb (c.rows_kept.result * a.w) (length c.work_set.new.stretch) (omega (arith, rows, f.5, c.work_set.auto.stretch)) in
     let cleared = did _ _ _ _ long c.clear.ensures.area ∙ ap (λ (i : ℕ). fronted i (λ _. pos 0) y) rows in
     let same = c.work_set.ensures.kept in
-    record { answer = said.0; memory = said.1; kept = zeros-kept F.rows (side a.x a.w) _ y _ same cleared; left = left-zeros F.rows (side a.x
-              a.w) _ _ _ y _ room bad same cleared }
+    record {
+      answer = said.0;
+      memory = said.1;
+      kept = zeros-kept F.rows (side a.x a.w) _ y _ same cleared;
+      left = left-zeros F.rows (side a.x
+          a.w) _ _ _ y _ room bad same cleared;
+    }

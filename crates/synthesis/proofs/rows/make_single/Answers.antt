@@ -18,11 +18,14 @@ pub returns-then-not-halve_even : goal.returns-then-not-halve_even
 returns-then-not-halve_even c =
     let a = c.args in
     let at = c.row_place-a.result in
-    record { stretch_after = single-no (filter_of a.filter).rows (value_fits (filter_of a.filter)) a.k a.w a.q _
+    record {
+      stretch_after = single-no (filter_of a.filter).rows (value_fits (filter_of a.filter)) a.k a.w a.q _
           (sym (even-part (rows-some a.filter) a.w a.q at (at + a.w - at) a.stretch.now c.row_place-a.ensures.0 (omega arith)
           (omega arith))
-          ∙ sym c.halve_even.ensures.even ∙ not-true _ c.if-not-halve_even.true-raw); kept = part-kept (rows-some a.filter) a.w a.q at (at + a.w - at) a.stretch.now c.row_place-a.ensures.0 (omega arith) (omega arith)
-          c.halve_even.new.row (omega arith) }
+          ∙ sym c.halve_even.ensures.even ∙ not-true _ c.if-not-halve_even.true-raw);
+      kept = part-kept (rows-some a.filter) a.w a.q at (at + a.w - at) a.stretch.now c.row_place-a.ensures.0 (omega arith) (omega arith)
+          c.halve_even.new.row (omega arith);
+    }
 
 pub returns : goal.returns
 returns c =
@@ -32,7 +35,10 @@ returns c =
     let halved = halve-tried (rows-some a.filter) a.w a.q at (at + a.w - at) a.stretch.now c.row_place-a.ensures.0 (omega arith)
     (omega arith)
     _ c.halve_even.new.row so (omega arith) c.halve_even.ensures.row in
-    record { stretch_after = single-made (filter_of a.filter).rows (value_fits (filter_of a.filter)) a.k a.w a.q _ _ _
+    record {
+      stretch_after = single-made (filter_of a.filter).rows (value_fits (filter_of a.filter)) a.k a.w a.q _ _ _
           (sym (even-part (rows-some a.filter) a.w a.q at (at + a.w - at) a.stretch.now c.row_place-a.ensures.0 (omega arith)
           (omega arith))
-          ∙ sym c.halve_even.ensures.even ∙ so) halved c.admit_row.ensures; kept = kept-is _ _ _ _ (only_kept (only-halved (rows-some a.filter) (side 0 a.w) a.q _)) halved }
+          ∙ sym c.halve_even.ensures.even ∙ so) halved c.admit_row.ensures;
+      kept = kept-is _ _ _ _ (only_kept (only-halved (rows-some a.filter) (side 0 a.w) a.q _)) halved;
+    }

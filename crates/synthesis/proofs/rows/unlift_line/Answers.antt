@@ -17,8 +17,11 @@ returns-then-filter-eq0 c =
     let a = c.args in
     let S = side a.x (length a.line.now) in
     let x = at a.line.now in
-    record { value = c.unlift.ensures.value; line_after = c.unlift.ensures.line_after ∙ ap (λ (g : Side → (ℕ → ℤ) → ℕ → ℤ). pick (has_line_in S x) (g S x) x) (along-first a.filter
-          c.if-filter-eq0.true) }
+    record {
+      value = c.unlift.ensures.value;
+      line_after = c.unlift.ensures.line_after ∙ ap (λ (g : Side → (ℕ → ℤ) → ℕ → ℤ). pick (has_line_in S x) (g S x) x) (along-first a.filter
+          c.if-filter-eq0.true);
+    }
 
 pub shape_of-line : goal.shape_of-line
 shape_of-line c = c.unlift-2.auto.line
@@ -28,5 +31,8 @@ returns c =
     let a = c.args in
     let S = side a.x (length a.line.now) in
     let x = at a.line.now in
-    record { value = c.unlift-2.ensures.value; line_after = c.unlift-2.ensures.line_after ∙ ap (λ (g : Side → (ℕ → ℤ) → ℕ → ℤ). pick (has_line_in S x) (g S x) x) (along-second a.filter
-          c.if-filter-eq0.false) }
+    record {
+      value = c.unlift-2.ensures.value;
+      line_after = c.unlift-2.ensures.line_after ∙ ap (λ (g : Side → (ℕ → ℤ) → ℕ → ℤ). pick (has_line_in S x) (g S x) x) (along-second a.filter
+          c.if-filter-eq0.false);
+    }

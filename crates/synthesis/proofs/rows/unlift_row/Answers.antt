@@ -29,8 +29,11 @@ pub returns : goal.returns
 returns c =
     let a = c.args in
     let at = c.row_place-a.result in
-    record { stretch_after = unlift-part (rows-some a.filter) a.w a.q at (at + a.w - at) a.stretch.now c.row_place-a.ensures.0 (omega arith) (omega arith)
+    record {
+      stretch_after = unlift-part (rows-some a.filter) a.w a.q at (at + a.w - at) a.stretch.now c.row_place-a.ensures.0 (omega arith) (omega arith)
           (along_of a.filter) a.x c.unlift_line.result c.unlift_line.new.line (omega arith) c.unlift_line.ensures.value
-          c.unlift_line.ensures.line_after; kept = part-kept (rows-some a.filter) a.w a.q at (at + a.w - at) a.stretch.now c.row_place-a.ensures.0 (omega arith) (omega arith)
+          c.unlift_line.ensures.line_after;
+      kept = part-kept (rows-some a.filter) a.w a.q at (at + a.w - at) a.stretch.now c.row_place-a.ensures.0 (omega arith) (omega arith)
           c.unlift_line.new.line
-          (omega arith) }
+          (omega arith);
+    }

@@ -19,8 +19,11 @@ shape_of-stretch-then-not-unlift_set c = c.unlift_set.auto.stretch
 pub returns-then-not-unlift_set : goal.returns-then-not-unlift_set
 returns-then-not-unlift_set c =
     let a = c.args in
-    record { stretch_after = set-failed tolerant_columns a.k (side 0 a.w) (side 0 a.h) a.n _
-          (told-no c.unlift_set.result (at c.unlift_set.new.stretch) _ c.unlift_set.ensures.stretch_after (not-true _ c.if-not-unlift_set.true-raw)); kept = c.unlift_set.ensures.kept }
+    record {
+      stretch_after = set-failed tolerant_columns a.k (side 0 a.w) (side 0 a.h) a.n _
+          (told-no c.unlift_set.result (at c.unlift_set.new.stretch) _ c.unlift_set.ensures.stretch_after (not-true _ c.if-not-unlift_set.true-raw));
+      kept = c.unlift_set.ensures.kept;
+    }
 
 pub make_rows-requires : goal.make_rows-requires
 make_rows-requires c = omega arith
@@ -31,6 +34,9 @@ shape_of-stretch c = c.make_rows.auto.stretch ∙ c.unlift_set.auto.stretch
 pub returns : goal.returns
 returns c =
     let a = c.args in
-    record { stretch_after = c.make_rows.ensures.stretch_after
+    record {
+      stretch_after = c.make_rows.ensures.stretch_after
           ∙ set-passed tolerant_columns a.k (side 0 a.w) (side 0 a.h) a.n _ _
-          (told-yes c.unlift_set.result (at c.unlift_set.new.stretch) _ c.unlift_set.ensures.stretch_after (not-false _ c.if-not-unlift_set.false-raw)); kept = kept-both _ _ _ _ c.unlift_set.ensures.kept c.make_rows.ensures.kept }
+          (told-yes c.unlift_set.result (at c.unlift_set.new.stretch) _ c.unlift_set.ensures.stretch_after (not-false _ c.if-not-unlift_set.false-raw));
+      kept = kept-both _ _ _ _ c.unlift_set.ensures.kept c.make_rows.ensures.kept;
+    }

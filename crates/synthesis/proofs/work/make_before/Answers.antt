@@ -22,5 +22,8 @@ pub returns : goal.returns
 unfolding pair_of
 returns c =
     let a = c.args in
-    record { stretch_after = c.make_pair.ensures.stretch_after ∙ before-pair (columns_of a.filter) a.k a.w (side a.y a.h) a.n _ _ a.j refl
-          (omega arith); kept = c.make_pair.ensures.kept }
+    record {
+      stretch_after = c.make_pair.ensures.stretch_after ∙ before-pair (columns_of a.filter) a.k a.w (side a.y a.h) a.n _ _ a.j refl
+          (omega arith);
+      kept = c.make_pair.ensures.kept;
+    }

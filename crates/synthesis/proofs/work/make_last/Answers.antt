@@ -38,8 +38,11 @@ shape_of-stretch-then-is_single c = c.make_single.auto.stretch
 pub returns-then-is_single : goal.returns-then-is_single
 returns-then-is_single c =
     let a = c.args in
-    record { stretch_after = c.make_single.ensures.stretch_after
-          ∙ last-single (columns_of a.filter) a.k a.w (side a.y a.h) a.n _ (omega arith) (sym c.is_single.ensures ∙ c.if-is_single.true); kept = c.make_single.ensures.kept }
+    record {
+      stretch_after = c.make_single.ensures.stretch_after
+          ∙ last-single (columns_of a.filter) a.k a.w (side a.y a.h) a.n _ (omega arith) (sym c.is_single.ensures ∙ c.if-is_single.true);
+      kept = c.make_single.ensures.kept;
+    }
 
 pub overflow_mul-n-2 : goal.overflow_mul-n-2
 overflow_mul-n-2 c = omega arith
@@ -67,7 +70,10 @@ shape_of-stretch c = c.undo_odd.auto.stretch
 pub returns : goal.returns
 returns c =
     let a = c.args in
-    record { stretch_after = last-made (columns_of a.filter) a.k a.w (side a.y a.h) a.n _ _ _ (omega arith) (sym c.is_single.ensures ∙ c.if-is_single.false)
+    record {
+      stretch_after = last-made (columns_of a.filter) a.k a.w (side a.y a.h) a.n _ _ _ (omega arith) (sym c.is_single.ensures ∙ c.if-is_single.false)
           c.undo_odd.ensures
-          c.admit_row.ensures; kept = kept-is _ _ _ _ (odd-kept (columns_of a.filter) (columns-laws a.filter) a.k a.w (side a.y a.h) (2 * a.n + 1) _)
-          c.undo_odd.ensures }
+          c.admit_row.ensures;
+      kept = kept-is _ _ _ _ (odd-kept (columns_of a.filter) (columns-laws a.filter) a.k a.w (side a.y a.h) (2 * a.n + 1) _)
+          c.undo_odd.ensures;
+    }

@@ -48,8 +48,11 @@ returns-then-not-make_first c =
     let H = side a.y a.h in
     let y = at c.undo_low.new.stretch in
     let e = done-is a.k a.w H a.n (at a.stretch.now) a.filter y c.undo_low.ensures in
-    record { stretch_after = most-failed C a.k a.w H a.n y (told-no c.make_first.result y _ c.make_first.ensures (not-true _ c.if-not-make_first.true-raw))
-          ∙ ap (most_made C a.k a.w H a.n) e; kept = kept-is _ _ _ _ (done-kept C (columns-laws a.filter) a.k a.w H a.n _) e }
+    record {
+      stretch_after = most-failed C a.k a.w H a.n y (told-no c.make_first.result y _ c.make_first.ensures (not-true _ c.if-not-make_first.true-raw))
+          ∙ ap (most_made C a.k a.w H a.n) e;
+      kept = kept-is _ _ _ _ (done-kept C (columns-laws a.filter) a.k a.w H a.n _) e;
+    }
 
 pub make_before-requires : goal.make_before-requires
 make_before-requires c =
@@ -65,6 +68,9 @@ returns c =
     let H = side a.y a.h in
     let y = at c.undo_low.new.stretch in
     let e = done-is a.k a.w H a.n (at a.stretch.now) a.filter y c.undo_low.ensures in
-    record { stretch_after = c.make_before.ensures.stretch_after ∙ ap (λ (j : ℕ). pair_before C j a.k a.w H a.n y) c.look_ahead.ensures
+    record {
+      stretch_after = c.make_before.ensures.stretch_after ∙ ap (λ (j : ℕ). pair_before C j a.k a.w H a.n y) c.look_ahead.ensures
           ∙ most-passed C a.k a.w H a.n y (told-yes c.make_first.result y _ c.make_first.ensures (not-false _ c.if-not-make_first.false-raw))
-          ∙ ap (most_made C a.k a.w H a.n) e; kept = kept-both _ _ _ _ (kept-is _ _ _ _ (done-kept C (columns-laws a.filter) a.k a.w H a.n _) e) c.make_before.ensures.kept }
+          ∙ ap (most_made C a.k a.w H a.n) e;
+      kept = kept-both _ _ _ _ (kept-is _ _ _ _ (done-kept C (columns-laws a.filter) a.k a.w H a.n _) e) c.make_before.ensures.kept;
+    }

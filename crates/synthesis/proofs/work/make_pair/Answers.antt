@@ -34,10 +34,13 @@ shape_of-stretch-then-not-admit_row c = c.undo_odd.auto.stretch
 pub returns-then-not-admit_row : goal.returns-then-not-admit_row
 returns-then-not-admit_row c =
     let a = c.args in
-    record { stretch_after = pair-failed (columns_of a.filter) a.k a.w (side a.y a.h) a.m _ _ c.undo_odd.ensures c.admit_row.result
+    record {
+      stretch_after = pair-failed (columns_of a.filter) a.k a.w (side a.y a.h) a.m _ _ c.undo_odd.ensures c.admit_row.result
           c.admit_row.ensures
-          (not-true _ c.if-not-admit_row.true-raw); kept = kept-is _ _ _ _ (odd-kept (columns_of a.filter) (columns-laws a.filter) a.k a.w (side a.y a.h) (2 * a.m + 1) _)
-          c.undo_odd.ensures }
+          (not-true _ c.if-not-admit_row.true-raw);
+      kept = kept-is _ _ _ _ (odd-kept (columns_of a.filter) (columns-laws a.filter) a.k a.w (side a.y a.h) (2 * a.m + 1) _)
+          c.undo_odd.ensures;
+    }
 
 pub overflow_mul-m-3 : goal.overflow_mul-m-3
 overflow_mul-m-3 c = omega arith
@@ -54,7 +57,10 @@ shape_of-stretch c = c.undo_odd.auto.stretch
 pub returns : goal.returns
 returns c =
     let a = c.args in
-    record { stretch_after = pair-made (columns_of a.filter) a.k a.w (side a.y a.h) a.m _ _ c.undo_odd.ensures c.admit_row.result
+    record {
+      stretch_after = pair-made (columns_of a.filter) a.k a.w (side a.y a.h) a.m _ _ c.undo_odd.ensures c.admit_row.result
           c.admit_row-2.result
-          c.admit_row.ensures (not-false _ c.if-not-admit_row.false-raw) c.admit_row-2.ensures; kept = kept-is _ _ _ _ (odd-kept (columns_of a.filter) (columns-laws a.filter) a.k a.w (side a.y a.h) (2 * a.m + 1) _)
-          c.undo_odd.ensures }
+          c.admit_row.ensures (not-false _ c.if-not-admit_row.false-raw) c.admit_row-2.ensures;
+      kept = kept-is _ _ _ _ (odd-kept (columns_of a.filter) (columns-laws a.filter) a.k a.w (side a.y a.h) (2 * a.m + 1) _)
+          c.undo_odd.ensures;
+    }

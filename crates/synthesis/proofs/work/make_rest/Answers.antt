@@ -32,8 +32,11 @@ shape_of-stretch-then-not-make_own c = c.make_own.auto.stretch
 pub returns-then-not-make_own : goal.returns-then-not-make_own
 returns-then-not-make_own c =
     let a = c.args in
-    record { stretch_after = rest-failed (columns_of a.filter) a.k a.w (side a.y a.h) a.n _ (omega arith)
-          (told-no c.make_own.result (at c.make_own.new.stretch) _ c.make_own.ensures.stretch_after (not-true _ c.if-not-make_own.true-raw)); kept = c.make_own.ensures.kept }
+    record {
+      stretch_after = rest-failed (columns_of a.filter) a.k a.w (side a.y a.h) a.n _ (omega arith)
+          (told-no c.make_own.result (at c.make_own.new.stretch) _ c.make_own.ensures.stretch_after (not-true _ c.if-not-make_own.true-raw));
+      kept = c.make_own.ensures.kept;
+    }
 
 pub make_last-requires : goal.make_last-requires
 make_last-requires c = omega arith
@@ -44,6 +47,9 @@ shape_of-stretch c = c.make_last.auto.stretch ∙ c.make_own.auto.stretch
 pub returns : goal.returns
 returns c =
     let a = c.args in
-    record { stretch_after = c.make_last.ensures.stretch_after
+    record {
+      stretch_after = c.make_last.ensures.stretch_after
           ∙ rest-last (columns_of a.filter) a.k a.w (side a.y a.h) a.n _ _ (omega arith)
-          (told-yes c.make_own.result (at c.make_own.new.stretch) _ c.make_own.ensures.stretch_after (not-false _ c.if-not-make_own.false-raw)); kept = kept-both _ _ _ _ c.make_own.ensures.kept c.make_last.ensures.kept }
+          (told-yes c.make_own.result (at c.make_own.new.stretch) _ c.make_own.ensures.stretch_after (not-false _ c.if-not-make_own.false-raw));
+      kept = kept-both _ _ _ _ c.make_own.ensures.kept c.make_last.ensures.kept;
+    }

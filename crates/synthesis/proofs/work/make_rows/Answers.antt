@@ -19,8 +19,11 @@ shape_of-stretch-then-not-make_most c = c.make_most.auto.stretch
 pub returns-then-not-make_most : goal.returns-then-not-make_most
 returns-then-not-make_most c =
     let a = c.args in
-    record { stretch_after = rows-failed (columns_of a.filter) a.k a.w (side a.y a.h) a.n _
-          (told-no c.make_most.result (at c.make_most.new.stretch) _ c.make_most.ensures.stretch_after (not-true _ c.if-not-make_most.true-raw)); kept = c.make_most.ensures.kept }
+    record {
+      stretch_after = rows-failed (columns_of a.filter) a.k a.w (side a.y a.h) a.n _
+          (told-no c.make_most.result (at c.make_most.new.stretch) _ c.make_most.ensures.stretch_after (not-true _ c.if-not-make_most.true-raw));
+      kept = c.make_most.ensures.kept;
+    }
 
 pub make_rest-requires : goal.make_rest-requires
 make_rest-requires c = omega arith
@@ -31,6 +34,9 @@ shape_of-stretch c = c.make_rest.auto.stretch ∙ c.make_most.auto.stretch
 pub returns : goal.returns
 returns c =
     let a = c.args in
-    record { stretch_after = c.make_rest.ensures.stretch_after
+    record {
+      stretch_after = c.make_rest.ensures.stretch_after
           ∙ rows-passed (columns_of a.filter) a.k a.w (side a.y a.h) a.n _ _
-          (told-yes c.make_most.result (at c.make_most.new.stretch) _ c.make_most.ensures.stretch_after (not-false _ c.if-not-make_most.false-raw)); kept = kept-both _ _ _ _ c.make_most.ensures.kept c.make_rest.ensures.kept }
+          (told-yes c.make_most.result (at c.make_most.new.stretch) _ c.make_most.ensures.stretch_after (not-false _ c.if-not-make_most.false-raw));
+      kept = kept-both _ _ _ _ c.make_most.ensures.kept c.make_rest.ensures.kept;
+    }

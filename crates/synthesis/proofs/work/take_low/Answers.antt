@@ -31,5 +31,8 @@ shape_of-stretch c = c.take_low_row.auto.stretch
 pub returns : goal.returns
 returns c =
     let a = c.args in
-    record { stretch_after = take-low (filter_of a.filter).rows (side a.x a.w) (side a.y a.h) a.n _ a.last _ c.if-last.false (omega arith)
-          c.take_low_row.ensures; kept = kept-is _ _ _ _ (only_kept (only-taken (rows-some a.filter) (side a.x a.w) (side a.y a.h) a.n _)) c.take_low_row.ensures }
+    record {
+      stretch_after = take-low (filter_of a.filter).rows (side a.x a.w) (side a.y a.h) a.n _ a.last _ c.if-last.false (omega arith)
+          c.take_low_row.ensures;
+      kept = kept-is _ _ _ _ (only_kept (only-taken (rows-some a.filter) (side a.x a.w) (side a.y a.h) a.n _)) c.take_low_row.ensures;
+    }

@@ -19,8 +19,11 @@ overflow_add-n c = omega arith
 
 pub returns-then-y-h : goal.returns-then-y-h
 returns-then-y-h c = let a = c.args in
-    record { stretch_after = high-none (filter_of a.filter).rows (along_of a.filter) (side a.x a.w) (side a.y a.h) a.n _
-      c.if-y-h.true; kept = kept-none _ _ }
+    record {
+      stretch_after = high-none (filter_of a.filter).rows (along_of a.filter) (side a.x a.w) (side a.y a.h) a.n _
+          c.if-y-h.true;
+      kept = kept-none _ _;
+    }
 
 pub overflow_mul-n-2 : goal.overflow_mul-n-2
 overflow_mul-n-2 c = omega arith
@@ -37,5 +40,8 @@ shape_of-stretch c = c.unlift_row.auto.stretch
 pub returns : goal.returns
 returns c =
     let a = c.args in
-    record { stretch_after = c.unlift_row.ensures.stretch_after ∙ high-some (filter_of a.filter).rows (along_of a.filter) (side a.x a.w) (side a.y a.h) a.n _
-          (omega arith); kept = c.unlift_row.ensures.kept }
+    record {
+      stretch_after = c.unlift_row.ensures.stretch_after ∙ high-some (filter_of a.filter).rows (along_of a.filter) (side a.x a.w) (side a.y a.h) a.n _
+          (omega arith);
+      kept = c.unlift_row.ensures.kept;
+    }

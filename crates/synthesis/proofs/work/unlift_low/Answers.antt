@@ -10,8 +10,11 @@ use Rattle.synthesis.proofs.work.unlift_low.Goals as goal
 
 pub returns-then-n-y : goal.returns-then-n-y
 returns-then-n-y c = let a = c.args in
-    record { stretch_after = low-none (filter_of a.filter).rows (along_of a.filter) (side a.x a.w) (side a.y a.h) a.n _
-      (omega arith); kept = kept-none _ _ }
+    record {
+      stretch_after = low-none (filter_of a.filter).rows (along_of a.filter) (side a.x a.w) (side a.y a.h) a.n _
+          (omega arith);
+      kept = kept-none _ _;
+    }
 
 pub overflow_mul-n : goal.overflow_mul-n
 overflow_mul-n c = omega arith
@@ -25,5 +28,8 @@ shape_of-stretch c = c.unlift_row.auto.stretch
 pub returns : goal.returns
 returns c =
     let a = c.args in
-    record { stretch_after = c.unlift_row.ensures.stretch_after ∙ low-some (filter_of a.filter).rows (along_of a.filter) (side a.x a.w) (side a.y a.h) a.n _
-          (omega arith); kept = c.unlift_row.ensures.kept }
+    record {
+      stretch_after = c.unlift_row.ensures.stretch_after ∙ low-some (filter_of a.filter).rows (along_of a.filter) (side a.x a.w) (side a.y a.h) a.n _
+          (omega arith);
+      kept = c.unlift_row.ensures.kept;
+    }

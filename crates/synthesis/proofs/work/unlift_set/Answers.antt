@@ -19,8 +19,11 @@ shape_of-stretch-then-not-unlift_low c = c.unlift_low.auto.stretch
 pub returns-then-not-unlift_low : goal.returns-then-not-unlift_low
 returns-then-not-unlift_low c =
     let a = c.args in
-    record { stretch_after = set-low (filter_of a.filter).rows (along_of a.filter) (side a.x a.w) (side a.y a.h) a.n _
-          (told-no c.unlift_low.result (at c.unlift_low.new.stretch) _ c.unlift_low.ensures.stretch_after (not-true _ c.if-not-unlift_low.true-raw)); kept = c.unlift_low.ensures.kept }
+    record {
+      stretch_after = set-low (filter_of a.filter).rows (along_of a.filter) (side a.x a.w) (side a.y a.h) a.n _
+          (told-no c.unlift_low.result (at c.unlift_low.new.stretch) _ c.unlift_low.ensures.stretch_after (not-true _ c.if-not-unlift_low.true-raw));
+      kept = c.unlift_low.ensures.kept;
+    }
 
 pub unlift_high-requires : goal.unlift_high-requires
 unlift_high-requires c = omega arith
@@ -31,6 +34,9 @@ shape_of-stretch c = c.unlift_high.auto.stretch ∙ c.unlift_low.auto.stretch
 pub returns : goal.returns
 returns c =
     let a = c.args in
-    record { stretch_after = c.unlift_high.ensures.stretch_after
+    record {
+      stretch_after = c.unlift_high.ensures.stretch_after
           ∙ set-high (filter_of a.filter).rows (along_of a.filter) (side a.x a.w) (side a.y a.h) a.n _ _
-          (told-yes c.unlift_low.result (at c.unlift_low.new.stretch) _ c.unlift_low.ensures.stretch_after (not-false _ c.if-not-unlift_low.false-raw)); kept = kept-both _ _ _ _ c.unlift_low.ensures.kept c.unlift_high.ensures.kept }
+          (told-yes c.unlift_low.result (at c.unlift_low.new.stretch) _ c.unlift_low.ensures.stretch_after (not-false _ c.if-not-unlift_low.false-raw));
+      kept = kept-both _ _ _ _ c.unlift_low.ensures.kept c.unlift_high.ensures.kept;
+    }

@@ -19,5 +19,8 @@ shape_of-stretch c = c.make_set.auto.stretch ∙ c.take_low.auto.stretch
 pub returns : goal.returns
 returns c =
     let a = c.args in
-    record { stretch_after = c.make_set.ensures.stretch_after ∙ worked (columns_of a.filter) a.k (side a.x a.w) (side a.y a.h) a.n _ a.last _
-          c.take_low.ensures.stretch_after; kept = kept-both _ _ _ _ c.take_low.ensures.kept c.make_set.ensures.kept }
+    record {
+      stretch_after = c.make_set.ensures.stretch_after ∙ worked (columns_of a.filter) a.k (side a.x a.w) (side a.y a.h) a.n _ a.last _
+          c.take_low.ensures.stretch_after;
+      kept = kept-both _ _ _ _ c.take_low.ensures.kept c.make_set.ensures.kept;
+    }

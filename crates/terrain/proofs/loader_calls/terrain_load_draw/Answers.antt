@@ -30,10 +30,16 @@ returns c =
     let e = went (is_loader a.state.now) c.is_loader.result c.is_loader.ensures
     (λ (l : Loader). draw_reply_of l (length a.store.now) (at a.store.now) (length a.out.now)) (loader_of a.state.now)
     c.unpack_loader-l.result (refused 1) _ c.if-not-is_loader.false-raw c.unpack_loader-l.ensures c.draw.ensures.answer in
-    record { value = c.pack_loader_drawn.ensures.value ∙ sym (ap drawn_number e); state_after = c.pack_loader_drawn.ensures.s_after ∙ sym (ap (λ (q : Reply Handed). drawn_words q a.state.now) e); store_after = sym (went (is_loader a.state.now) c.is_loader.result c.is_loader.ensures
-              (λ (l : Loader). draw_store_of l (length a.store.now) (at a.store.now) (length a.out.now))
-              (loader_of a.state.now) c.unpack_loader-l.result (at a.store.now) _ c.if-not-is_loader.false-raw c.unpack_loader-l.ensures
-              c.draw.ensures.kept); out_after = sym (went (is_loader a.state.now) c.is_loader.result c.is_loader.ensures
-                (λ (l : Loader). draw_area_of l (length a.store.now) (at a.store.now) (length a.out.now) (heights_at a.out.now))
-                (loader_of a.state.now) c.unpack_loader-l.result (heights_at a.out.now) _ c.if-not-is_loader.false-raw
-                c.unpack_loader-l.ensures c.draw.ensures.heights); drawn_after = c.pack_loader_drawn.ensures.drawn_after ∙ sym (ap (λ (q : Reply Handed). drawn_of q a.drawn.now) e) }
+    record {
+      value = c.pack_loader_drawn.ensures.value ∙ sym (ap drawn_number e);
+      state_after = c.pack_loader_drawn.ensures.s_after ∙ sym (ap (λ (q : Reply Handed). drawn_words q a.state.now) e);
+      store_after = sym (went (is_loader a.state.now) c.is_loader.result c.is_loader.ensures
+          (λ (l : Loader). draw_store_of l (length a.store.now) (at a.store.now) (length a.out.now))
+          (loader_of a.state.now) c.unpack_loader-l.result (at a.store.now) _ c.if-not-is_loader.false-raw c.unpack_loader-l.ensures
+          c.draw.ensures.kept);
+      out_after = sym (went (is_loader a.state.now) c.is_loader.result c.is_loader.ensures
+          (λ (l : Loader). draw_area_of l (length a.store.now) (at a.store.now) (length a.out.now) (heights_at a.out.now))
+          (loader_of a.state.now) c.unpack_loader-l.result (heights_at a.out.now) _ c.if-not-is_loader.false-raw
+          c.unpack_loader-l.ensures c.draw.ensures.heights);
+      drawn_after = c.pack_loader_drawn.ensures.drawn_after ∙ sym (ap (λ (q : Reply Handed). drawn_of q a.drawn.now) e);
+    }

@@ -32,12 +32,18 @@ returns c =
     (ran (length a.store.now) a.run.now (world_of l (at a.store.now) (at a.row.now))))
     (loader_of a.state.now) c.unpack_loader-l.result (loader.turned 1) _ c.if-not-is_loader.false-raw c.unpack_loader-l.ensures
     c.take.ensures.answer in
-    record { value = c.pack_loaded.ensures.value ∙ sym (ap taken_number e); state_after = c.pack_loaded.ensures.s_after ∙ sym (ap (λ (q : Answer). loaded_words q a.state.now) e); store_after = sym (went (is_loader a.state.now) c.is_loader.result c.is_loader.ensures
-              (λ (l : Loader). take_store (take_question l (length a.store.now) (length a.row.now))
-              (ran (length a.store.now) a.run.now (world_of l (at a.store.now) (at a.row.now))) (at a.store.now))
-              (loader_of a.state.now) c.unpack_loader-l.result (at a.store.now) _ c.if-not-is_loader.false-raw c.unpack_loader-l.ensures
-              c.take.ensures.kept); row_after = sym (went (is_loader a.state.now) c.is_loader.result c.is_loader.ensures
-                (λ (l : Loader). take_row (take_question l (length a.store.now) (length a.row.now))
-                (ran (length a.store.now) a.run.now (world_of l (at a.store.now) (at a.row.now))) (at a.row.now))
-                (loader_of a.state.now) c.unpack_loader-l.result (at a.row.now) _ c.if-not-is_loader.false-raw
-                c.unpack_loader-l.ensures c.take.ensures.came); taken_after = c.pack_loaded.ensures.taken_after ∙ sym (ap (λ (q : Answer). taken_of q a.taken.now) e) }
+    record {
+      value = c.pack_loaded.ensures.value ∙ sym (ap taken_number e);
+      state_after = c.pack_loaded.ensures.s_after ∙ sym (ap (λ (q : Answer). loaded_words q a.state.now) e);
+      store_after = sym (went (is_loader a.state.now) c.is_loader.result c.is_loader.ensures
+          (λ (l : Loader). take_store (take_question l (length a.store.now) (length a.row.now))
+          (ran (length a.store.now) a.run.now (world_of l (at a.store.now) (at a.row.now))) (at a.store.now))
+          (loader_of a.state.now) c.unpack_loader-l.result (at a.store.now) _ c.if-not-is_loader.false-raw c.unpack_loader-l.ensures
+          c.take.ensures.kept);
+      row_after = sym (went (is_loader a.state.now) c.is_loader.result c.is_loader.ensures
+          (λ (l : Loader). take_row (take_question l (length a.store.now) (length a.row.now))
+          (ran (length a.store.now) a.run.now (world_of l (at a.store.now) (at a.row.now))) (at a.row.now))
+          (loader_of a.state.now) c.unpack_loader-l.result (at a.row.now) _ c.if-not-is_loader.false-raw
+          c.unpack_loader-l.ensures c.take.ensures.came);
+      taken_after = c.pack_loaded.ensures.taken_after ∙ sym (ap (λ (q : Answer). taken_of q a.taken.now) e);
+    }

@@ -32,10 +32,16 @@ returns c =
     let e = went (is_reader a.state.now) c.is_reader.result c.is_reader.ensures
     (λ (r : Reader). draw_reply r (draw_question r (length a.store.now) (at a.store.now) (length a.out.now))) (reader_of a.state.now)
     c.unpack_reader-s.result (refused 1) _ c.if-not-is_reader.false-raw c.unpack_reader-s.ensures c.draw.ensures.answer in
-    record { value = c.pack_drawn.ensures.value ∙ sym (ap number e); state_after = c.pack_drawn.ensures.s_after.0 ∙ drawn-words a.state.now c.pack_drawn.ensures.s_after.1 _ _ _ _ e; store_after = sym (went (is_reader a.state.now) c.is_reader.result c.is_reader.ensures
-              (λ (r : Reader). draw_store r (draw_question r (length a.store.now) (at a.store.now) (length a.out.now)) (at a.store.now))
-              (reader_of a.state.now) c.unpack_reader-s.result (at a.store.now) _ c.if-not-is_reader.false-raw c.unpack_reader-s.ensures
-              c.draw.ensures.kept); out_after = sym (went (is_reader a.state.now) c.is_reader.result c.is_reader.ensures
-                (λ (r : Reader). draw_area r (draw_question r (length a.store.now) (at a.store.now) (length a.out.now)) (at a.store.now)
-                (heights_at a.out.now)) (reader_of a.state.now) c.unpack_reader-s.result (heights_at a.out.now) _ c.if-not-is_reader.false-raw
-                c.unpack_reader-s.ensures c.draw.ensures.heights); drawn_after = c.pack_drawn.ensures.drawn_after ∙ sym (ap (λ (q : Reply Handed). count_of q a.drawn.now) e) }
+    record {
+      value = c.pack_drawn.ensures.value ∙ sym (ap number e);
+      state_after = c.pack_drawn.ensures.s_after.0 ∙ drawn-words a.state.now c.pack_drawn.ensures.s_after.1 _ _ _ _ e;
+      store_after = sym (went (is_reader a.state.now) c.is_reader.result c.is_reader.ensures
+          (λ (r : Reader). draw_store r (draw_question r (length a.store.now) (at a.store.now) (length a.out.now)) (at a.store.now))
+          (reader_of a.state.now) c.unpack_reader-s.result (at a.store.now) _ c.if-not-is_reader.false-raw c.unpack_reader-s.ensures
+          c.draw.ensures.kept);
+      out_after = sym (went (is_reader a.state.now) c.is_reader.result c.is_reader.ensures
+          (λ (r : Reader). draw_area r (draw_question r (length a.store.now) (at a.store.now) (length a.out.now)) (at a.store.now)
+          (heights_at a.out.now)) (reader_of a.state.now) c.unpack_reader-s.result (heights_at a.out.now) _ c.if-not-is_reader.false-raw
+          c.unpack_reader-s.ensures c.draw.ensures.heights);
+      drawn_after = c.pack_drawn.ensures.drawn_after ∙ sym (ap (λ (q : Reply Handed). count_of q a.drawn.now) e);
+    }

@@ -28,7 +28,11 @@ returns c =
     (λ (r : Reader). feed_reply r (feed_question r (length a.store.now) (at a.store.now) (length a.run.now) (at a.run.now)))
     (reader_of a.state.now) c.unpack_reader-s.result (refused 1) _ c.if-not-is_reader.false-raw c.unpack_reader-s.ensures
     c.feed.ensures.answer in
-    record { value = c.pack_fed.ensures.value ∙ sym (ap number e); state_after = c.pack_fed.ensures.s_after.0 ∙ fed-words a.state.now c.pack_fed.ensures.s_after.1 _ _ _ _ _ e; store_after = sym (went (is_reader a.state.now) c.is_reader.result c.is_reader.ensures
-            (λ (r : Reader). feed_store r (feed_question r (length a.store.now) (at a.store.now) (length a.run.now) (at a.run.now))
-            (at a.run.now) (at a.store.now)) (reader_of a.state.now) c.unpack_reader-s.result (at a.store.now) _
-            c.if-not-is_reader.false-raw c.unpack_reader-s.ensures c.feed.ensures.kept) }
+    record {
+      value = c.pack_fed.ensures.value ∙ sym (ap number e);
+      state_after = c.pack_fed.ensures.s_after.0 ∙ fed-words a.state.now c.pack_fed.ensures.s_after.1 _ _ _ _ _ e;
+      store_after = sym (went (is_reader a.state.now) c.is_reader.result c.is_reader.ensures
+          (λ (r : Reader). feed_store r (feed_question r (length a.store.now) (at a.store.now) (length a.run.now) (at a.run.now))
+          (at a.run.now) (at a.store.now)) (reader_of a.state.now) c.unpack_reader-s.result (at a.store.now) _
+          c.if-not-is_reader.false-raw c.unpack_reader-s.ensures c.feed.ensures.kept);
+    }

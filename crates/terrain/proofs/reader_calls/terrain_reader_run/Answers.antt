@@ -40,12 +40,18 @@ returns c =
     a.store.now) (length a.run.now) (at a.run.now) (length a.out.now) (at a.store.now) (heights_at a.out.now)))
     (reader_of a.state.now)
     c.unpack_reader-s.result (refused 1) _ c.if-not-is_reader.false-raw c.unpack_reader-s.ensures c.run.ensures.result_value in
-    record { value = c.pack_ran.ensures.value ∙ sym (ap ran_number e); state_after = c.pack_ran.ensures.s_after ∙ sym (ap (λ (q : Reply Progress). ran_words q a.state.now) e); store_after = sym (picked (left_by (λ p. p.world.store) (at a.store.now)) (is_reader a.state.now) _
-              ∙ went (is_reader a.state.now) c.is_reader.result c.is_reader.ensures (λ (w : Reader). left_by (λ p. p.world.store) (at
-              a.store.now) (run_reply w (length a.store.now) (length a.run.now) (at a.run.now) (length a.out.now) (at a.store.now)
-              (heights_at a.out.now))) (reader_of a.state.now)
-              c.unpack_reader-s.result (at a.store.now) _ c.if-not-is_reader.false-raw c.unpack_reader-s.ensures c.run.ensures.store_after); out_after = sym (picked (left_by (λ p. p.area) (heights_at a.out.now)) (is_reader a.state.now) _
-                ∙ went (is_reader a.state.now) c.is_reader.result c.is_reader.ensures (λ (w : Reader). left_by (λ p. p.area)
-                (heights_at a.out.now) (run_reply w (length a.store.now) (length a.run.now) (at a.run.now) (length a.out.now)
-                (at a.store.now) (heights_at a.out.now))) (reader_of a.state.now)
-                c.unpack_reader-s.result (heights_at a.out.now) _ c.if-not-is_reader.false-raw c.unpack_reader-s.ensures c.run.ensures.out_after); counts_after = c.pack_ran.ensures.counts_after ∙ sym (ap (λ (q : Reply Progress). counts_of q a.counts.now) e) }
+    record {
+      value = c.pack_ran.ensures.value ∙ sym (ap ran_number e);
+      state_after = c.pack_ran.ensures.s_after ∙ sym (ap (λ (q : Reply Progress). ran_words q a.state.now) e);
+      store_after = sym (picked (left_by (λ p. p.world.store) (at a.store.now)) (is_reader a.state.now) _
+          ∙ went (is_reader a.state.now) c.is_reader.result c.is_reader.ensures (λ (w : Reader). left_by (λ p. p.world.store) (at
+          a.store.now) (run_reply w (length a.store.now) (length a.run.now) (at a.run.now) (length a.out.now) (at a.store.now)
+          (heights_at a.out.now))) (reader_of a.state.now)
+          c.unpack_reader-s.result (at a.store.now) _ c.if-not-is_reader.false-raw c.unpack_reader-s.ensures c.run.ensures.store_after);
+      out_after = sym (picked (left_by (λ p. p.area) (heights_at a.out.now)) (is_reader a.state.now) _
+          ∙ went (is_reader a.state.now) c.is_reader.result c.is_reader.ensures (λ (w : Reader). left_by (λ p. p.area)
+          (heights_at a.out.now) (run_reply w (length a.store.now) (length a.run.now) (at a.run.now) (length a.out.now)
+          (at a.store.now) (heights_at a.out.now))) (reader_of a.state.now)
+          c.unpack_reader-s.result (heights_at a.out.now) _ c.if-not-is_reader.false-raw c.unpack_reader-s.ensures c.run.ensures.out_after);
+      counts_after = c.pack_ran.ensures.counts_after ∙ sym (ap (λ (q : Reply Progress). counts_of q a.counts.now) e);
+    }

@@ -33,8 +33,14 @@ returns c =
     went (is_writer a.state.now) c.is_writer.result c.is_writer.ensures
     (λ (w : Writer). draw_reply w (length a.store.now) (length a.out.now) (at a.store.now)) (writer_of a.state.now) c.unpack_writer-w.result
     (refused 1) _ c.if-not-is_writer.false-raw c.unpack_writer-w.ensures c.draw.ensures.result_value in
-    record { value = c.pack_drawn.ensures.value ∙ sym (ap number e); state_after = c.pack_drawn.ensures.s_after.0 ∙ drawn-words a.state.now c.pack_drawn.ensures.s_after.1 _ _ _ _ e; store_after = sym (went (is_writer a.state.now) c.is_writer.result c.is_writer.ensures
-              (λ (w : Writer). draw_store w (length a.store.now) (length a.out.now) (at a.store.now)) (writer_of a.state.now)
-              c.unpack_writer-w.result (at a.store.now) _ c.if-not-is_writer.false-raw c.unpack_writer-w.ensures c.draw.ensures.store_after); out_after = sym (went (is_writer a.state.now) c.is_writer.result c.is_writer.ensures
-                (λ (w : Writer). draw_area w (length a.store.now) (length a.out.now) (at a.store.now) (at a.out.now)) (writer_of a.state.now)
-                c.unpack_writer-w.result (at a.out.now) _ c.if-not-is_writer.false-raw c.unpack_writer-w.ensures c.draw.ensures.out_after); row_after = c.pack_drawn.ensures.row_after ∙ sym (ap (λ (q : Reply Handed). row_of q a.row.now) e) }
+    record {
+      value = c.pack_drawn.ensures.value ∙ sym (ap number e);
+      state_after = c.pack_drawn.ensures.s_after.0 ∙ drawn-words a.state.now c.pack_drawn.ensures.s_after.1 _ _ _ _ e;
+      store_after = sym (went (is_writer a.state.now) c.is_writer.result c.is_writer.ensures
+          (λ (w : Writer). draw_store w (length a.store.now) (length a.out.now) (at a.store.now)) (writer_of a.state.now)
+          c.unpack_writer-w.result (at a.store.now) _ c.if-not-is_writer.false-raw c.unpack_writer-w.ensures c.draw.ensures.store_after);
+      out_after = sym (went (is_writer a.state.now) c.is_writer.result c.is_writer.ensures
+          (λ (w : Writer). draw_area w (length a.store.now) (length a.out.now) (at a.store.now) (at a.out.now)) (writer_of a.state.now)
+          c.unpack_writer-w.result (at a.out.now) _ c.if-not-is_writer.false-raw c.unpack_writer-w.ensures c.draw.ensures.out_after);
+      row_after = c.pack_drawn.ensures.row_after ∙ sym (ap (λ (q : Reply Handed). row_of q a.row.now) e);
+    }

@@ -28,9 +28,13 @@ returns-in-Closed c =
     (writer_of a.state.now) c.unpack_writer-w.result (refused 1) _ c.if-not-is_writer.false-raw c.unpack_writer-w.ensures
     c.finish.ensures.result_value
     ∙ ap of_finished c.in-Closed.is in
-    record { value = sym (ap number e); state_after = c.pack_writer.ensures ∙ sym (ap (λ (q : Reply Writer). state_of q a.state.now) e); store_after = sym (went (is_writer a.state.now) c.is_writer.result c.is_writer.ensures
-            (λ (w : Writer). finish_store w (length a.store.now) (at a.store.now)) (writer_of a.state.now) c.unpack_writer-w.result
-            (at a.store.now) _ c.if-not-is_writer.false-raw c.unpack_writer-w.ensures c.finish.ensures.store_after) }
+    record {
+      value = sym (ap number e);
+      state_after = c.pack_writer.ensures ∙ sym (ap (λ (q : Reply Writer). state_of q a.state.now) e);
+      store_after = sym (went (is_writer a.state.now) c.is_writer.result c.is_writer.ensures
+          (λ (w : Writer). finish_store w (length a.store.now) (at a.store.now)) (writer_of a.state.now) c.unpack_writer-w.result
+          (at a.store.now) _ c.if-not-is_writer.false-raw c.unpack_writer-w.ensures c.finish.ensures.store_after);
+    }
 
 pub returns-in-Refused : goal.returns-in-Refused
 returns-in-Refused c =
@@ -40,6 +44,10 @@ returns-in-Refused c =
     (writer_of a.state.now) c.unpack_writer-w.result (refused 1) _ c.if-not-is_writer.false-raw c.unpack_writer-w.ensures
     c.finish.ensures.result_value
     ∙ ap of_finished c.in-Refused.is in
-    record { value = sym (ap number e); state_after = sym (ap (λ (q : Reply Writer). state_of q a.state.now) e); store_after = sym (went (is_writer a.state.now) c.is_writer.result c.is_writer.ensures
-            (λ (w : Writer). finish_store w (length a.store.now) (at a.store.now)) (writer_of a.state.now) c.unpack_writer-w.result
-            (at a.store.now) _ c.if-not-is_writer.false-raw c.unpack_writer-w.ensures c.finish.ensures.store_after) }
+    record {
+      value = sym (ap number e);
+      state_after = sym (ap (λ (q : Reply Writer). state_of q a.state.now) e);
+      store_after = sym (went (is_writer a.state.now) c.is_writer.result c.is_writer.ensures
+          (λ (w : Writer). finish_store w (length a.store.now) (at a.store.now)) (writer_of a.state.now) c.unpack_writer-w.result
+          (at a.store.now) _ c.if-not-is_writer.false-raw c.unpack_writer-w.ensures c.finish.ensures.store_after);
+    }

@@ -30,6 +30,11 @@ returns c =
     went (is_writer a.state.now) c.is_writer.result c.is_writer.ensures
     (λ (w : Writer). offer_reply w (length a.store.now) a.run.now (at a.store.now)) (writer_of a.state.now) c.unpack_writer-w.result
     (refused 1) _ c.if-not-is_writer.false-raw c.unpack_writer-w.ensures c.offer.ensures.result_value in
-    record { value = c.pack_offered.ensures.value ∙ sym (ap number e); state_after = c.pack_offered.ensures.s_after.0 ∙ offered-words a.state.now c.pack_offered.ensures.s_after.1 _ _ _ _ e; store_after = sym (went (is_writer a.state.now) c.is_writer.result c.is_writer.ensures
-              (λ (w : Writer). offer_store w (length a.store.now) a.run.now (at a.store.now)) (writer_of a.state.now) c.unpack_writer-w.result
-              (at a.store.now) _ c.if-not-is_writer.false-raw c.unpack_writer-w.ensures c.offer.ensures.store_after); taken_after = c.pack_offered.ensures.taken_after ∙ sym (ap (λ (q : Reply Took). taken_of q a.taken.now) e) }
+    record {
+      value = c.pack_offered.ensures.value ∙ sym (ap number e);
+      state_after = c.pack_offered.ensures.s_after.0 ∙ offered-words a.state.now c.pack_offered.ensures.s_after.1 _ _ _ _ e;
+      store_after = sym (went (is_writer a.state.now) c.is_writer.result c.is_writer.ensures
+          (λ (w : Writer). offer_store w (length a.store.now) a.run.now (at a.store.now)) (writer_of a.state.now) c.unpack_writer-w.result
+          (at a.store.now) _ c.if-not-is_writer.false-raw c.unpack_writer-w.ensures c.offer.ensures.store_after);
+      taken_after = c.pack_offered.ensures.taken_after ∙ sym (ap (λ (q : Reply Took). taken_of q a.taken.now) e);
+    }

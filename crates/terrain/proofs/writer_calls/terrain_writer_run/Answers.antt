@@ -41,16 +41,23 @@ returns c =
     ∙ went (is_writer a.state.now) c.is_writer.result c.is_writer.ensures (λ (w : Writer). seen progress (run_reply w (length
     a.store.now) a.heights.now (length a.out.now) (at a.store.now) (at a.out.now) a.names.now)) (writer_of a.state.now)
     c.unpack_writer-w.result (refused 1) _ c.if-not-is_writer.false-raw c.unpack_writer-w.ensures c.run.ensures.result_value in
-    record { value = c.pack_ran.ensures.value ∙ sym (ap number e); state_after = c.pack_ran.ensures.s_after ∙ sym (ap (λ (q : Reply Progress). ran_words q a.state.now) e); store_after = sym (picked (left_by (λ p. p.world.store) (at a.store.now)) (is_writer a.state.now) _
-              ∙ went (is_writer a.state.now) c.is_writer.result c.is_writer.ensures (λ (w : Writer). left_by (λ p. p.world.store) (at
-              a.store.now) (run_reply w (length a.store.now) a.heights.now (length a.out.now) (at a.store.now) (at a.out.now)
-              a.names.now)) (writer_of a.state.now)
-              c.unpack_writer-w.result (at a.store.now) _ c.if-not-is_writer.false-raw c.unpack_writer-w.ensures c.run.ensures.store_after); out_after = sym (picked (left_by (λ p. p.area) (at a.out.now)) (is_writer a.state.now) _
-                ∙ went (is_writer a.state.now) c.is_writer.result c.is_writer.ensures (λ (w : Writer). left_by (λ p. p.area) (at a.out.now)
-                (run_reply w (length a.store.now) a.heights.now (length a.out.now) (at a.store.now) (at a.out.now) a.names.now))
-                (writer_of a.state.now)
-                c.unpack_writer-w.result (at a.out.now) _ c.if-not-is_writer.false-raw c.unpack_writer-w.ensures c.run.ensures.out_after); names_after = sym (picked (left_by (λ p. p.names) a.names.now) (is_writer a.state.now) _
-                  ∙ went (is_writer a.state.now) c.is_writer.result c.is_writer.ensures (λ (w : Writer). left_by (λ p. p.names) a.names.now
-                  (run_reply w (length a.store.now) a.heights.now (length a.out.now) (at a.store.now) (at a.out.now) a.names.now))
-                  (writer_of a.state.now)
-                  c.unpack_writer-w.result a.names.now _ c.if-not-is_writer.false-raw c.unpack_writer-w.ensures c.run.ensures.names_after); counts_after = c.pack_ran.ensures.counts_after ∙ sym (ap (λ (q : Reply Progress). counts_of q a.counts.now) e) }
+    record {
+      value = c.pack_ran.ensures.value ∙ sym (ap number e);
+      state_after = c.pack_ran.ensures.s_after ∙ sym (ap (λ (q : Reply Progress). ran_words q a.state.now) e);
+      store_after = sym (picked (left_by (λ p. p.world.store) (at a.store.now)) (is_writer a.state.now) _
+          ∙ went (is_writer a.state.now) c.is_writer.result c.is_writer.ensures (λ (w : Writer). left_by (λ p. p.world.store) (at
+          a.store.now) (run_reply w (length a.store.now) a.heights.now (length a.out.now) (at a.store.now) (at a.out.now)
+          a.names.now)) (writer_of a.state.now)
+          c.unpack_writer-w.result (at a.store.now) _ c.if-not-is_writer.false-raw c.unpack_writer-w.ensures c.run.ensures.store_after);
+      out_after = sym (picked (left_by (λ p. p.area) (at a.out.now)) (is_writer a.state.now) _
+          ∙ went (is_writer a.state.now) c.is_writer.result c.is_writer.ensures (λ (w : Writer). left_by (λ p. p.area) (at a.out.now)
+          (run_reply w (length a.store.now) a.heights.now (length a.out.now) (at a.store.now) (at a.out.now) a.names.now))
+          (writer_of a.state.now)
+          c.unpack_writer-w.result (at a.out.now) _ c.if-not-is_writer.false-raw c.unpack_writer-w.ensures c.run.ensures.out_after);
+      names_after = sym (picked (left_by (λ p. p.names) a.names.now) (is_writer a.state.now) _
+          ∙ went (is_writer a.state.now) c.is_writer.result c.is_writer.ensures (λ (w : Writer). left_by (λ p. p.names) a.names.now
+          (run_reply w (length a.store.now) a.heights.now (length a.out.now) (at a.store.now) (at a.out.now) a.names.now))
+          (writer_of a.state.now)
+          c.unpack_writer-w.result a.names.now _ c.if-not-is_writer.false-raw c.unpack_writer-w.ensures c.run.ensures.names_after);
+      counts_after = c.pack_ran.ensures.counts_after ∙ sym (ap (λ (q : Reply Progress). counts_of q a.counts.now) e);
+    }

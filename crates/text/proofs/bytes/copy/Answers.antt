@@ -21,5 +21,8 @@ pub returns-else-n-gt0 : goal.returns-else-n-gt0
 returns-else-n-gt0 c =
     let a = c.args in
     let z : c.some-n.result ≡ 0 = omega arith in
-    record { value = c.some-n.ensures; out_after = paste-zero a.out.now a.at (drop a.from a.text.now)
-          ∙ ap (paste a.out.now a.at (drop a.from a.text.now)) (sym z) }
+    record {
+      value = c.some-n.ensures;
+      out_after = paste-zero a.out.now a.at (drop a.from a.text.now)
+          ∙ ap (paste a.out.now a.at (drop a.from a.text.now)) (sym z);
+    }

@@ -25,8 +25,11 @@ returns-then-has_room c =
 
 pub returns : goal.returns
 returns c =
-    record { puts = puts_none _ _ _ (omega (
+    record {
+      puts = puts_none _ _ _ (omega (
         arith,
         c.digits-count.ensures,
         fits_not (c.args.at + c.digits-count.result) (length c.args.out.now) c.has_room.ensures c.if-has_room.false,
-      )); n_len_bound = twenty c.args.n c.ranges.n.fits }
+      ));
+      n_len_bound = twenty c.args.n c.ranges.n.fits;
+    }

@@ -35,17 +35,23 @@ overflow_add-digits c = omega (arith, c.digits.ensures, twenty c.args.number c.r
 pub returns-then-has_room : goal.returns-then-has_room
 returns-then-has_room c =
     let a = c.args in
-    record { puts = puts_whole (whole a.number a.at _ c.digits.ensures
+    record {
+      puts = puts_whole (whole a.number a.at _ c.digits.ensures
           (fits (a.at + (9 + c.digits.result)) (length a.out.now) c.has_room.ensures c.if-has_room.true)
-          c.put_bytes-word.ensures c.put_number-end.ensures.puts c.put_byte.ensures); number_len_bound = omega (arith, refused-length a.number, c.put_number-end.ensures.n_len_bound) }
+          c.put_bytes-word.ensures c.put_number-end.ensures.puts c.put_byte.ensures);
+      number_len_bound = omega (arith, refused-length a.number, c.put_number-end.ensures.n_len_bound);
+    }
 
 pub returns : goal.returns
 returns c =
     let a = c.args in
-    record { puts = puts_none _ _ _
+    record {
+      puts = puts_none _ _ _
           (omega (
             arith,
             refused-length a.number,
             c.digits.ensures,
             fits_not (a.at + (9 + c.digits.result)) (length a.out.now) c.has_room.ensures c.if-has_room.false,
-          )); number_len_bound = omega (arith, refused-length a.number, twenty a.number c.ranges.number.fits) }
+          ));
+      number_len_bound = omega (arith, refused-length a.number, twenty a.number c.ranges.number.fits);
+    }

@@ -32,10 +32,15 @@ returns c = let a = c.args in
     let one : a.done.rows + 1 < 2 ^ 64 = omega (arith, overflow_mul-b c.before.before.before.before.before.before.before) in
     let two : a.done.numbers + a.r.length < 2 ^ 64 = omega
     (arith, c.well_formed.1.1.0.1) in
-    record { value = sym (simp (
+    record {
+      value = sym (simp (
         le-leb a.r.length (length a.out.now - a.done.numbers) (omega arith),
         lt-ltb a.done.rows (length a.names.now / 4)
             (omega arith),
-      )); out_after = at_join a.done.numbers a.out.now c.hand_out.new.out (omega arith)
-            ∙ ap (join_at a.done.numbers (at a.out.now))
-            (c.hand_out.ensures ∙ ap (fronted a.r.length (λ j. at a.store.now (a.r.start + j))) (at_rest a.done.numbers a.out.now)); names_after = put-named a.done.rows (row_at a.r) a.names.now c.put_name.new.names (omega arith) c.put_name.ensures; rows_bound = λ _. (one, two) }
+      ));
+      out_after = at_join a.done.numbers a.out.now c.hand_out.new.out (omega arith)
+          ∙ ap (join_at a.done.numbers (at a.out.now))
+          (c.hand_out.ensures ∙ ap (fronted a.r.length (λ j. at a.store.now (a.r.start + j))) (at_rest a.done.numbers a.out.now));
+      names_after = put-named a.done.rows (row_at a.r) a.names.now c.put_name.new.names (omega arith) c.put_name.ensures;
+      rows_bound = λ _. (one, two);
+    }

@@ -26,6 +26,9 @@ shape_of-store c = c.copy.auto.store
 pub returns : goal.returns
 returns c =
     let a = c.args in
-    record { value = refl; store_after = c.copy.ensures
+    record {
+      value = refl;
+      store_after = c.copy.ensures
           ∙ ap (λ (b : ℕ). spliced (b + a.s.column) a.n (height_at a.run.now) (at a.store.now))
-          (holder-start _ _ _ c.requires.0 _ c.store_length-a.ensures) }
+          (holder-start _ _ _ c.requires.0 _ c.store_length-a.ensures);
+    }
