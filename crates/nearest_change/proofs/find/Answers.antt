@@ -37,13 +37,13 @@ cell-requires c =
     let p = passes (length a.heights.now) a.width a.height a.row a.column (sym c.question-no.ensures ∙ c.if-no-ne0.false) in
     let h = height-fits (length a.heights.now) a.width a.height a.row a.column p in
     let w = width_fits (length a.heights.now) a.width a.height a.row a.column p in
-    record { by_index = c.window-w.ensures.1; row_lt_height = (h.2, w.2, h.1, w.1) }
+    record { by_index = c.window-w.ensures.by_index; row_lt_height = (h.2, w.2, h.1, w.1) }
 
 pub first-t-requires : goal.first-t-requires
 first-t-requires c =
     let a = c.args in
     let p = passes (length a.heights.now) a.width a.height a.row a.column (sym c.question-no.ensures ∙ c.if-no-ne0.false) in
-    cell-ready (length a.heights.now) a.width a.height a.row a.column p c.window-w.result c.cell.result c.window-w.ensures.1
+    cell-ready (length a.heights.now) a.width a.height a.row a.column p c.window-w.result c.cell.result c.window-w.ensures.by_index
     c.cell.ensures
 
 pub made-requires : goal.made-requires
@@ -52,7 +52,7 @@ made-requires c =
     let p = passes (length a.heights.now) a.width a.height a.row a.column (sym c.question-no.ensures ∙ c.if-no-ne0.false) in
     makes (length a.heights.now) a.width a.height a.row a.column p a.heights.now (λ j. omega (arith, c.shared_slice_known-1.given j))
     c.places.result c.places-2.result c.window-w.result c.places.ensures
-    c.places-2.ensures c.window-w.ensures.0 c.window-w.ensures.1 c.cell.result c.cell.ensures c.first-t.result c.first-t.ensures
+    c.places-2.ensures c.window-w.ensures.window c.window-w.ensures.by_index c.cell.result c.cell.ensures c.first-t.result c.first-t.ensures
 
 pub returns : goal.returns
 returns c =
@@ -61,4 +61,4 @@ returns c =
     answered _ a.width a.height a.heights.now a.row a.column _ _ (sym c.question-no.ensures ∙ c.if-no-ne0.false) c.made.ensures
     (nearest (length a.heights.now) a.width a.height a.row a.column p a.heights.now (λ j. omega (arith, c.shared_slice_known-1.given j))
     c.places.result c.places-2.result c.window-w.result c.places.ensures
-    c.places-2.ensures c.window-w.ensures.0 c.window-w.ensures.1 c.cell.result c.cell.ensures c.first-t.result c.first-t.ensures)
+    c.places-2.ensures c.window-w.ensures.window c.window-w.ensures.by_index c.cell.result c.cell.ensures c.first-t.result c.first-t.ensures)

@@ -39,4 +39,4 @@ pub returns : goal.returns
 returns c =
     let l = c.loop-j in
     let h : 25 ≤ l.j = omega arith in
-    (λ j k. l.invariant.1.done j (omega arith), l.invariant.1.small)
+    record { window = λ j k. l.invariant.1.done j (omega arith); by_index = l.invariant.1.small }

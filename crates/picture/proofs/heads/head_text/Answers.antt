@@ -36,10 +36,6 @@ whole W H M g a b c {o} {p₁ = p₁} {p₂ = p₂} {p₃ = p₃} {p₄ = p₄} 
     let q₆ : p₆ ≡ p₅ + length (numeral M) = puts-place w₅ x₆ h₆ in
     rw (← g) (simp append_assoc at (puts-on w₆ x₇ (omega arith)))
 
--- NO GOAL slice-aggregate-put-bytes
--- slice-aggregate-put-bytes : tie.Need-slice-aggregate-put-bytes
--- slice-aggregate-put-bytes c = search rules
-
 pub shape_of-area : goal.shape_of-area
 shape_of-area c =
     c.put_byte.auto.out ∙ c.put_number-third.auto.out ∙ c.put_byte-line.auto.out ∙ c.put_number-second.auto.out ∙ c.put_byte-gap.auto.out
