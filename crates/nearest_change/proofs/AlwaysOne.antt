@@ -1,12 +1,12 @@
 -- There always is a nearest change, with a difference of at most 4, and there is one only; 4 is attained. Over the definitions alone. Assumes nothing.
 use mathlib.Core.Path.{◌≡◌, refl, sym, ap, ◌∙◌, subst}
-use mathlib.Core.Logic.{◌⊎◌, inl, inr, ⊎_elim}
+use mathlib.Core.Logic.{◌⊎◌, ⊎_elim}
 use mathlib.Core.Bool.{Bool, true, false, not}
 use mathlib.Core.List.{List}
-use Prim.Native.Nat.{ℕ, zero, suc, ◌+◌, ◌-◌, ◌*◌, ◌/◌, ◌%◌, ◌≤◌, ◌<◌}
+use Prim.Native.Nat.{ℕ, zero, suc, ◌*◌, ◌/◌, ◌%◌, ◌≤◌, ◌<◌}
 use native.Mathlib.Decide.{dec_lt, ℕ_discrete}
 use native.Mathlib.Omega.{arith}
-use lib.ListN.{get_or, set, replicate, get_or-replicate}
+use lib.ListN.{set, replicate, get_or-replicate}
 use borrow.Author.Tests.{not-true}
 use Rattle.numbers.specs.Tests.{every}
 use Rattle.numbers.proofs.TestLaws.{every-each}
@@ -14,8 +14,8 @@ use Rattle.lifting.specs.Line.{lo}
 use Rattle.lifting.specs.Grid.{side, count}
 use Rattle.wavelet.specs.Limits.{max_sample}
 use Rattle.wavelet.proofs.LimitLaws.{sample-small}
-use Rattle.nearest_change.specs.NearestChange.{Ground, Alters, difference, cut, Before, IsNearest}
-use Rattle.nearest_change.specs.Trials.{places_of, mirrored, lifted_of, number_of, IsWindow, cell_in, altered, altered_by, tried, made_by, IsFirst}
+use Rattle.nearest_change.specs.NearestChange.{Ground, difference, Before, IsNearest}
+use Rattle.nearest_change.specs.Trials.{places_of, mirrored, lifted_of, number_of, cell_in, altered, altered_by, tried, made_by}
 use Rattle.nearest_change.specs.declared.Change.{Change}
 use Rattle.nearest_change.proofs.WindowLaws.{Heights, places-there}
 use Rattle.nearest_change.proofs.NearLaws.{four-enough}

@@ -1,18 +1,16 @@
 -- The call put together: what its window, its cell and its first trial give where the questions pass. Assumes nothing.
 use mathlib.Core.Path.{◌≡◌, refl, sym, subst}
 use mathlib.Core.List.{List}
-use Prim.Native.Nat.{ℕ, ◌+◌, ◌*◌, ◌/◌, ◌%◌, ◌≤◌, ◌<◌}
+use Prim.Native.Nat.{ℕ, ◌+◌, ◌*◌, ◌≤◌, ◌<◌}
 use native.Mathlib.Omega.{arith}
 use lib.ListN.{get_or}
 use lib.Dec.{eqb}
 use borrow.Author.Tests.{ne_eqb}
 use Rattle.numbers.specs.Signal.{pick}
-use Rattle.lifting.specs.Line.{lo}
-use Rattle.lifting.specs.Grid.{side, count}
 use Rattle.wavelet.specs.Limits.{max_sample}
 use Rattle.wavelet.proofs.LimitLaws.{width_small, height-small}
 use Rattle.nearest_change.specs.NearestChange.{Ground, ground_of, IsNearest}
-use Rattle.nearest_change.specs.Calls.{nearest_question, Answers}
+use Rattle.nearest_change.specs.Calls.{Answers}
 use Rattle.nearest_change.specs.Trials.{places_of, Within, IsWindow, cell_in, Ready, trial_row, trial_column, tried, made_by, IsFirst, Makes}
 use Rattle.nearest_change.specs.declared.Change.{Change}
 use Rattle.nearest_change.specs.declared.Nearest.{Nearest}

@@ -2,16 +2,16 @@
 use mathlib.Core.Path.{◌≡◌, refl, sym, ap, ◌∙◌}
 use mathlib.Core.Bool.{Bool, true, false}
 use Prim.Native.Nat.{ℕ, ◌+◌, ◌-◌, ◌*◌, ◌≤◌, ◌<◌}
-use native.Mathlib.Decide.{dec_lt, ℕ_discrete}
+use native.Mathlib.Decide.{dec_lt}
 use native.Mathlib.Omega.{arith}
 use lib.Dec.{eqb}
-use borrow.Author.Tests.{eqb-true, eq-eqb, ne_eqb}
+use borrow.Author.Tests.{eqb-true, eq-eqb}
 use Rattle.numbers.specs.Signal.{pick}
 use Rattle.numbers.proofs.Sweep.{both}
 use Rattle.lifting.specs.Line.{lo}
 use Rattle.lifting.specs.Grid.{side, count}
 use Rattle.wavelet.specs.Limits.{max_sample}
-use Rattle.nearest_change.specs.NearestChange.{Ground, cell_of, changed, Alters, difference}
+use Rattle.nearest_change.specs.NearestChange.{Ground, changed, Alters, difference}
 use Rattle.nearest_change.specs.declared.Change.{Change}
 use Rattle.nearest_change.proofs.CellLaws.{cell-reads}
 use Rattle.nearest_change.proofs.RiseLaws.{four-alters}

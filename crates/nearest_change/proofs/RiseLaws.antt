@@ -1,7 +1,7 @@
 -- Why a difference of 4 is enough: the cell's own height raised by 4 raises its column's low value by 2 or more, and that raises the cell by 1 or more.
 -- Assumes nothing.
-use mathlib.Core.Path.{◌≡◌, refl, sym, ap, ◌∙◌, fun_ext}
-use Prim.Native.Nat.{ℕ, ◌+◌, ◌-◌, ◌*◌, ◌≤◌, ◌<◌}
+use mathlib.Core.Path.{◌≡◌, ap, ◌∙◌, fun_ext}
+use Prim.Native.Nat.{ℕ, ◌+◌, ◌*◌, ◌≤◌, ◌<◌}
 use native.Mathlib.Decide.{ℕ_discrete}
 use native.Mathlib.Omega.{arith}
 use lib.IntN.{ℤ, pos, ◌+ℤ◌}
@@ -12,7 +12,7 @@ use Rattle.lifting.specs.Line.{predicted, updated, lo}
 use Rattle.lifting.specs.Grid.{side, count, line_forward}
 use Rattle.nearest_change.specs.Trials.{mirrored}
 use Rattle.nearest_change.specs.NearestChange.{Ground, cell_of}
-use Rattle.nearest_change.proofs.LineLaws.{low_five, line_low, mirror-in}
+use Rattle.nearest_change.proofs.LineLaws.{line_low, mirror-in}
 use Rattle.nearest_change.proofs.CellLaws.{low_at, cell-is}
 
 -- ---- the two steps: x rises to x', and its neighbours by no more

@@ -1,8 +1,8 @@
 -- The needs of the private functions, over plain numbers: what is small enough to be lifted, and each step's value. Assumes nothing.
-use mathlib.Core.Path.{◌≡◌, refl, sym, ap, ◌∙◌, subst}
+use mathlib.Core.Path.{◌≡◌, sym, ap, ◌∙◌, subst}
 use mathlib.Core.Bool.{Bool, true, false, not}
 use mathlib.Core.List.{List}
-use Prim.Native.Nat.{ℕ, ◌+◌, ◌-◌, ◌*◌, ◌/◌, ◌%◌, ◌≤◌, ◌<◌}
+use Prim.Native.Nat.{ℕ, ◌+◌, ◌-◌, ◌*◌, ◌≤◌, ◌<◌}
 use native.Mathlib.Omega.{arith}
 use native.Mathlib.Nat.{mul-le-mul_right}
 use lib.ListN.{get_or}
@@ -11,7 +11,7 @@ use borrow.Author.Tests.{leb-true, le-leb, lt-leb}
 use Rattle.numbers.specs.Signal.{pick}
 use Rattle.numbers.proofs.Sweep.{both}
 use Rattle.wavelet.specs.Limits.{max_sample}
-use Rattle.nearest_change.specs.Trials.{Small, places_of, bias, lifted_of, number_of, replaced_of}
+use Rattle.nearest_change.specs.Trials.{Small, places_of, bias, lifted_of, replaced_of}
 use Rattle.nearest_change.specs.Trials.{Within, column_in, lows_in, cell_in, Ready, altered, altered_by}
 use Rattle.nearest_change.specs.Trials.{inside, trial_by, trial_cut, trial_row, trial_column, tried}
 use Rattle.nearest_change.specs.declared.five.Five.{Five}

@@ -1,13 +1,13 @@
 -- A trial works exactly where the change that it makes alters the cell. Assumes nothing.
-use mathlib.Core.Path.{◌≡◌, refl, sym, ap, ap₂, ◌∙◌, subst}
+use mathlib.Core.Path.{◌≡◌, refl, sym, ap, ap₂, ◌∙◌}
 use mathlib.Core.Bool.{Bool, true, false, not}
 use mathlib.Core.List.{List}
-use Prim.Native.Nat.{ℕ, ◌+◌, ◌-◌, ◌*◌, ◌/◌, ◌%◌, ◌≤◌, ◌<◌}
+use Prim.Native.Nat.{ℕ, ◌+◌, ◌-◌, ◌*◌, ◌≤◌, ◌<◌}
 use native.Mathlib.Omega.{arith}
 use lib.IntN.{ℤ, pos, nat_abs, ◌+ℤ◌}
 use lib.ListN.{get_or}
 use lib.Dec.{eqb, leb, ltb}
-use borrow.Author.Tests.{eqb-true, eqb-false, eq-eqb, not-true, leb-true, ltb-true, le-leb, lt-ltb}
+use borrow.Author.Tests.{eqb-true, eqb-false, not-true, leb-true, ltb-true, le-leb, lt-ltb}
 use Rattle.numbers.specs.Signal.{pick}
 use Rattle.numbers.proofs.Integers.{each, lin}
 use Rattle.numbers.proofs.Sweep.{both}
@@ -15,7 +15,7 @@ use Rattle.lifting.specs.Line.{lo}
 use Rattle.lifting.specs.Grid.{side, count}
 use Rattle.wavelet.specs.Limits.{max_sample}
 use Rattle.nearest_change.specs.NearestChange.{Ground, cell_of, changed, Alters}
-use Rattle.nearest_change.specs.Trials.{places_of, bias, lifted_of, number_of, replaced_of, IsWindow, column_in, lows_in, cell_in, altered, altered_by, inside}
+use Rattle.nearest_change.specs.Trials.{places_of, bias, lifted_of, number_of, replaced_of, IsWindow, cell_in, altered, altered_by, inside}
 use Rattle.nearest_change.specs.Trials.{trial_by, trial_cut, trial_row, trial_column, tried, made_by}
 use Rattle.nearest_change.specs.declared.Change.{Change}
 use Rattle.nearest_change.specs.declared.five.Five.{Five}

@@ -1,5 +1,6 @@
 // The change of one height that is nearest to altering a cell of the level-1 LL (5/3, origin 0). Document 02, Q-12.
 #![tactic(auto)]
+
 mod five;
 mod trial;
 mod window;

@@ -1,19 +1,17 @@
 -- Calls that read and write, one after the other. Assumes nothing.
-use mathlib.Core.Path.{◌≡◌, refl, sym, ap, ap₂, ◌∙◌}
+use mathlib.Core.Path.{◌≡◌, refl, ap, ◌∙◌}
 use mathlib.Core.Bool.{Bool, true, false}
-use mathlib.Core.List.{List, [], ◌∷◌}
+use mathlib.Core.List.{List, []}
 use Prim.Native.Nat.{ℕ, ◌+◌, ◌-◌, ◌*◌, ◌≤◌, ◌<◌}
 use native.Mathlib.Omega.{arith}
-use native.Mathlib.Numerals.{add-one}
 use native.Mathlib.Decide.{dec_lt}
 use lib.Dec.{eqb}
-use lib.ListN.{length, drop, get_or}
-use lib.Seq.{drop-cons}
+use lib.ListN.{length}
 use borrow.Author.Tests.{eq-eqb, ne_eqb}
 use Rattle.numbers.specs.Signal.{pick}
 use Rattle.text.specs.Moves.{Went, Stops, full, idle}
 use Rattle.text.proofs.TextLaws.{wrote_none, wrote-size}
-use Rattle.text.proofs.MoveLaws.{one, went-not, went_on, stops-in}
+use Rattle.text.proofs.MoveLaws.{went-not, went_on, stops-in}
 use Rattle.picture.specs.Machine.{Kept, kept, settled, Move, busy_on, Reads, Writes, quiet, Onward, on, off}
 use Rattle.picture.specs.declared.rewriting.Rewriting.{Rewriting}
 

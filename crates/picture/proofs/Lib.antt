@@ -7,5 +7,4 @@ pub mod PartLaws
 pub mod RunLaws
 pub mod GoneLaws
 pub mod RewritingTheorem
-
 mod Clauses

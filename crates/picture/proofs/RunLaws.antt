@@ -9,7 +9,7 @@ use lib.ListN.{length, take, drop, get_or, set, length-take, length-drop, take-a
 use lib.Seq.{take-suc, drop-cons, drop-drop, drop-append-le, get_or-take, length-take-le, paste, paste-zero, paste-suc, length-paste}
 use borrow.Rule.Slice.PartMut.{mid_of, put_mid, put_same}
 use Rattle.numbers.specs.Signal.{pick}
-use Rattle.pgm.proofs.RunReads.{fitting-prefix, fitting-stop, samples-count, sample-at, bytes-room, bytes-more}
+use Rattle.pgm.proofs.RunReads.{fitting-prefix, fitting-stop, sample-at, bytes-room, bytes-more}
 use Rattle.pgm.specs.Runs.{wide, sample_size, samples_of, fitting, heights_of}
 use Rattle.pgm.specs.InputSteps.{read_byte, heights_came}
 use Rattle.pgm.specs.StepAnswer as steps

@@ -1,5 +1,5 @@
 -- The fixed form. Document 02, Q-7: "P5, newline, width, space, height, newline, 65535, newline, two bytes a height, the most significant first."
-use Rattle.std.specs.Prelude.{◌≡◌, List, [], ◌∷◌, ◌++◌, ℕ, zero, suc, ◌+◌, ◌-◌, ◌/◌, ◌%◌, min, length, drop}
+use Rattle.std.specs.Prelude.{◌≡◌, List, [], ◌∷◌, ◌++◌, ℕ, zero, suc, ◌-◌, ◌/◌, ◌%◌, min, length, drop}
 use Rattle.std.proofs.Math.Seq.{paste}
 use Rattle.wavelet.specs.Limits.{max_width, max_height}
 use Rattle.wavelet.specs.Questions.{ask, within}

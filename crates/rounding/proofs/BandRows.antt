@@ -14,8 +14,8 @@ use Rattle.numbers.specs.Signal.{pick}
 use Rattle.lifting.specs.Line.{lo}
 use Rattle.lifting.specs.Grid.{Side, side, count}
 use Rattle.wavelet.specs.Bands.{Grid, Band, LL, HL, LH, HH, across, down}
-use Rattle.wavelet.specs.Levels.{next, side_at}
-use Rattle.wavelet.specs.Plane.{cells, flat, in_corner}
+use Rattle.wavelet.specs.Levels.{side_at}
+use Rattle.wavelet.specs.Plane.{cells}
 use Rattle.wavelet.specs.View.{band_rows, band_columns, band_start}
 use Rattle.wavelet.proofs.GridLaws.{flat-at}
 use Rattle.wavelet.proofs.SideLaws.{size-falls, length_back}

@@ -11,7 +11,7 @@ use native.Mathlib.Omega.{arith}
 use lib.Dec.{leb}
 use Rattle.wavelet.specs.Limits.{max_width, max_height, max_levels}
 use Rattle.wavelet.specs.Questions.{within}
-use Rattle.wavelet.specs.Asks.{Asks, Passes, Width, Height, Levels}
+use Rattle.wavelet.specs.Asks.{Width, Height, Levels}
 use Rattle.wavelet.proofs.QuestionLaws.{within-true, within-yes}
 use Rattle.wavelet.proofs.AskLaws.{went, passed, asked, room, width-exactly, height-exactly, levels-exactly}
 use Rattle.rounding.specs.Figure.{max_step}

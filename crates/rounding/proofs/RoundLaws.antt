@@ -5,14 +5,14 @@
 use mathlib.Core.Path.{◌≡◌, refl, sym, ap, ap₂, ◌∙◌}
 use mathlib.Core.List.{List}
 use mathlib.Core.Bool.{Bool, true, false}
-use Prim.Native.Nat.{ℕ, zero, suc, ◌+◌, ◌-◌, ◌*◌, ◌/◌, ◌%◌, ◌≤◌, ◌<◌}
+use Prim.Native.Nat.{ℕ, zero, suc, ◌+◌, ◌-◌, ◌*◌, ◌≤◌, ◌<◌}
 use native.Mathlib.Nat.{mul-le-mul_right}
 use native.Mathlib.Decide.{dec_lt}
 use native.Mathlib.Omega.{arith}
-use lib.Dec.{leb, ltb}
-use lib.IntN.{ℤ, pos, negsuc, neg_ℤ, nat_abs, ◌-ℤ◌}
+use lib.Dec.{ltb}
+use lib.IntN.{ℤ}
 use lib.ListN.{length}
-use borrow.Author.Tests.{lt-ltb, le-ltb, le-leb, lt-leb, ltb-true, ltb-false}
+use borrow.Author.Tests.{lt-ltb, le-ltb, le-leb, lt-leb}
 use Rattle.numbers.specs.Signal.{at, pick, both}
 use Rattle.numbers.proofs.Sweep.{Swept, start, finish}
 use Rattle.lifting.specs.Line.{lo}
@@ -20,7 +20,7 @@ use Rattle.lifting.specs.Grid.{Side, side, count}
 use Rattle.lifting.specs.Halves.{fronted}
 use Rattle.wavelet.specs.Bands.{Grid}
 use Rattle.wavelet.specs.Levels.{next, side_at}
-use Rattle.wavelet.specs.Plane.{in_corner, cells, flat}
+use Rattle.wavelet.specs.Plane.{in_corner, cells}
 use Rattle.wavelet.proofs.SideLaws.{size-zero, size-inner, size-le, next-length}
 use Rattle.wavelet.proofs.GridLaws.{flat-at}
 use Rattle.rounding.specs.Rounding.{toward_zero, rounded_cell, rounded_plane}

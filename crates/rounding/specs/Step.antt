@@ -1,5 +1,5 @@
 -- What the private functions say: one value rounded by a product, and a stretch of a plane.
-use Rattle.std.specs.Prelude.{◌≡◌, ℕ, ◌+◌, ◌-◌, ◌*◌, ◌/◌, ◌^◌, ◌≤◌, ◌<◌, ℤ, pos, negsuc, neg_ℤ, leb, ltb}
+use Rattle.std.specs.Prelude.{ℕ, ◌-◌, ◌*◌, ◌^◌, ◌≤◌, ◌<◌, ℤ, pos, negsuc, neg_ℤ, leb, ltb}
 use Rattle.numbers.specs.Signal.{pick, both}
 use Rattle.rounding.specs.Rounding.{toward_zero}
 use Rattle.rounding.specs.declared.step.Reciprocal.{Reciprocal}

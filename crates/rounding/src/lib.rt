@@ -1,6 +1,7 @@
 // A plane rounded for a smaller download, and how far the heights that a tolerant reader rebuilds from it can be off. Document 02, Q-10: the 5/3, from the
 // origin.
 #![tactic(auto)]
+
 pub mod error;
 mod rows;
 mod step;

@@ -1,17 +1,17 @@
 -- The laws of the calls' questions: what each test of the code says of them. Assumes nothing.
 use mathlib.Core.Path.{◌≡◌, refl, sym, ap, ◌∙◌}
 use mathlib.Core.Bool.{Bool, true, false}
-use Prim.Native.Nat.{ℕ, zero, suc, ◌+◌, ◌≤◌, ◌<◌}
+use Prim.Native.Nat.{ℕ, zero, suc, ◌≤◌, ◌<◌}
 use native.Mathlib.Omega.{arith}
 use lib.Dec.{leb}
 use borrow.Author.Tests.{le-leb, lt-leb, leb-true}
-use Rattle.numbers.specs.Signal.{pick, both}
+use Rattle.numbers.specs.Signal.{pick}
 use Rattle.numbers.proofs.Sweep as sweep
-use Rattle.calls.specs.Lists.{Reply, gives, refused, unless}
+use Rattle.calls.specs.Lists.{gives, refused, unless}
 use Rattle.turns.specs.declared.Turns.{Turns}
 use Rattle.turns.specs.Marks.{readers, all_marked, marked}
 use Rattle.turns.specs.Order.{Served, reader, nobody, number_of, next_after}
-use Rattle.turns.specs.Answers.{Given, a_reader, nothing}
+use Rattle.turns.specs.Answers.{a_reader, nothing}
 use Rattle.turns.specs.Calls.{in_range, change_question, turn_question, lent, turn_reply}
 use Rattle.turns.proofs.OrderLaws.{found-wants}
 

@@ -1,9 +1,9 @@
 -- The theorems over every list of calls on a fresh turn-giver: what each further call answers (`of_calls`), and that a reader which goes on wanting is served
 -- within sixteen turns (`served-within`). Assumes nothing.
-use mathlib.Core.Path.{◌≡◌, refl, sym, ap, ap₂, subst, ◌∙◌}
+use mathlib.Core.Path.{◌≡◌, refl, sym, ap, subst, ◌∙◌}
 use mathlib.Core.Bool.{Bool, true, false}
 use mathlib.Core.List.{List, [], ◌∷◌}
-use Prim.Native.Nat.{ℕ, zero, suc, ◌+◌, ◌^◌, ◌≤◌, ◌<◌}
+use Prim.Native.Nat.{ℕ, suc, ◌^◌, ◌≤◌, ◌<◌}
 use native.Mathlib.Omega.{arith}
 use lib.Dec.{eqb, leb}
 use borrow.Author.Tests.{eq-eqb, ne_eqb, le-leb, lt-leb, leb-true, leb-false}
@@ -12,9 +12,8 @@ use Rattle.wavelet.specs.Questions.{ask}
 use Rattle.calls.specs.Lists.{Reply, gives, refused, unless, seen, All, all_none, all_more, ever}
 use Rattle.calls.specs.Lists as lists
 use Rattle.turns.specs.declared.Turns.{Turns}
-use Rattle.turns.specs.Marks.{readers, all_marked, marked, with_mark, without_mark}
-use Rattle.turns.specs.Order.{Served, reader, nobody, first_from, next_after}
-use Rattle.turns.specs.Answers.{Given, a_reader, nothing}
+use Rattle.turns.specs.Marks.{readers, marked}
+use Rattle.turns.specs.Order.{Served, reader, nobody, next_after}
 use Rattle.turns.specs.Calls.{fresh, in_range, change_question, mark_reply, clear_reply, lent, turn_reply}
 use Rattle.turns.specs.Lists.{Call, mark, clear, turn, Event, marks, clears, turns, served, changed_to, turned_to, event, next, events, final}
 use Rattle.turns.specs.Lists.{wants_by, wants_after, last_by, last_served, Fair, OfCalls, turns_in, clears_reader, serves, ServedWithin}

@@ -1,6 +1,6 @@
 -- The laws of the search in circular order: whom it finds is wanted (`found-wants`), nobody is found where nobody wants (`found-nobody`), and a reader that
 -- wants is found or comes nearer (`nearer`). Assumes nothing.
-use mathlib.Core.Path.{◌≡◌, refl, sym, ap, subst, ◌∙◌}
+use mathlib.Core.Path.{◌≡◌, refl, sym, ap, ◌∙◌}
 use mathlib.Core.Bool.{Bool, true, false}
 use Prim.Native.Nat.{ℕ, zero, suc, ◌+◌, ◌-◌, ◌%◌, ◌≤◌, ◌<◌}
 use native.Mathlib.Omega.{arith}

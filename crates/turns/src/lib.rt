@@ -1,5 +1,6 @@
 // Fair turns at the disk (document 02, Q-11): sixteen readers' wants as marks, and which reader is next. A state by value; nothing here knows a reader.
 #![tactic(auto)]
+
 mod order;
 
 ghost use Rattle.std.specs.Prelude.{◌≡◌};

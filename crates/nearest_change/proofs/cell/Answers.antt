@@ -1,7 +1,5 @@
 -- `cell`: the places of its rows and columns, and the low values. Assumes nothing.
 use mathlib.Core.Path.{ap, ◌∙◌}
-use native.Mathlib.Omega.{arith}
-use borrow.Author.Rules.{rules}
 use Prim.Native.Nat.{◌*◌}
 use Rattle.nearest_change.specs.Trials.{bias, lifted_of, lows_in}
 use Rattle.nearest_change.proofs.StepLaws.{small_of, lows-small, cell-eq}

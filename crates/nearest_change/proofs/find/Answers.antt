@@ -1,9 +1,8 @@
 -- `find`: the questions, and then the first trial that works. Assumes nothing.
-use mathlib.Core.Path.{◌≡◌, sym, ◌∙◌}
-use Prim.Native.Nat.{ℕ}
+use mathlib.Core.Path.{sym, ◌∙◌}
 use native.Mathlib.Omega.{arith}
 use lib.ListN.{length}
-use Rattle.nearest_change.proofs.QuestionLaws.{Passes, passes}
+use Rattle.nearest_change.proofs.QuestionLaws.{passes}
 use Rattle.nearest_change.proofs.FindLaws.{height-fits, width_fits, window-within, cell-ready, makes, nearest, refused, answered}
 use Rattle.nearest_change.proofs.find.Goals as goal
 

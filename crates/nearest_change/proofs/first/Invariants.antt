@@ -1,9 +1,7 @@
 -- `first`: no trial before t works. Assumes nothing.
-use mathlib.Core.Path.{◌≡◌, sym, ◌∙◌}
+use mathlib.Core.Path.{◌≡◌}
 use mathlib.Core.Bool.{false}
 use Prim.Native.Nat.{ℕ, ◌-◌, ◌≤◌, ◌<◌}
-use native.Mathlib.Omega.{arith}
-use borrow.Author.Count.{below_more}
 use Rattle.nearest_change.specs.Trials.{tried}
 use Rattle.nearest_change.proofs.first.Given as goal
 

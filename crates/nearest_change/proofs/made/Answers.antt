@@ -15,6 +15,6 @@ unfolding made_by
 returns c =
     change-eq refl refl
     (elim c.if-t-eq1.branch [
-      then-t-eq1 w ↦ made-cut _ _ _ _ (eq-eqb _ _ w.if-t-eq1.true) w.height-is
+      | then-t-eq1 w ↦ made-cut _ _ _ _ (eq-eqb _ _ w.if-t-eq1.true) w.height-is
       | else-t-eq1 w ↦ made-raise _ _ _ _ (ne_eqb _ _ w.if-t-eq1.false) w.height-is
     ])

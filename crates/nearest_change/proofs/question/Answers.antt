@@ -1,7 +1,6 @@
 -- `question`: the tests in their order. Assumes nothing.
 use mathlib.Core.Path.{sym, ◌∙◌}
 use native.Mathlib.Omega.{arith}
-use borrow.Author.Rules.{rules}
 use borrow.Author.Tests.{not-true, not-false}
 use Rattle.wavelet.specs.Limits.{max_width, max_height}
 use Rattle.nearest_change.proofs.QuestionLaws.{no-width, no-height, no_room, no_row, no-column, none-no, product_small}

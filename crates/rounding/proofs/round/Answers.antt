@@ -1,6 +1,5 @@
 -- `round` meets its contract: the questions, and then the rows. Assumes nothing.
-use mathlib.Core.Path.{◌≡◌, refl, sym, ◌∙◌}
-use borrow.Author.Rules.{rules}
+use mathlib.Core.Path.{refl, sym, ◌∙◌}
 use Rattle.map_questions.proofs.QuestionLaws.{passed-no, passed-yes}
 use Rattle.rounding.proofs.CallLaws.{passes}
 use Rattle.rounding.proofs.round.Goals as goal

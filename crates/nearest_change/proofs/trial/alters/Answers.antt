@@ -1,7 +1,5 @@
 -- `alters`: the column, and then the row of low values, with one number replaced. Assumes nothing.
-use native.Mathlib.Omega.{arith}
 use Prim.Native.Nat.{◌+◌, ◌-◌, ◌*◌}
-use borrow.Author.Rules.{rules}
 use Rattle.nearest_change.proofs.StepLaws.{new-column-fits, new-lows-fit, altered-of}
 use Rattle.nearest_change.proofs.trial.alters.Goals as goal
 

@@ -1,6 +1,5 @@
 -- `alters_by`: by the sign and the limit. Assumes nothing.
 use native.Mathlib.Omega.{arith}
-use borrow.Author.Rules.{rules}
 use Prim.Native.Nat.{◌+◌, ◌*◌}
 use Rattle.nearest_change.proofs.StepLaws.{cut-none, cut-some, raise-none, raise-some}
 use Rattle.wavelet.proofs.LimitLaws.{sample-small}

@@ -1,9 +1,7 @@
 -- `works`: its place, and then the trial. Assumes nothing.
 use mathlib.Core.Path.{sym, ◌∙◌}
 use native.Mathlib.Omega.{arith}
-use borrow.Author.Rules.{rules}
-use borrow.Author.Tests.{not-true, not-false, leb-true}
-use Rattle.numbers.proofs.Sweep.{both}
+use borrow.Author.Tests.{not-true, not-false}
 use Rattle.nearest_change.proofs.StepLaws.{outside-rows, outside-columns, tried_of, inside-from}
 use Rattle.nearest_change.proofs.trial.works.Goals as goal
 

@@ -1,8 +1,8 @@
 use mathlib.Core.Path.{ap₂, ◌∙◌}
-use Prim.Native.Nat.{◌-◌, ◌/◌, ◌%◌, ◌≤◌}
+use Prim.Native.Nat.{◌/◌, ◌%◌, ◌≤◌}
 use native.Mathlib.Omega.{arith}
 use Rattle.nearest_change.specs.NearestChange.{ground_of}
-use Rattle.nearest_change.proofs.FillLaws.{Filled, fill_start, fill_more}
+use Rattle.nearest_change.proofs.FillLaws.{fill_start, fill_more}
 use Rattle.nearest_change.proofs.window.window.Goals as goal
 
 pub loop-j-init : goal.loop-j-init

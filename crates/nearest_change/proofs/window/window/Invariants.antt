@@ -1,9 +1,7 @@
 -- `window`: the places before j have their heights. Assumes nothing.
-use mathlib.Core.Path.{ap₂, ◌∙◌}
-use Prim.Native.Nat.{◌-◌, ◌/◌, ◌%◌, ◌≤◌}
-use native.Mathlib.Omega.{arith}
+use Prim.Native.Nat.{◌-◌, ◌≤◌}
 use Rattle.nearest_change.specs.NearestChange.{ground_of}
-use Rattle.nearest_change.proofs.FillLaws.{Filled, fill_start, fill_more}
+use Rattle.nearest_change.proofs.FillLaws.{Filled}
 use Rattle.nearest_change.proofs.window.window.Given as goal
 
 abbrev pub invariant-loop-j : goal.invariant-loop-j

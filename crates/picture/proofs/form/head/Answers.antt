@@ -1,7 +1,6 @@
 -- `form::head` meets its contract: refused by the first question that says no, else written. Assumes nothing.
 use mathlib.Core.Path.{refl, sym, ◌∙◌}
 use Rattle.picture.specs.Form.{refused, written}
-use borrow.Author.Rules.{rules}
 use Rattle.picture.proofs.form.head.Goals as goal
 
 pub returns-then-question-ne0 : goal.returns-then-question-ne0

@@ -1,6 +1,5 @@
 -- `form::head_told` meets its contract: the answer of `head`, in its two cases. Assumes nothing.
 use mathlib.Core.Path.{refl}
-use borrow.Author.Rules.{rules}
 use Rattle.picture.proofs.FormLaws.{told-written, told-refused}
 use Rattle.picture.proofs.form.head_told.Goals as goal
 

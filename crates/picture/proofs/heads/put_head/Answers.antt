@@ -1,5 +1,4 @@
 -- `heads::put_head` meets its contract: the header stands at the front of a small area, and is copied from there. Assumes nothing.
-use borrow.Author.Rules.{rules}
 use Rattle.text.proofs.TextLaws.{front-end}
 use Rattle.picture.proofs.FormLaws.{text-copied}
 use Rattle.picture.proofs.Clauses.{value-out_after}

@@ -4,7 +4,6 @@ use mathlib.Core.List.{List}
 use Prim.Native.Nat.{ℕ, ◌≤◌}
 use native.Mathlib.Omega.{arith}
 use lib.ListN.{length}
-use borrow.Author.Rules.{rules}
 use Rattle.text.specs.Text.{Wrote, Puts}
 use Rattle.text.specs.Refusal.{refused_line}
 use Rattle.text.proofs.TextLaws.{front-end, wrote-size}

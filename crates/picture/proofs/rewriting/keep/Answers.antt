@@ -1,6 +1,5 @@
 -- `rewriting::keep` meets its contract: the definition's choice. Assumes nothing.
 use mathlib.Core.Path.{◌∙◌}
-use borrow.Author.Rules.{rules}
 use Rattle.picture.proofs.MachineLaws.{kept-none, kept-some}
 use Rattle.picture.proofs.rewriting.keep.Goals as goal
 

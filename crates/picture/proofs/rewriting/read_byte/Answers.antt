@@ -1,5 +1,4 @@
 -- `rewriting::read_byte` meets its contract: the byte is read. Assumes nothing.
-use borrow.Author.Rules.{rules}
 use Rattle.picture.proofs.RunLaws.{byte_reads}
 use Rattle.picture.proofs.rewriting.read_byte.Goals as goal
 

@@ -1,6 +1,5 @@
 -- `rewriting::read_on` meets its contract: heights that came together, else a byte. Assumes nothing.
 use native.Mathlib.Omega.{arith}
-use borrow.Author.Rules.{rules}
 use Rattle.picture.proofs.rewriting.read_on.Goals as goal
 
 pub read_run-requires : goal.read_run-requires

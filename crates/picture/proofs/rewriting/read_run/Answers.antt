@@ -2,7 +2,6 @@
 use mathlib.Core.Path.{◌∙◌}
 use Prim.Native.Nat.{◌+◌, ◌-◌}
 use native.Mathlib.Omega.{arith}
-use borrow.Author.Rules.{rules}
 use borrow.Rule.Slice.PartMut.{same_len_mid}
 use Rattle.picture.proofs.RunLaws.{run-reads, none_read, still-there, run_room, run-few}
 use Rattle.picture.proofs.rewriting.read_run.Goals as goal

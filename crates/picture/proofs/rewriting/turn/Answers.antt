@@ -1,7 +1,6 @@
 -- `rewriting::turn` meets its contract: it reads, or it writes, or it stops. Assumes nothing.
 use mathlib.Core.Bool.{true, false}
 use native.Mathlib.Omega.{arith}
-use borrow.Author.Rules.{rules}
 use Rattle.text.specs.Moves.{full, idle}
 use Rattle.text.proofs.MoveLaws.{went-not}
 use Rattle.picture.specs.Machine.{off}

@@ -1,7 +1,6 @@
 -- `rewriting::write_on` meets its contract: the part is written to its end, or as far as there is room. Assumes nothing.
 use mathlib.Core.Path.{refl}
 use native.Mathlib.Omega.{arith}
-use borrow.Author.Rules.{rules}
 use Prim.Native.Nat.{◌-◌}
 use lib.ListN.{length}
 use Rattle.picture.specs.Machine.{text_on}

@@ -1,5 +1,4 @@
 -- `rows::height_byte` meets its contract: the definition's choice. Assumes nothing.
-use borrow.Author.Rules.{rules}
 use Rattle.picture.proofs.rows.height_byte.Goals as goal
 
 pub returns-then-low : goal.returns-then-low

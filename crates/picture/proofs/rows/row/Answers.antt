@@ -1,8 +1,6 @@
 use mathlib.Core.Path.{sym, ◌∙◌}
-use Prim.Native.Nat.{◌-◌}
 use native.Mathlib.Omega.{arith}
-use Rattle.picture.specs.Form.{row_bytes}
-use Rattle.picture.proofs.RowLaws.{row-length, row-at, Bytes, start, next, finish}
+use Rattle.picture.proofs.RowLaws.{row-length, row-at, start, next, finish}
 use Rattle.picture.proofs.rows.row.Goals as goal
 
 pub loop-i-init : goal.loop-i-init

@@ -1,5 +1,5 @@
 -- `error::level_error` meets its contract: the sums of the definition, each of which is small. Assumes nothing.
-use mathlib.Core.Path.{refl, sym, ◌∙◌}
+use mathlib.Core.Path.{sym}
 use Prim.Native.Nat.{◌+◌, ◌*◌}
 use native.Mathlib.Omega.{arith}
 use Rattle.rounding.proofs.FigureLaws.{half-up-small, level-is}

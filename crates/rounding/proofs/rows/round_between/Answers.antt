@@ -1,12 +1,8 @@
-use mathlib.Core.Path.{◌≡◌, refl, sym, ap, ◌∙◌}
-use Prim.Native.Nat.{◌-◌, ◌≤◌, ◌<◌, ◌^◌}
+use mathlib.Core.Path.{sym, ap, ◌∙◌}
 use native.Mathlib.Omega.{arith}
-use lib.ListN.{length}
-use Rattle.numbers.specs.Signal.{at}
-use Rattle.numbers.proofs.Sweep.{Swept, start, store, finish}
+use Rattle.numbers.proofs.Sweep.{start, store, finish}
 use Rattle.numbers.proofs.Words.{read_back}
 use Rattle.rounding.specs.Rounding.{toward_zero}
-use Rattle.rounding.specs.Step.{Divides, rounded_from}
 use Rattle.rounding.proofs.RoundLaws.{from-before, from_at, from_past}
 use Rattle.rounding.proofs.rows.round_between.Goals as goal
 

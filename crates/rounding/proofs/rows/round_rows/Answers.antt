@@ -1,11 +1,8 @@
-use mathlib.Core.Path.{◌≡◌, refl, sym, ap, ◌∙◌, subst}
-use Prim.Native.Nat.{ℕ, ◌+◌, ◌-◌, ◌*◌, ◌≤◌, ◌<◌}
+use Prim.Native.Nat.{◌+◌, ◌*◌, ◌≤◌}
 use native.Mathlib.Omega.{arith}
 use lib.ListN.{length}
-use Rattle.numbers.specs.Signal.{at, pick}
 use Rattle.rounding.specs.Figure.{max_step}
-use Rattle.rounding.specs.Step.{rounded_from}
-use Rattle.rounding.proofs.RoundLaws.{Rounded, rounded-start, row_room, rounded-turn, rounded-end}
+use Rattle.rounding.proofs.RoundLaws.{rounded-start, row_room, rounded-turn, rounded-end}
 use Rattle.rounding.proofs.rows.round_rows.Goals as goal
 
 pub overflow_cast-step : goal.overflow_cast-step

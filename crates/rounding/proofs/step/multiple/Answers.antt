@@ -2,7 +2,6 @@
 use mathlib.Core.Path.{ap}
 use Prim.Native.Nat.{◌*◌}
 use native.Mathlib.Omega.{arith}
-use borrow.Author.Rules.{rules}
 use Rattle.rounding.proofs.StepLaws.{divided, product-fits, multiple-small}
 use Rattle.rounding.proofs.step.multiple.Goals as goal
 

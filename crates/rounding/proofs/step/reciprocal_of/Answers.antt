@@ -1,8 +1,7 @@
 -- `step::reciprocal_of` meets its contract: each step's reciprocal divides (`divides`). Assumes nothing.
-use mathlib.Core.Path.{◌≡◌, refl, sym, ap, ◌∙◌, subst}
+use mathlib.Core.Path.{◌≡◌, refl, ap}
 use Prim.Native.Nat.{ℕ, ◌+◌, ◌-◌, ◌*◌, ◌/◌, ◌%◌, ◌^◌, ◌≤◌}
 use native.Mathlib.Omega.{arith}
-use borrow.Author.Rules.{rules}
 use Rattle.rounding.specs.Figure.{max_step}
 use Rattle.rounding.specs.Step.{shift_of, Divides}
 use Rattle.rounding.proofs.StepLaws.{divides}

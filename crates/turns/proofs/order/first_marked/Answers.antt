@@ -1,5 +1,5 @@
-use mathlib.Core.Path.{◌≡◌, refl, sym, ap, ◌∙◌}
-use Prim.Native.Nat.{◌≤◌, ◌<◌, ◌+◌, ◌-◌}
+use mathlib.Core.Path.{◌≡◌, sym, ap, ◌∙◌}
+use Prim.Native.Nat.{◌+◌}
 use native.Mathlib.Omega.{arith}
 use Rattle.turns.specs.Marks.{marked}
 use Rattle.turns.specs.Order.{first_from, next_after, number_of}
@@ -33,13 +33,12 @@ pub loop-i-smaller : goal.loop-i-smaller
 loop-i-smaller c = omega arith
 
 pub loop-i-preserved : goal.loop-i-preserved
-loop-i-preserved c =
-    (
-      omega arith,
-      omega arith,
-      sym (loop-on (marked c.args.marks) c.args.last c.loop-i.i (omega arith)
-          (sym c.is_marked.ensures ∙ c.if-is_marked.false)) ∙ c.loop-i.invariant.2,
-    )
+loop-i-preserved c = (
+  omega arith,
+  omega arith,
+  sym (loop-on (marked c.args.marks) c.args.last c.loop-i.i (omega arith)
+      (sym c.is_marked.ensures ∙ c.if-is_marked.false)) ∙ c.loop-i.invariant.2,
+)
 
 pub returns : goal.returns
 returns c =

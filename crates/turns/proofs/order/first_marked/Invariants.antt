@@ -1,10 +1,8 @@
 -- `first_marked` meets its contract: after i readers the search that is left gives what the whole search gives. Assumes nothing.
-use mathlib.Core.Path.{◌≡◌, refl, sym, ap, ◌∙◌}
+use mathlib.Core.Path.{◌≡◌}
 use Prim.Native.Nat.{◌≤◌, ◌<◌, ◌+◌, ◌-◌}
-use native.Mathlib.Omega.{arith}
 use Rattle.turns.specs.Marks.{marked}
-use Rattle.turns.specs.Order.{first_from, next_after, number_of}
-use Rattle.turns.proofs.OrderLaws.{loop-found, loop-on, loop-over}
+use Rattle.turns.specs.Order.{first_from, next_after}
 use Rattle.turns.proofs.order.first_marked.Given as goal
 
 abbrev pub invariant-loop-i : goal.invariant-loop-i

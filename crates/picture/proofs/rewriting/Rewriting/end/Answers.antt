@@ -1,6 +1,5 @@
 -- `Rewriting::end` meets its contract: the cases of the end. Assumes nothing.
 use mathlib.Core.Path.{sym, ap, ◌∙◌}
-use borrow.Author.Rules.{rules}
 use Rattle.pgm.specs.EndedAnswer.{of_ended}
 use Rattle.picture.specs.Machine.{rewriting}
 use Rattle.picture.proofs.MachineLaws.{ends_on, ends_as}

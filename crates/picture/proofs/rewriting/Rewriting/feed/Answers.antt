@@ -1,5 +1,4 @@
-use Rattle.picture.specs.Machine.{kept}
-use Rattle.picture.proofs.GoneLaws.{Gone, start, size, piece-room, area-room, turned, stops, left, turn-less}
+use Rattle.picture.proofs.GoneLaws.{start, size, piece-room, area-room, turned, stops, turn-less}
 use Rattle.picture.proofs.rewriting.Rewriting.feed.Goals as goal
 
 pub loop-going-init : goal.loop-going-init

@@ -1,6 +1,6 @@
 -- `Rewriting::feed` meets its contract: turns one after the other, until one says that it stops. Assumes nothing.
 use Rattle.picture.specs.Machine.{kept}
-use Rattle.picture.proofs.GoneLaws.{Gone, start, size, piece-room, area-room, turned, stops, left, turn-less}
+use Rattle.picture.proofs.GoneLaws.{Gone, left}
 use Rattle.picture.proofs.rewriting.Rewriting.feed.Given as goal
 
 abbrev pub invariant-loop-going : goal.invariant-loop-going

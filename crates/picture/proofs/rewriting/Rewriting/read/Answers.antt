@@ -1,6 +1,5 @@
 -- `Rewriting::read` meets its contract: the cases of what was read. Assumes nothing.
 use mathlib.Core.Path.{sym, ap, ◌∙◌}
-use borrow.Author.Rules.{rules}
 use Rattle.pgm.specs.StepAnswer.{of_step}
 use Rattle.picture.specs.Machine.{rewriting}
 use Rattle.picture.proofs.MachineLaws.{step-state, step_row}
