@@ -1,8 +1,7 @@
 -- `counts::next_band` meets its contract. The loop's invariant: what k bands come to is what i bands come to. Assumes nothing.
-use Rattle.std.proofs.Common.{◌≡◌, sym, refl, ap, ◌∙◌, arith}
+use Rattle.std.proofs.Common.{◌≡◌}
 use Rattle.lifting.specs.Grid.{side}
 use Rattle.progress.specs.Counts.{skip}
-use Rattle.progress.proofs.CountLaws.{skip_all, skip_stop, skip-go, skip-none}
 use Rattle.progress.proofs.counts.next_band.Given as goal
 
 abbrev pub invariant-loop-k : goal.invariant-loop-k

@@ -1,8 +1,6 @@
-use Rattle.std.proofs.Common.{◌≡◌, ◌-◌, refl, ap, ◌∙◌, arith}
+use Rattle.std.proofs.Common.{◌-◌, refl, ap, ◌∙◌, arith}
 use Rattle.lifting.specs.Grid.{side}
-use Rattle.filters.specs.Filters.{filter_of}
 use Rattle.progress.specs.Counts.{low_rows}
-use Rattle.progress.specs.Levels.{level_at}
 use Rattle.progress.proofs.CountLaws.{next-is, start_is}
 use Rattle.progress.proofs.LevelLaws.{walk-on, walk_end}
 use Rattle.progress.proofs.levels.level_of.Goals as goal

@@ -6,4 +6,4 @@ pub returns-then-r-eq0 : goal.returns-then-r-eq0
 returns-then-r-eq0 c = words-none _ _ _ c.if-r-eq0.true
 
 pub returns : goal.returns
-returns c = words-some _ _ _ _ _ c.if-r-eq0.false c.wrapping_add_usize.ensures c.wrapping_add_usize-2.ensures
+returns c = words-some _ _ _ _ _ c.if-r-eq0.false c.wrapping_add_usize.ensures.value c.wrapping_add_usize-2.ensures.value

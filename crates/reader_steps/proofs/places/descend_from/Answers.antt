@@ -1,9 +1,6 @@
-use mathlib.Core.Path.{◌≡◌, refl, ◌∙◌, sym}
-use Prim.Native.Nat.{◌-◌}
+use mathlib.Core.Path.{refl, ◌∙◌, sym}
 use native.Mathlib.Omega.{arith}
 use borrow.Author.Tests.{not-true, not-false}
-use Rattle.lifting.specs.Grid.{side}
-use Rattle.reader_steps.specs.Places.{descend}
 use Rattle.reader_steps.proofs.SetLaws.{down-opens}
 use Rattle.reader_steps.proofs.EnterLaws.{down-end, down_out, down-alone, down-on}
 use Rattle.reader_steps.proofs.places.descend_from.Goals as goal

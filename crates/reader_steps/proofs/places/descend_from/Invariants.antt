@@ -1,12 +1,8 @@
 -- `reader_steps::places::descend_from` meets its contract: the search of the definition, level by level. Assumes nothing.
-use mathlib.Core.Path.{◌≡◌, refl, ◌∙◌, sym}
+use mathlib.Core.Path.{◌≡◌}
 use Prim.Native.Nat.{◌-◌}
-use native.Mathlib.Omega.{arith}
-use borrow.Author.Tests.{not-true, not-false}
 use Rattle.lifting.specs.Grid.{side}
 use Rattle.reader_steps.specs.Places.{descend}
-use Rattle.reader_steps.proofs.SetLaws.{down-opens}
-use Rattle.reader_steps.proofs.EnterLaws.{down-end, down_out, down-alone, down-on}
 use Rattle.reader_steps.proofs.places.descend_from.Given as goal
 
 abbrev pub invariant-loop-k : goal.invariant-loop-k
