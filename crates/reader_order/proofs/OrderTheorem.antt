@@ -4,17 +4,16 @@ use mathlib.Core.Path.{◌≡◌, refl, sym, ap, subst, ◌∙◌}
 use mathlib.Core.List.{List, [], ◌∷◌}
 use Prim.Native.Nat.{ℕ, zero, suc, ◌+◌, ◌-◌, ◌≤◌, ◌<◌}
 use native.Mathlib.Omega.{arith}
-use lib.Dec.{leb, ltb, eqb}
+use lib.Dec.{leb, ltb}
 use lib.ListN.{length}
 use borrow.Author.Tests.{lt-ltb, le-leb, eq-eqb, ne_eqb}
 use Rattle.numbers.specs.Signal.{pick, both}
 use Rattle.lifting.specs.Line.{lo}
-use Rattle.lifting.specs.Grid.{Side, side}
+use Rattle.lifting.specs.Grid.{Side}
 use Rattle.wavelet.specs.Levels.{next, side_at}
 use Rattle.wavelet.specs.Limits.{max_height}
 use Rattle.wavelet.specs.Bands.{Band, code}
 use Rattle.wavelet.specs.Order.{RowName, row_name, first_set, last_set, set_row}
-use Rattle.wavelet.specs.Questions.{within}
 use Rattle.wavelet.specs.Steps.{Step, feed, draw, sets_before, steps, band_rows_of}
 use Rattle.wavelet.specs.declared.shape.Shape.{Shape}
 use Rattle.wavelet.specs.Shape.{columns, rows}
@@ -29,7 +28,7 @@ use Rattle.reader_steps.proofs.Looks.{named-code, code_lt}
 use Rattle.reader_steps.proofs.ReadyLaws.{ready-enter, ready-beyond}
 use Rattle.reader_steps.proofs.StepsLeft.{tail_at, steps_left, Ahead, height, row, ahead-is, left-row, left-height, left-done, left-first}
 use Rattle.reader_order.specs.declared.Place.{Place}
-use Rattle.reader_order.specs.Order.{placed, nowhere, at, wanted_from, seek, shape_fits, place_fits, first_place, next_place, row_at, name_at, rows_from}
+use Rattle.reader_order.specs.Order.{placed, nowhere, at, seek, shape_fits, place_fits, first_place, next_place, row_at, name_at, rows_from}
 use Rattle.reader_order.proofs.OrderLaws.{fits-sized, row-some, first_some, next-some}
 
 -- ---- no place is deeper than the last level

@@ -1,5 +1,5 @@
 -- The band rows of a map, in the order in which a reader wants them, as places one after the other. Numbers alone.
-use Rattle.std.specs.Prelude.{Bool, true, false, List, [], ◌∷◌, ℕ, zero, suc, ◌-◌, leb, ltb, eqb}
+use Rattle.std.specs.Prelude.{Bool, List, [], ◌∷◌, ℕ, zero, suc, ◌-◌, leb, ltb, eqb}
 use Rattle.numbers.specs.Signal.{pick, both}
 use Rattle.wavelet.specs.Limits.{max_height}
 use Rattle.wavelet.specs.Levels.{side_at}

@@ -1,6 +1,7 @@
 // The order in which a reader wants the band rows of a map: the first row, and the row after a row. Numbers alone, no coefficient. What the places are is
 // `reader_steps`'; that they go through the steps of `wavelet` is the theorem here.
 #![tactic(auto)]
+
 mod walk;
 
 ghost use Rattle.std.specs.Prelude.{◌≡◌, ◌-◌, ◌≤◌};

@@ -1,6 +1,5 @@
 -- `reader_order::row_at` meets its contract: the row of the band that the set has. Assumes nothing.
 use mathlib.Core.Path.{◌∙◌, sym, ap, ap₂}
-use borrow.Author.Rules.{rules}
 use borrow.Author.Tests.{not-true, not-false}
 use Rattle.lifting.specs.Grid.{Side, side}
 use Rattle.wavelet.specs.Order.{set_row}

@@ -1,7 +1,5 @@
-use mathlib.Core.Path.{◌≡◌, refl, ap, ◌∙◌}
-use Prim.Native.Nat.{◌-◌, ◌≤◌}
+use mathlib.Core.Path.{refl, ap, ◌∙◌}
 use native.Mathlib.Omega.{arith}
-use borrow.Author.Rules.{rules}
 use Rattle.reader_steps.specs.Places.{spot}
 use Rattle.reader_order.specs.Order.{at, seek}
 use Rattle.reader_order.proofs.WalkLaws.{spot_of}

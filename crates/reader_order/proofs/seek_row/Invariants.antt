@@ -1,12 +1,8 @@
 -- `reader_order::seek_row` meets its contract: where no row is wanted the height row is drawn, and the search goes on from the next. Assumes nothing.
-use mathlib.Core.Path.{◌≡◌, refl, ap, ◌∙◌}
+use mathlib.Core.Path.{◌≡◌}
 use Prim.Native.Nat.{◌-◌, ◌≤◌}
-use native.Mathlib.Omega.{arith}
-use borrow.Author.Rules.{rules}
 use Rattle.reader_steps.specs.Places.{spot}
-use Rattle.reader_order.specs.Order.{at, seek}
-use Rattle.reader_order.proofs.WalkLaws.{spot_of}
-use Rattle.reader_order.proofs.OrderLaws.{seek-over, seek_found, seek-drawn, nowhere-is}
+use Rattle.reader_order.specs.Order.{seek}
 use Rattle.reader_order.proofs.seek_row.Given as goal
 
 abbrev pub invariant-loop-drawn : goal.invariant-loop-drawn

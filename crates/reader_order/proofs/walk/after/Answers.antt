@@ -1,7 +1,6 @@
 -- `reader_order::walk::after` meets its contract: the next band of the set, or past the set. Assumes nothing.
 use mathlib.Core.Path.{◌∙◌}
 use native.Mathlib.Omega.{arith}
-use borrow.Author.Rules.{rules}
 use Rattle.reader_order.proofs.WalkLaws.{is-spot, spot_of, after_more, after-set}
 use Rattle.reader_order.proofs.walk.after.Goals as goal
 

@@ -1,6 +1,5 @@
 -- `reader_order::walk::band_at` meets its contract: the band that the set asks for. Assumes nothing.
 use mathlib.Core.Path.{◌∙◌}
-use borrow.Author.Rules.{rules}
 use Rattle.reader_order.proofs.WalkLaws.{band-is}
 use Rattle.reader_order.proofs.walk.band_at.Goals as goal
 

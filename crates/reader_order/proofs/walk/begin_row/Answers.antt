@@ -1,7 +1,6 @@
 -- `reader_order::walk::begin_row` meets its contract: the search from the map's own sides on. Assumes nothing.
 use mathlib.Core.Path.{ap, ◌∙◌}
 use native.Mathlib.Omega.{arith}
-use borrow.Author.Rules.{rules}
 use Prim.Native.Nat.{◌-◌}
 use Rattle.wavelet.specs.Shape.{columns, rows}
 use Rattle.reader_steps.specs.Places.{Spot}

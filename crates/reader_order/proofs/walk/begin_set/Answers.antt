@@ -1,7 +1,6 @@
 -- `reader_order::walk::begin_set` meets its contract: a set without a low row, or the search from the next sides on. Assumes nothing.
 use mathlib.Core.Path.{◌∙◌, ap}
 use native.Mathlib.Omega.{arith}
-use borrow.Author.Rules.{rules}
 use Prim.Native.Nat.{◌+◌, ◌-◌, ◌%◌}
 use Rattle.lifting.specs.Grid.{side}
 use Rattle.reader_steps.specs.Places.{Spot}

@@ -1,8 +1,5 @@
-use mathlib.Core.Path.{◌≡◌, ◌∙◌, refl}
-use Prim.Native.Nat.{◌≤◌}
+use mathlib.Core.Path.{◌∙◌, refl}
 use native.Mathlib.Omega.{arith}
-use Rattle.wavelet.specs.Shape.{columns, rows}
-use Rattle.reader_steps.specs.Places.{next_up}
 use Rattle.reader_order.proofs.WalkLaws.{is-spot, up-here, up-finer, up_none}
 use Rattle.reader_order.proofs.walk.next_up.Goals as goal
 

@@ -1,10 +1,8 @@
 -- `reader_order::walk::next_up` meets its contract: level by level, as the definition goes. Assumes nothing.
-use mathlib.Core.Path.{◌≡◌, ◌∙◌, refl}
+use mathlib.Core.Path.{◌≡◌}
 use Prim.Native.Nat.{◌≤◌}
-use native.Mathlib.Omega.{arith}
 use Rattle.wavelet.specs.Shape.{columns, rows}
 use Rattle.reader_steps.specs.Places.{next_up}
-use Rattle.reader_order.proofs.WalkLaws.{is-spot, up-here, up-finer, up_none}
 use Rattle.reader_order.proofs.walk.next_up.Given as goal
 
 abbrev pub invariant-loop-k : goal.invariant-loop-k

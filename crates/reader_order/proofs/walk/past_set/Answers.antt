@@ -1,7 +1,6 @@
 -- `reader_order::walk::past_set` meets its contract: the finer level that waits, or where the next set begins. Assumes nothing.
 use mathlib.Core.Path.{◌∙◌, sym, ap}
 use native.Mathlib.Omega.{arith}
-use borrow.Author.Rules.{rules}
 use borrow.Author.Tests.{not-true, not-false}
 use Rattle.lifting.specs.Grid.{Side}
 use Rattle.reader_steps.specs.Sets.{makes}
