@@ -7,21 +7,19 @@
 --     run-rewritten      a whole run that came to its end: all that was written is `rewriting_of` all that was read
 --     run-comes          and one does, if nothing failed and its bytes are fewer than 64 bits count
 -- Assumes nothing.
-use mathlib.Core.Path.{◌≡◌, refl, sym, ap, subst, ◌∙◌}
-use mathlib.Core.Bool.{Bool, true, false}
-use mathlib.Core.List.{List, [], ◌∷◌, ◌++◌, append-nil, append_assoc}
+use mathlib.Core.Path.{◌≡◌, sym, ap, ◌∙◌}
+use mathlib.Core.Bool.{true, false}
+use mathlib.Core.List.{List, [], ◌++◌, append-nil, append_assoc}
 use Prim.Native.Nat.{ℕ, ◌+◌, ◌*◌, ◌≤◌, ◌<◌}
 use native.Mathlib.Omega.{arith}
 use lib.ListN.{length}
 use Rattle.text.specs.Moves.{Goes}
 use Rattle.descriptors.specs.Left.{left_in}
 use Rattle.pgm.specs.Limits.{max_picture_width}
-use Rattle.pgm.specs.InputSteps.{read_byte}
 use Rattle.pgm.proofs.InputCases.{phase-on}
 use Rattle.picture.specs.Rewriting.{rewriting_of, due_of}
-use Rattle.picture.specs.Machine.{started, Kept, kept, settled, step_to, byte_read, end_kept, Move, partly, wholly, reads, busy_on}
+use Rattle.picture.specs.Machine.{started, Kept, kept, settled, byte_read, end_kept, Move, partly, wholly, reads, busy_on}
 use Rattle.picture.proofs.RewritingTheorem.{end-rests, moves-prefix, moves-over, moves-whole, moves-partly}
-use Rattle.rounds.specs.Machine.{Machine}
 use Rattle.rounds.specs.Rounds.{most_rounds, over, failed, ends, Rounds, Ran, Run, before, after}
 use Rattle.rounds.specs.declared.round.Outcome.{Outcome}
 use Rattle.rounds.proofs.RoundLaws.{over-at}

@@ -10,10 +10,10 @@ use Rattle.listing_io.specs.Listed.{listing_machine}
 use Rattle.listing_io.proofs.all_rounds.Given as goal
 
 abbrev pub invariant-loop-turns : goal.invariant-loop-turns
-invariant-loop-turns l =
+invariant-loop-turns g l =
     Looped (listing_machine (length l.initial.store) (length l.initial.row)) (length l.initial.out) (state_of l.initial.now.listing (at l.initial.store) (at l.initial.row))
     (state_of l.now.listing (at l.store) (at l.row)) l.chunk l.turns l.now.outcome
     × (length l.chunk ≡ length l.initial.chunk) × (length l.store ≡ length l.initial.store) × (length l.row ≡ length l.initial.row) × (length l.out ≡ length l.initial.out)
 
 abbrev pub decreases-loop-turns : goal.decreases-loop-turns
-decreases-loop-turns l = l.turns
+decreases-loop-turns g l = l.turns

@@ -13,4 +13,4 @@ use Rattle.listing_io.proofs.list.Goals as goal
 
 pub returns : goal.returns
 unfolding max_levels max_picture_width filter_of store_length widths side_at next count
-returns c = listed-is _ refl refl (omega arith) c.list_all-run.ensures c.is_over.ensures c.is_whole.ensures
+returns g c = listed-is _ refl refl (omega arith) c.list_all-run.ensures c.is_over.ensures c.is_whole.ensures
