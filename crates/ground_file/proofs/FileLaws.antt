@@ -2,33 +2,26 @@
 use mathlib.Core.Path.{◌≡◌, refl, sym, ap, ap₂, ◌∙◌, subst}
 use mathlib.Core.Bool.{Bool, true, false}
 use mathlib.Core.List.{List, [], ◌∷◌, ◌++◌, append_assoc}
-use Prim.Native.Nat.{ℕ, zero, suc, ◌+◌, ◌*◌, ◌-◌, ◌/◌, ◌%◌, ◌^◌, ◌≤◌, ◌<◌}
-use native.Mathlib.Nat.{mul-le-mul_right, suc-mul}
+use Prim.Native.Nat.{ℕ, zero, suc, ◌+◌, ◌^◌, ◌≤◌, ◌<◌}
 use native.Mathlib.Omega.{arith}
-use lib.IntN.{ℤ, pos, negsuc, ◌*ℤ◌}
-use lib.Signed.{shr_z}
-use lib.Dec.{eqb}
-use lib.ListN.{length, drop, get_or}
+use lib.IntN.{ℤ, pos, negsuc}
+use lib.ListN.{length, get_or}
 use borrow.Author.Tests.{eqb-true, eq-eqb}
 use Rattle.numbers.specs.Signal.{pick}
 use Rattle.numbers.proofs.Sweep.{both}
-use Rattle.lifting.specs.Grid.{Side}
 use Rattle.wavelet.specs.declared.shape.Shape.{Shape}
 use Rattle.wavelet.specs.Shape.{columns, rows}
 use Rattle.wavelet.specs.Bands.{Band, LL, HL, LH, HH, code}
 use Rattle.wavelet.specs.Order.{RowName, row_name, same_name, times}
-use Rattle.wavelet.specs.Steps.{steps, band_rows_of}
-use Rattle.wavelet.specs.View.{band_columns, band_start, Kept}
+use Rattle.wavelet.specs.View.{Kept}
 use Rattle.wavelet.specs.ViewCall.{band_row_exists}
 use Rattle.wavelet.proofs.StepLaws.{steps-once}
 use Rattle.wavelet.proofs.ViewLaws.{exists-kept}
 use Rattle.wavelet.proofs.ViewAsks.{kept-exists}
-use Rattle.wavelet.proofs.PlaneLayout.{Stands, plane_row, plane_column, place_is, column-in, row_in}
-use Rattle.wavelet.proofs.PlanePlaces.{Found, found, found-place}
 use Rattle.filters.specs.Filters.{filter_of}
-use Rattle.ground_file.specs.Groups.{zigzag, bytes_of, row_bytes}
-use Rattle.ground_file.specs.File.{header_of, stored, listed, numbers_of, rows_bytes, wanted, body_of, as_number, prime, file_of, Fits}
-use Rattle.ground_file.proofs.Digits.{append-is, Below, none, more}
+use Rattle.ground_file.specs.Groups.{zigzag, row_bytes}
+use Rattle.ground_file.specs.File.{listed, numbers_of, rows_bytes, wanted}
+use Rattle.ground_file.proofs.Digits.{Below, none, more}
 use Rattle.ground_file.proofs.GroupLaws.{row_told}
 
 -- ---- numbers

@@ -9,20 +9,19 @@ use native.Mathlib.Omega.{arith}
 use native.Mathlib.Decide.{dec_lt}
 use lib.IntN.{ℤ, pos, negsuc, nat_abs, ◌*ℤ◌}
 use lib.Signed.{mag, shr_z}
-use lib.Dec.{leb, ltb, eqb}
-use lib.ListN.{length, take, drop, get_or, length-take, length-drop, length-append, take-append-drop}
+use lib.Dec.{leb, eqb}
+use lib.ListN.{length, take, drop, length-take, length-drop, length-append, take-append-drop}
 use lib.Seq.{take_all, drop-drop, get_or-take, get_or-drop, length-take-le}
-use borrow.Author.Tests.{lt-ltb, le-ltb, le-leb, eq-eqb, ne_eqb, leb-true}
-use Rattle.numbers.specs.Signal.{at, pick, both}
+use borrow.Author.Tests.{le-leb, eq-eqb, ne_eqb, leb-true}
+use Rattle.numbers.specs.Signal.{at, pick}
 use Rattle.numbers.specs.Tests.{every}
 use Rattle.numbers.proofs.TestLaws.{every-each, each-every}
-use Rattle.lifting.specs.Grid.{Side}
 use Rattle.wavelet.specs.declared.shape.Shape.{Shape}
 use Rattle.wavelet.specs.Shape.{columns, rows}
 use Rattle.wavelet.specs.Bands.{Band, LL, HL, LH, HH, code}
 use Rattle.wavelet.specs.Limits.{max_width, max_height, max_levels, range}
 use Rattle.wavelet.specs.Order.{RowName, row_name, same_name, times}
-use Rattle.wavelet.specs.Questions.{within, size_question}
+use Rattle.wavelet.specs.Questions.{size_question}
 use Rattle.wavelet.specs.View.{band_columns, band_start, Kept}
 use Rattle.wavelet.specs.ViewCall.{band_row_exists, view_question, view_start, view_length, view_row}
 use Rattle.wavelet.specs.ViewCall as view
@@ -33,7 +32,7 @@ use Rattle.wavelet.proofs.ViewAsks.{kept-exists}
 use Rattle.filters.specs.Filters.{filter_of}
 use Rattle.filters.proofs.FigureLaws.{levels-most}
 use Rattle.filters.proofs.PlainFigures.{range-is}
-use Rattle.wavelet.specs.Asks.{by_filter, largest}
+use Rattle.wavelet.specs.Asks.{by_filter}
 use Rattle.reader_steps.specs.Asked.{named}
 use Rattle.reader_order.specs.declared.Place.{Place}
 use Rattle.reader_order.specs.Order.{nowhere, shape_fits, place_fits, first_place, next_place, row_at, name_at}
@@ -44,14 +43,14 @@ use Rattle.ground_file.specs.declared.saver.Saved.{Saved}
 use Rattle.ground_file.specs.Groups.{zigzag, bytes_of, group_of, groups_of, row_bytes}
 use Rattle.ground_file.specs.File.{header_of, stored, listed, numbers_of, rows_bytes, wanted, body_of, as_number, prime, file_of, Fits}
 use Rattle.ground_file.specs.Values.{kept, is_multiple}
-use Rattle.ground_file.specs.Saving.{saver_at, start_of, row_of, step_of, piece_of, at_row, onward, partly, from_of, rest_of, moved, begins, row_fits, row_divides}
+use Rattle.ground_file.specs.Saving.{saver_at, row_of, step_of, piece_of, at_row, onward, partly, from_of, rest_of, moved, begins, row_fits, row_divides}
 use Rattle.ground_file.specs.Saving.{row_number}
 use Rattle.ground_file.specs.Saving.{Went, here, on, stop_of, set_up_number, save_number, fresh, Ran, Saves, Savable, Calls, none, call}
 use Rattle.ground_file.proofs.Digits.{bytes-length}
 use Rattle.ground_file.proofs.FileLaws.{listed-length, listed_same, same-is, times-first, wanted-kept, kept-wanted}
 use Rattle.ground_file.proofs.MapFiles.{by_one, range_small}
 use Rattle.ground_file.proofs.ValueLaws.{kept-is, kept_small, multiple-of, number_append, number-rest, is-multiple}
-use Rattle.ground_file.proofs.SaverLaws.{start-in, rest-length, piece-head, piece-group, piece-sum, moved-part, moved-whole, on-head, on-group, on-sum}
+use Rattle.ground_file.proofs.SaverLaws.{start-in, piece-head, piece-group, piece-sum, moved-part, moved-whole, on-head, on-group, on-sum}
 use Rattle.ground_file.proofs.SaverLaws.{group-more, group-last, stop-row, multiple-one, number-none, first-phase}
 use Rattle.ground_file.proofs.SaverAsks.{Passed, passed, filter-few}
 

@@ -1,12 +1,12 @@
 -- The theorems of the format. Two files are equal exactly where shape, step and plane are: `file-told` and `same-file`. Assumes nothing.
 use mathlib.Core.Path.{◌≡◌, refl, sym, ap, ap₂, ◌∙◌, subst}
 use mathlib.Core.List.{List, [], ◌∷◌, ◌++◌, append_assoc}
-use Prim.Native.Nat.{ℕ, zero, suc, ◌+◌, ◌*◌, ◌-◌, ◌/◌, ◌%◌, ◌^◌, ◌≤◌, ◌<◌}
+use Prim.Native.Nat.{ℕ, zero, suc, ◌+◌, ◌*◌, ◌/◌, ◌%◌, ◌^◌, ◌≤◌, ◌<◌}
 use native.Mathlib.Nat.{mul-le-mul_right, add-mul, one-mul, mod-lt, mod-add-div, mul_comm, lt_of_mul-lt-mul_left}
 use native.Mathlib.Omega.{arith}
 use lib.IntN.{ℤ, pos, ◌*ℤ◌}
 use lib.Signed.{shr_z}
-use lib.ListN.{length, take, drop, get_or}
+use lib.ListN.{take, drop, get_or}
 use Rattle.lifting.specs.Grid.{Side}
 use Rattle.wavelet.specs.declared.shape.Shape.{Shape}
 use Rattle.wavelet.specs.Shape.{columns, rows}
@@ -16,7 +16,7 @@ use Rattle.wavelet.specs.View.{band_columns, band_start, Kept}
 use Rattle.wavelet.proofs.PlaneLayout.{Stands, plane_row, plane_column, place_is, column-in, row_in}
 use Rattle.wavelet.proofs.PlanePlaces.{Found, found, found-place}
 use Rattle.ground_file.specs.Groups.{zigzag, bytes_of, row_bytes}
-use Rattle.ground_file.specs.File.{header_of, stored, listed, numbers_of, rows_bytes, wanted, body_of, as_number, prime, file_of, Fits}
+use Rattle.ground_file.specs.File.{header_of, stored, numbers_of, rows_bytes, wanted, body_of, as_number, prime, file_of, Fits}
 use Rattle.ground_file.proofs.Digits.{bytes-told}
 use Rattle.ground_file.proofs.FileLaws.{zigzag-told, listed_at, listed_below, listed_same, times-first, wanted-kept, kept-wanted, Small, rows_told}
 

@@ -2,29 +2,27 @@
 --     header-said      the header of such a shape and step, whatever follows it, passes, and says them
 --     header-own       bytes that pass begin with the header of the shape and the step that they say, which the set-up passes
 -- Assumes nothing.
-use mathlib.Core.Path.{◌≡◌, refl, sym, ap, ap₂, subst, ◌∙◌}
-use mathlib.Core.Bool.{Bool, true, false, not}
+use mathlib.Core.Path.{◌≡◌, refl, sym, ap, ap₂, ◌∙◌}
+use mathlib.Core.Bool.{true, false, not}
 use mathlib.Core.List.{List, [], ◌∷◌, ◌++◌}
-use Prim.Native.Nat.{ℕ, zero, suc, ◌+◌, ◌*◌, ◌-◌, ◌/◌, ◌%◌, ◌^◌, ◌≤◌, ◌<◌}
+use Prim.Native.Nat.{ℕ, zero, suc, ◌+◌, ◌≤◌, ◌<◌}
 use native.Mathlib.Omega.{arith}
 use lib.Dec.{leb, eqb}
 use lib.ListN.{length, take, drop, length-take, length-drop}
 use lib.Seq.{take-add, drop-drop}
 use native.Mathlib.Decide.{dec_lt}
-use borrow.Author.Tests.{le-leb, eq-eqb, ne_eqb, eqb-true, leb-true}
+use borrow.Author.Tests.{le-leb, ne_eqb, eqb-true, leb-true}
 use Rattle.numbers.specs.Signal.{pick, both}
 use Rattle.numbers.proofs.Sweep.{both as halves}
 use Rattle.wavelet.specs.declared.shape.Shape.{Shape}
-use Rattle.wavelet.specs.Questions.{ask}
-use Rattle.wavelet.proofs.LimitLaws.{width_small, height-small, levels-small}
-use Rattle.filters.proofs.FigureLaws.{levels-most}
+use Rattle.wavelet.proofs.LimitLaws.{width_small, height-small}
 use Rattle.ground_file.specs.Groups.{digits, bytes_of}
 use Rattle.ground_file.specs.File.{header_of}
 use Rattle.ground_file.specs.Saving.{plain, set_up_number}
 use Rattle.ground_file.specs.Header.{number_in, shape_in, step_in, is_header, roundable, header_number}
 use Rattle.ground_file.proofs.Digits.{Below, none, more, digits-told}
 use Rattle.ground_file.proofs.GroupLaws.{below-take, below-drop}
-use Rattle.ground_file.proofs.SaverAsks.{Passed, passed, passed-plain, filter-few, ask-passed}
+use Rattle.ground_file.proofs.SaverAsks.{Passed, passed, passed-plain, ask-passed}
 use Rattle.ground_file.proofs.FileSaved.{drop-0}
 use Rattle.ground_file.proofs.HeaderLaws.{round-one, round-filter}
 

@@ -17,5 +17,4 @@ pub mod HeaderLaws
 pub mod HeaderTheorems
 pub mod SumLaws
 pub mod MapSaved
-
 mod Clauses

@@ -8,19 +8,15 @@ use lib.IntN.{ℤ, pos, negsuc, nat_abs, ◌*ℤ◌}
 use lib.Signed.{shr_z}
 use Rattle.numbers.specs.Word.{whole}
 use Rattle.numbers.proofs.Integers.{each, lin}
-use Rattle.lifting.specs.Grid.{Side}
-use Rattle.lifting.proofs.FilterLaws.{FilterLaws}
 use Rattle.wavelet.specs.declared.shape.Shape.{Shape}
 use Rattle.wavelet.specs.Shape.{columns, rows}
-use Rattle.wavelet.specs.Bands.{Band, Grid, LL, HL, LH, HH, code}
+use Rattle.wavelet.specs.Bands.{Band, Grid, LL, HL, LH, HH}
 use Rattle.wavelet.specs.Limits.{range}
-use Rattle.wavelet.specs.Plane.{cells, flat, plane_cell, plane_of, level_at}
-use Rattle.wavelet.specs.Maps.{IsMap, HasPlane}
-use Rattle.wavelet.specs.Levels.{level_band}
+use Rattle.wavelet.specs.Plane.{flat, plane_cell, plane_of, level_at}
 use Rattle.wavelet.specs.View.{band_columns, band_start, Kept}
-use Rattle.wavelet.specs.Asks.{Width, Height, Known, Levels, by_filter, largest}
+use Rattle.wavelet.specs.Asks.{by_filter, largest}
 use Rattle.wavelet.proofs.GridLaws.{place-below, flat-at}
-use Rattle.wavelet.proofs.LevelTheory.{Same, plane-reads}
+use Rattle.wavelet.proofs.LevelTheory.{plane-reads}
 use Rattle.wavelet.proofs.Bridge.{map-plane-range}
 use Rattle.wavelet.proofs.MapTheorems.{one_map}
 use Rattle.wavelet.proofs.PlaneLayout.{Stands, plane_row, plane_column, place_is, column-in, row_in, level-places}
@@ -28,9 +24,9 @@ use Rattle.filters.specs.Filters.{filter_of}
 use Rattle.filters.proofs.Filters.{filter-laws}
 use Rattle.filters.proofs.PlainFigures.{range-is}
 use Rattle.ground_file.specs.Groups.{zigzag}
-use Rattle.ground_file.specs.File.{stored, file_of, Fits}
+use Rattle.ground_file.specs.File.{stored, Fits}
 use Rattle.ground_file.specs.Maps.{MapOf, plane_in, map_file}
-use Rattle.ground_file.proofs.FileTheorems.{Told, file-told, same-file}
+use Rattle.ground_file.proofs.FileTheorems.{file-told, same-file}
 
 -- ---- numbers
 zigzag-small : (v : ℤ) → nat_abs v < 2 ^ 27 → zigzag v < 2 ^ 28

@@ -1,7 +1,7 @@
 -- Behind the packing of a part: bytes after bytes, the whole bytes among some bits (`Flushed`), the bits of the numbers put so far (`Packed`). Assumes nothing.
 use mathlib.Core.Path.{◌≡◌, refl, sym, ap, ap₂, ◌∙◌, subst}
-use mathlib.Core.Bool.{Bool, true}
-use mathlib.Core.List.{List, [], ◌∷◌, ◌++◌, append_assoc}
+use mathlib.Core.Bool.{true}
+use mathlib.Core.List.{List, [], ◌∷◌, ◌++◌}
 use Prim.Native.Nat.{ℕ, zero, suc, ◌+◌, ◌*◌, ◌-◌, ◌/◌, ◌%◌, ◌^◌, ◌≤◌, ◌<◌, min}
 use native.Mathlib.Nat.{div-one, mul-suc, mul_comm, mul_assoc, mul-zero, mul-one, one-mul, mul-add, add-mul, mul-le-mul_left, mul-le-mul_right}
 use native.Mathlib.Nat.{add-mul-div_left, zero-add, lt_of_lt_of_le}
@@ -12,7 +12,7 @@ use lib.Pow.{pow_pos, pow-add, pow_mono, shr-shr, shr_lt}
 use Rattle.text.specs.Text.{Wrote}
 use Rattle.text.proofs.TextLaws.{wrote_none, wrote_on, wrote-byte, wrote-size}
 use Rattle.ground_file.specs.Groups.{digits, bytes_of, part_of, holds}
-use Rattle.ground_file.proofs.Digits.{bytes-length, Below, more, below_at}
+use Rattle.ground_file.proofs.Digits.{bytes-length, below_at}
 use Rattle.ground_file.proofs.GroupLaws.{holds-below}
 
 -- ---- bytes after bytes

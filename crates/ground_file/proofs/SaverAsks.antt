@@ -1,20 +1,20 @@
 -- The questions of the saver as its code asks them, and what they say of its numbers. Assumes nothing.
-use mathlib.Core.Path.{◌≡◌, refl, sym, ap, ◌∙◌}
+use mathlib.Core.Path.{◌≡◌, refl, ◌∙◌}
 use mathlib.Core.Bool.{Bool, true, false}
 use mathlib.Core.List.{List}
-use Prim.Native.Nat.{ℕ, ◌+◌, ◌-◌, ◌*◌, ◌^◌, ◌≤◌, ◌<◌}
+use Prim.Native.Nat.{ℕ, ◌*◌, ◌^◌, ◌≤◌, ◌<◌}
 use native.Mathlib.Nat.{mul-le-mul}
 use native.Mathlib.Omega.{arith}
 use lib.IntN.{ℤ}
 use lib.Dec.{leb, ltb, eqb}
 use lib.ListN.{length}
-use borrow.Author.Tests.{lt-ltb, le-ltb, lt-leb, le-leb, eq-eqb, ne_eqb, eqb-true, ltb-true, leb-true}
-use Rattle.numbers.specs.Signal.{pick, both}
+use borrow.Author.Tests.{lt-leb, le-leb, eq-eqb, ne_eqb, eqb-true, ltb-true, leb-true}
+use Rattle.numbers.specs.Signal.{pick}
 use Rattle.numbers.proofs.Sweep.{both as halves}
 use Rattle.wavelet.specs.declared.shape.Shape.{Shape}
 use Rattle.wavelet.specs.Limits.{max_width, max_height, max_levels}
-use Rattle.wavelet.specs.Questions.{ask, within}
-use Rattle.wavelet.proofs.LimitLaws.{width_small, levels-small}
+use Rattle.wavelet.specs.Questions.{within}
+use Rattle.wavelet.proofs.LimitLaws.{width_small}
 use Rattle.wavelet.proofs.QuestionLaws.{within-true}
 use Rattle.filters.specs.Filters.{filter_of, is_filter}
 use Rattle.filters.proofs.FigureLaws.{levels-most}

@@ -2,8 +2,8 @@
 -- (`answer-is`), and what stays (`saves-kept`, `saves-past`). Assumes nothing.
 use mathlib.Core.Path.{◌≡◌, refl, sym, ap, ap₂, subst, ◌∙◌}
 use mathlib.Core.Bool.{Bool, true, false}
-use mathlib.Core.List.{List, [], ◌∷◌, ◌++◌}
-use Prim.Native.Nat.{ℕ, ◌+◌, ◌-◌, ◌*◌, ◌%◌, ◌/◌, ◌^◌, ◌≤◌, ◌<◌, min}
+use mathlib.Core.List.{List, []}
+use Prim.Native.Nat.{ℕ, ◌+◌, ◌-◌, ◌*◌, ◌%◌, ◌^◌, ◌≤◌, ◌<◌, min}
 use native.Mathlib.Nat.{mul-le-mul}
 use native.Mathlib.Omega.{arith}
 use native.Mathlib.Decide.{dec_lt}
@@ -26,7 +26,7 @@ use Rattle.ground_file.specs.declared.saver.Saved.{Saved}
 use Rattle.ground_file.specs.Groups.{width_of, code_of, bytes_of, part_of, group_of}
 use Rattle.ground_file.specs.File.{header_of, listed, as_number, prime}
 use Rattle.ground_file.specs.Values.{kept}
-use Rattle.ground_file.specs.Saving.{saver_at, row_of, step_of, piece_of, at_row, onward, partly, from_of, rest_of, moved, begins, row_fits, row_divides}
+use Rattle.ground_file.specs.Saving.{saver_at, row_of, step_of, piece_of, at_row, onward, partly, from_of, moved, begins, row_fits, row_divides}
 use Rattle.ground_file.specs.Saving.{row_number, stop_of, Went, here, on, set_up_number, saver_fits, save_number, fresh, Ran, Saves, Calls, none, call}
 use Rattle.ground_file.proofs.Digits.{Below}
 use Rattle.ground_file.proofs.FileLaws.{listed-length, listed_below}
@@ -35,7 +35,7 @@ use Rattle.ground_file.proofs.PutLaws.{width-most}
 use Rattle.ground_file.proofs.ValueLaws.{kept_small}
 use Rattle.ground_file.proofs.SaverLaws.{remains, prime-some, stop-full, stop-over, stop-row}
 use Rattle.ground_file.proofs.SaverAsks.{passed}
-use Rattle.ground_file.proofs.FileSaved.{take_0, drop-0, nothing_written, goes-forward}
+use Rattle.ground_file.proofs.FileSaved.{drop-0, nothing_written, goes-forward}
 
 -- ---- no piece is longer than 57 bytes
 part-few : (l : List ℕ) → Below (2 ^ 28) l → length l ≤ 8 → length (part_of (width_of (code_of l)) l) ≤ 28

@@ -1,11 +1,11 @@
 -- The checksum four bytes at a time. Assumes nothing.
 use mathlib.Core.Path.{◌≡◌, refl, sym, ap, ap₂, ◌∙◌}
-use mathlib.Core.List.{List, [], ◌∷◌, ◌++◌}
-use Prim.Native.Nat.{ℕ, suc, ◌+◌, ◌*◌, ◌-◌, ◌/◌, ◌%◌, ◌^◌, ◌≤◌, ◌<◌}
+use mathlib.Core.List.{List, [], ◌∷◌}
+use Prim.Native.Nat.{ℕ, ◌+◌, ◌*◌, ◌-◌, ◌/◌, ◌%◌, ◌^◌, ◌≤◌, ◌<◌}
 use native.Mathlib.Nat.{mul-add-mod_self_right}
 use native.Mathlib.Omega.{arith}
 use lib.ListN.{length, take, drop, get_or, length-take, length-drop}
-use lib.Seq.{take-add, drop-drop, get_or-drop}
+use lib.Seq.{take-add, get_or-drop}
 use Rattle.ground_file.specs.File.{as_number, prime}
 use Rattle.ground_file.proofs.WidthLaws.{drop-first}
 use Rattle.ground_file.proofs.ValueLaws.{number_append, number-rest, sum_more}

@@ -8,14 +8,14 @@ use native.Mathlib.Omega.{arith}
 use native.Mathlib.Decide.{dec_lt}
 use lib.IntN.{ℤ, pos, negsuc, nat_abs, neg_ℤ, ◌+ℤ◌, ◌-ℤ◌, ◌*ℤ◌}
 use lib.Signed.{mag, lt_z, shr_z, non_neg}
-use lib.Dec.{T, ltb, eqb}
+use lib.Dec.{T}
 use lib.ListN.{length, take, set, get_or, length-set}
 use lib.Seq.{take-suc, take-suc-set}
 use mir.Syntax.{w32}
 use mir.Val.{SFits, to_z, of_z}
 use mir.ValLaws.{to_z-of_z}
 use borrow.Author.Tests.{ltb-true, ltb-false, lt-ltb, eq-eqb, eqb-true}
-use Rattle.numbers.specs.Signal.{at, pick, both}
+use Rattle.numbers.specs.Signal.{both}
 use Rattle.numbers.specs.Tests.{every}
 use Rattle.numbers.proofs.Integers.{each, lin, dif-nat_abs}
 use Rattle.ground_file.specs.Groups.{zigzag, holds}

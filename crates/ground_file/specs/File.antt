@@ -1,7 +1,6 @@
 -- The file of a plane, as a list of bytes. docs/FORMAT.md.
 use Rattle.std.specs.Prelude.{◌≡◌, List, [], ◌∷◌, ◌++◌, ℕ, zero, suc, ◌+◌, ◌*◌, ◌%◌, ◌^◌, ◌≤◌, ◌<◌, ℤ, pos, ◌*ℤ◌}
 use Rattle.std.specs.Int.Signed.{shr_z}
-use Rattle.lifting.specs.Grid.{Side}
 use Rattle.wavelet.specs.declared.shape.Shape.{Shape}
 use Rattle.wavelet.specs.Shape.{columns, rows}
 use Rattle.wavelet.specs.Bands.{Band, LL, HL, LH, HH, code}

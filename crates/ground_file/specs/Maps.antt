@@ -1,5 +1,5 @@
 -- The file of a map: that of its plane, with step 1. docs/FORMAT.md.
-use Rattle.std.specs.Prelude.{List, ℕ, ◌<◌, ◌≤◌, ℤ}
+use Rattle.std.specs.Prelude.{List, ℕ, ◌<◌, ℤ}
 use Rattle.numbers.specs.Word.{whole}
 use Rattle.wavelet.specs.declared.shape.Shape.{Shape}
 use Rattle.wavelet.specs.Shape.{columns, rows}

@@ -1,5 +1,5 @@
 -- What a saver does: the piece of the file that it is at, what is left of it, and where it goes on. docs/FORMAT.md, "Saving".
-use Rattle.std.specs.Prelude.{◌≡◌, Bool, true, false, List, [], ◌∷◌, ◌++◌, ℕ, zero, suc, ◌+◌, ◌-◌, ◌*◌, ◌/◌, ◌%◌, ◌^◌, ◌≤◌, ◌<◌, min, ℤ, pos, nat_abs, ◌*ℤ◌, leb, ltb, eqb, length, take, drop}
+use Rattle.std.specs.Prelude.{◌≡◌, Bool, true, List, [], ◌++◌, ℕ, ◌+◌, ◌-◌, ◌*◌, ◌%◌, ◌^◌, ◌≤◌, ◌<◌, min, ℤ, pos, nat_abs, ◌*ℤ◌, leb, ltb, eqb, length, take, drop}
 use Rattle.std.specs.Int.Signed.{shr_z}
 use Rattle.numbers.specs.Signal.{at, pick, both}
 use Rattle.numbers.specs.Tests.{every}
@@ -12,7 +12,7 @@ use Rattle.wavelet.specs.View.{band_columns, band_start, Kept}
 use Rattle.wavelet.specs.ViewCall.{view_row}
 use Rattle.filters.specs.Filters.{filter_of, is_filter}
 use Rattle.reader_order.specs.declared.Place.{Place}
-use Rattle.reader_order.specs.Order.{nowhere, place_fits, first_place, next_place, row_at}
+use Rattle.reader_order.specs.Order.{nowhere, first_place, next_place, row_at}
 use Rattle.ground_file.specs.declared.saver.Saver.{Saver}
 use Rattle.ground_file.specs.declared.saver.Saved.{Saved}
 use Rattle.ground_file.specs.Groups.{bytes_of, group_of}

@@ -1,6 +1,6 @@
 use mathlib.Core.Path.{refl}
 use native.Mathlib.Omega.{arith}
-use Rattle.ground_file.proofs.WidthLaws.{Seen, seen_start, seen_more, seen-less, seen-all}
+use Rattle.ground_file.proofs.WidthLaws.{seen_start, seen_more, seen-less, seen-all}
 use Rattle.ground_file.proofs.groups.largest.Goals as goal
 
 pub loop-i-init : goal.loop-i-init

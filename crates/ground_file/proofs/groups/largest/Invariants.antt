@@ -1,7 +1,5 @@
 -- `groups::largest` meets its contract: the numbers are seen from the last on (`Seen`). Assumes nothing.
-use mathlib.Core.Path.{refl}
-use native.Mathlib.Omega.{arith}
-use Rattle.ground_file.proofs.WidthLaws.{Seen, seen_start, seen_more, seen-less, seen-all}
+use Rattle.ground_file.proofs.WidthLaws.{Seen}
 use Rattle.ground_file.proofs.groups.largest.Given as goal
 
 abbrev pub invariant-loop-i : goal.invariant-loop-i

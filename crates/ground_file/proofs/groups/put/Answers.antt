@@ -1,9 +1,8 @@
 -- `groups::put` meets its contract: the byte of the two codes, then the two parts (`all-wrote`). Assumes nothing.
-use mathlib.Core.Path.{◌≡◌, refl, sym, ap, ◌∙◌}
-use Prim.Native.Nat.{ℕ, ◌+◌, ◌*◌, ◌-◌, ◌≤◌, ◌<◌}
+use mathlib.Core.Path.{refl, ◌∙◌}
+use Prim.Native.Nat.{◌+◌, ◌*◌}
 use native.Mathlib.Omega.{arith}
-use borrow.Author.Rules.{rules}
-use lib.ListN.{length, length-set}
+use lib.ListN.{length-set}
 use Rattle.text.proofs.TextLaws.{wrote-size}
 use Rattle.ground_file.proofs.PutLaws.{low-part, high-part, low-asks, high-asks, all-wrote}
 use Rattle.ground_file.proofs.groups.put.Goals as goal

@@ -1,7 +1,7 @@
 use mathlib.Core.Path.{refl}
 use Prim.Native.Nat.{◌+◌, ◌-◌}
 use native.Mathlib.Omega.{arith}
-use Rattle.ground_file.proofs.HeaderLaws.{Reading, reading-start, reading-room, reading-next, reading-end}
+use Rattle.ground_file.proofs.HeaderLaws.{reading-start, reading-room, reading-next, reading-end}
 use Rattle.ground_file.proofs.header.number_in.Goals as goal
 
 pub loop-i-init : goal.loop-i-init

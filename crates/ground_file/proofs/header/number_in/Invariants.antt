@@ -1,8 +1,5 @@
 -- `header::number_in` meets its contract: the bytes are taken from the last on (`Reading`). Assumes nothing.
-use mathlib.Core.Path.{refl}
-use Prim.Native.Nat.{◌+◌, ◌-◌}
-use native.Mathlib.Omega.{arith}
-use Rattle.ground_file.proofs.HeaderLaws.{Reading, reading-start, reading-room, reading-next, reading-end}
+use Rattle.ground_file.proofs.HeaderLaws.{Reading}
 use Rattle.ground_file.proofs.header.number_in.Given as goal
 
 abbrev pub invariant-loop-i : goal.invariant-loop-i

@@ -1,9 +1,6 @@
-use mathlib.Core.Path.{◌≡◌, refl, sym, ap, ◌∙◌}
-use Prim.Native.Nat.{ℕ, ◌+◌, ◌^◌, ◌≤◌, ◌<◌}
 use native.Mathlib.Omega.{arith}
-use lib.ListN.{length}
 use Rattle.text.proofs.TextLaws.{wrote-size}
-use Rattle.ground_file.proofs.Packing.{Flushed, flush-start, flush-place, flush-next, flush-end}
+use Rattle.ground_file.proofs.Packing.{flush-start, flush-place, flush-next, flush-end}
 use Rattle.ground_file.proofs.Clauses.{wrote-low_value}
 use Rattle.ground_file.proofs.parts.flush.Goals as goal
 

@@ -1,10 +1,7 @@
 -- `parts::flush` meets its contract: after each turn one byte more is written (`Flushed`). Assumes nothing.
-use mathlib.Core.Path.{◌≡◌, refl, sym, ap, ◌∙◌}
-use Prim.Native.Nat.{ℕ, ◌+◌, ◌^◌, ◌≤◌, ◌<◌}
-use native.Mathlib.Omega.{arith}
+use Prim.Native.Nat.{◌^◌, ◌<◌}
 use lib.ListN.{length}
-use Rattle.text.proofs.TextLaws.{wrote-size}
-use Rattle.ground_file.proofs.Packing.{Flushed, flush-start, flush-place, flush-next, flush-end}
+use Rattle.ground_file.proofs.Packing.{Flushed}
 use Rattle.ground_file.proofs.parts.flush.Given as goal
 
 abbrev pub invariant-loop-count : goal.invariant-loop-count

@@ -1,9 +1,7 @@
-use mathlib.Core.Path.{◌≡◌, refl, sym, ap, ◌∙◌}
-use Prim.Native.Nat.{ℕ, ◌+◌, ◌*◌, ◌-◌, ◌^◌, ◌≤◌, ◌<◌}
+use mathlib.Core.Path.{refl, ◌∙◌}
 use native.Mathlib.Omega.{arith}
-use lib.ListN.{length, take, drop}
 use Rattle.text.proofs.TextLaws.{wrote-size}
-use Rattle.ground_file.proofs.Packing.{Puts, puts-start, puts-end, last-room, next-room, sum-small, puts-next}
+use Rattle.ground_file.proofs.Packing.{puts-start, puts-end, last-room, next-room, sum-small, puts-next}
 use Rattle.ground_file.proofs.parts.pack.Goals as goal
 
 pub loop-i-init : goal.loop-i-init

@@ -1,10 +1,6 @@
 -- `parts::pack` meets its contract: after each turn one number more is put, and its whole bytes are written (`Puts`). Assumes nothing.
-use mathlib.Core.Path.{◌≡◌, refl, sym, ap, ◌∙◌}
-use Prim.Native.Nat.{ℕ, ◌+◌, ◌*◌, ◌-◌, ◌^◌, ◌≤◌, ◌<◌}
-use native.Mathlib.Omega.{arith}
-use lib.ListN.{length, take, drop}
-use Rattle.text.proofs.TextLaws.{wrote-size}
-use Rattle.ground_file.proofs.Packing.{Puts, puts-start, puts-end, last-room, next-room, sum-small, puts-next}
+use Prim.Native.Nat.{◌-◌}
+use Rattle.ground_file.proofs.Packing.{Puts}
 use Rattle.ground_file.proofs.parts.pack.Given as goal
 
 abbrev pub invariant-loop-i : goal.invariant-loop-i

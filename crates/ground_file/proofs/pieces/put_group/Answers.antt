@@ -1,11 +1,10 @@
 -- `pieces::put_group` meets its contract: the numbers, then the group of them. Assumes nothing.
-use mathlib.Core.Path.{◌≡◌, refl, sym, ap, ◌∙◌, subst}
+use mathlib.Core.Path.{◌≡◌, ap, ◌∙◌, subst}
 use mathlib.Core.List.{List}
-use Prim.Native.Nat.{ℕ, ◌+◌, ◌-◌, ◌≤◌, min}
+use Prim.Native.Nat.{ℕ, ◌+◌}
 use native.Mathlib.Omega.{arith}
-use borrow.Author.Rules.{rules}
 use lib.IntN.{ℤ}
-use lib.ListN.{length, take}
+use lib.ListN.{take}
 use Rattle.numbers.specs.Signal.{at}
 use Rattle.text.specs.Text.{Wrote}
 use Rattle.ground_file.specs.Groups.{group_of, holds}
@@ -24,13 +23,12 @@ fill-requires c =
     (omega (arith, c.some-n.ensures), omega (arith, c.some-n.ensures), c.requires.1)
 
 pub put-requires : goal.put-requires
-put-requires c =
-    (
-      omega (arith, c.some-n.ensures),
-      omega (arith, c.some-n.ensures, c.fill.auto.numbers),
-      ap (holds 28) c.fill.ensures ∙ listed-held _ _ (λ i. kept_small _ _),
-      omega (arith, c.requires.0),
-    )
+put-requires c = (
+  omega (arith, c.some-n.ensures),
+  omega (arith, c.some-n.ensures, c.fill.auto.numbers),
+  ap (holds 28) c.fill.ensures ∙ listed-held _ _ (λ i. kept_small _ _),
+  omega (arith, c.requires.0),
+)
 
 pub returns : goal.returns
 returns c =

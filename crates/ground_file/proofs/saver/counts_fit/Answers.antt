@@ -2,7 +2,6 @@
 use Rattle.wavelet.specs.Limits.{max_width}
 use Rattle.ground_file.specs.File.{prime}
 use Rattle.ground_file.proofs.SaverAsks.{fits-shape, fits-phase, fits-group, fits-part, fits_sum}
-use borrow.Author.Rules.{rules}
 use Rattle.ground_file.proofs.saver.counts_fit.Goals as goal
 
 pub returns-then-set_up_question-ne0 : goal.returns-then-set_up_question-ne0

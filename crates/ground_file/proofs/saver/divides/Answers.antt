@@ -2,7 +2,6 @@
 use mathlib.Core.Path.{◌∙◌, sym}
 use native.Mathlib.Omega.{arith}
 use Rattle.ground_file.proofs.SaverLaws.{step-some, divides-one, divides-is}
-use borrow.Author.Rules.{rules}
 use Rattle.ground_file.proofs.saver.divides.Goals as goal
 
 pub returns-then-step-eq1 : goal.returns-then-step-eq1

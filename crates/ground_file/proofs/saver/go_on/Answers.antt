@@ -2,7 +2,6 @@
 use mathlib.Core.Path.{◌∙◌, ap}
 use Rattle.ground_file.specs.Saving.{at_row}
 use Rattle.ground_file.proofs.SaverLaws.{on-head, on-group, on-sum}
-use borrow.Author.Rules.{rules}
 use Rattle.ground_file.proofs.saver.go_on.Goals as goal
 
 pub returns-then-s-eq0 : goal.returns-then-s-eq0

@@ -7,7 +7,6 @@ use borrow.Author.Rules.{sfits_of}
 use Rattle.numbers.proofs.Words.{read_back}
 use Rattle.level.proofs.AdmitLaws.{neg-fits}
 use Rattle.ground_file.proofs.SaverLaws.{fits-is}
-use borrow.Author.Rules.{rules}
 use Rattle.ground_file.proofs.saver.in_range.Goals as goal
 
 pub overflow_sub-most : goal.overflow_sub-most

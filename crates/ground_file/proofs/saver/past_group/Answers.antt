@@ -1,9 +1,7 @@
 -- `saver::past_group` meets its contract: the next group, or the next row. Assumes nothing.
 use mathlib.Core.Path.{◌∙◌, ap}
-use native.Mathlib.Omega.{arith}
 use Rattle.ground_file.specs.Saving.{at_row}
 use Rattle.ground_file.proofs.SaverLaws.{group-more, group-last}
-use borrow.Author.Rules.{rules}
 use Rattle.ground_file.proofs.saver.past_group.Goals as goal
 
 pub returns-then-group-length : goal.returns-then-group-length

@@ -1,7 +1,6 @@
 -- `saver::put_piece` meets its contract: the piece of the phase. Assumes nothing.
 use native.Mathlib.Omega.{arith}
 use Rattle.ground_file.proofs.SaverLaws.{step-some, wrote_as, piece-head, piece-group, piece-sum}
-use borrow.Author.Rules.{rules}
 use Rattle.ground_file.proofs.saver.put_piece.Goals as goal
 
 pub returns-then-s-eq0 : goal.returns-then-s-eq0

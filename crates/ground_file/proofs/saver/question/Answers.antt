@@ -2,7 +2,6 @@
 use mathlib.Core.Path.{sym, ◌∙◌}
 use borrow.Author.Tests.{not-true, not-false}
 use Rattle.ground_file.proofs.SaverAsks.{save-one, save-five, save-none, area_small}
-use borrow.Author.Rules.{rules}
 use Rattle.ground_file.proofs.saver.question.Goals as goal
 
 pub returns-then-not-counts_fit : goal.returns-then-not-counts_fit

@@ -3,7 +3,6 @@ use mathlib.Core.Path.{◌∙◌, ap}
 use Rattle.wavelet.specs.Shape.{columns, rows}
 use Rattle.wavelet.specs.ViewCall.{view_row}
 use Rattle.ground_file.specs.Saving.{row_of}
-use borrow.Author.Rules.{rules}
 use Rattle.ground_file.proofs.saver.row_of.Goals as goal
 
 pub returns : goal.returns

@@ -2,7 +2,6 @@
 use mathlib.Core.Path.{◌∙◌, sym}
 use borrow.Author.Tests.{not-true, not-false}
 use Rattle.ground_file.proofs.SaverLaws.{number-none, number-seven, number-no-file, number-row}
-use borrow.Author.Rules.{rules}
 use Rattle.ground_file.proofs.saver.row_question.Goals as goal
 
 pub returns-then-not-is_first : goal.returns-then-not-is_first

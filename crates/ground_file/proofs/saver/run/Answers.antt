@@ -1,8 +1,6 @@
 use mathlib.Core.Path.{refl, sym, ◌∙◌}
-use Prim.Native.Nat.{◌-◌, ◌<◌, ◌^◌}
 use native.Mathlib.Omega.{arith}
-use lib.ListN.{length}
-use Rattle.ground_file.proofs.SaverLaws.{Running, running-start, running-by, inside-by, less_by, goes-on, step_room, ran, answer-stop, answer-none}
+use Rattle.ground_file.proofs.SaverLaws.{running-start, running-by, inside-by, less_by, goes-on, step_room, ran, answer-stop, answer-none}
 use Rattle.ground_file.proofs.saver.run.Goals as goal
 
 pub stop_of-stop-requires : goal.stop_of-stop-requires

@@ -1,9 +1,7 @@
 -- `saver::run` meets its contract: turn by turn (`running-on`). Assumes nothing.
-use mathlib.Core.Path.{refl, sym, ◌∙◌}
 use Prim.Native.Nat.{◌-◌, ◌<◌, ◌^◌}
-use native.Mathlib.Omega.{arith}
 use lib.ListN.{length}
-use Rattle.ground_file.proofs.SaverLaws.{Running, running-start, running-by, inside-by, less_by, goes-on, step_room, ran, answer-stop, answer-none}
+use Rattle.ground_file.proofs.SaverLaws.{Running}
 use Rattle.ground_file.proofs.saver.run.Given as goal
 
 abbrev pub invariant-loop-stop : goal.invariant-loop-stop

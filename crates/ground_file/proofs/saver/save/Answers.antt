@@ -1,7 +1,6 @@
 -- `saver::save` meets its contract: 1 and 5, then the pieces. Assumes nothing.
 use mathlib.Core.Path.{refl, sym, ◌∙◌}
 use Rattle.ground_file.proofs.SaverAsks.{fits-inside, save-fits, saves-not, saves-ran}
-use borrow.Author.Rules.{rules}
 use Rattle.ground_file.proofs.saver.save.Goals as goal
 
 pub returns-then-no-ne0 : goal.returns-then-no-ne0

@@ -5,7 +5,6 @@ use Rattle.wavelet.specs.Limits.{max_width, max_height}
 use Rattle.wavelet.specs.Questions.{within}
 use Rattle.ground_file.specs.Saving.{max_step}
 use Rattle.ground_file.proofs.SaverAsks.{asks-width, asks-height, asks-filter, asks-levels, asks-step, asks-plain, asks_nothing}
-use borrow.Author.Rules.{rules}
 use Rattle.ground_file.proofs.saver.set_up_question.Goals as goal
 
 pub returns-then-not-is_within : goal.returns-then-not-is_within

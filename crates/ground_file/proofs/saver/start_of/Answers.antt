@@ -1,5 +1,4 @@
 -- `saver::start_of` meets its contract. Assumes nothing.
-use native.Mathlib.Omega.{arith}
 use Rattle.ground_file.proofs.SaverLaws.{start-in, start-past}
 use Rattle.ground_file.proofs.saver.start_of.Goals as goal
 

@@ -4,7 +4,6 @@ use native.Mathlib.Omega.{arith}
 use Rattle.ground_file.specs.Saving.{row_of, row_number}
 use Rattle.ground_file.proofs.SaverLaws.{number-none, stop-full, stop-over, stop-row}
 use borrow.Author.Tests.{not-true}
-use borrow.Author.Rules.{rules}
 use Rattle.ground_file.proofs.saver.stop_of.Goals as goal
 
 pub returns-then-room-at : goal.returns-then-room-at

@@ -2,8 +2,7 @@
 use mathlib.Core.Path.{◌∙◌}
 use native.Mathlib.Omega.{arith}
 use Rattle.text.proofs.TextLaws.{front-end}
-use Rattle.ground_file.proofs.SaverLaws.{piece-some, long, in-piece, at-is, area-is, partly-is, whole_is}
-use borrow.Author.Rules.{rules}
+use Rattle.ground_file.proofs.SaverLaws.{piece-some, in-piece, at-is, area-is, partly-is, whole_is}
 use Rattle.ground_file.proofs.saver.write_some.Goals as goal
 
 pub start_of-from-requires : goal.start_of-from-requires
@@ -28,13 +27,16 @@ overflow_add-result c =
 pub returns-then-from-m : goal.returns-then-from-m
 returns-then-from-m c =
     let a = c.args in
-    record { saver = (
+    record {
+      saver = (
         c.with.ensures ∙ partly-is a.s a.row.now _ _ _ a.at a.out.now _ _ c.put_piece-n.ensures c.start_of-from.ensures
             c.copy-m.ensures.value
             c.if-from-m.true,
         at-is a.s a.row.now _ _ _ a.at a.out.now _ _ c.put_piece-n.ensures c.start_of-from.ensures c.copy-m.ensures.value,
-      ); area = area-is a.s a.row.now _ _ _ a.at a.out.now _ _ c.put_piece-n.ensures c.start_of-from.ensures c.copy-m.ensures.value _
-          c.copy-m.ensures.out_after }
+      );
+      area = area-is a.s a.row.now _ _ _ a.at a.out.now _ _ c.put_piece-n.ensures c.start_of-from.ensures c.copy-m.ensures.value _
+          c.copy-m.ensures.out_after;
+    }
 
 pub overflow_add-result-2 : goal.overflow_add-result-2
 overflow_add-result-2 c =
@@ -44,9 +46,12 @@ overflow_add-result-2 c =
 pub returns : goal.returns
 returns c =
     let a = c.args in
-    record { saver = (
+    record {
+      saver = (
         whole_is a.s a.row.now _ _ _ a.at a.out.now _ _ c.put_piece-n.ensures c.start_of-from.ensures c.copy-m.ensures.value c.if-from-m.false _ _
             c.sum_of-sum.ensures c.go_on.ensures,
         at-is a.s a.row.now _ _ _ a.at a.out.now _ _ c.put_piece-n.ensures c.start_of-from.ensures c.copy-m.ensures.value,
-      ); area = area-is a.s a.row.now _ _ _ a.at a.out.now _ _ c.put_piece-n.ensures c.start_of-from.ensures c.copy-m.ensures.value _
-          c.copy-m.ensures.out_after }
+      );
+      area = area-is a.s a.row.now _ _ _ a.at a.out.now _ _ c.put_piece-n.ensures c.start_of-from.ensures c.copy-m.ensures.value _
+          c.copy-m.ensures.out_after;
+    }

@@ -1,7 +1,6 @@
 -- `sums::four` meets its contract: four bytes, each below 256. Assumes nothing.
 use Prim.Native.Nat.{◌+◌}
 use native.Mathlib.Omega.{arith}
-use borrow.Author.Rules.{rules}
 use Rattle.ground_file.proofs.SumLaws.{four_is}
 use Rattle.ground_file.proofs.sums.four.Goals as goal
 

@@ -1,7 +1,6 @@
-use Prim.Native.Nat.{◌-◌}
 use native.Mathlib.Omega.{arith}
 use Rattle.ground_file.specs.File.{prime}
-use Rattle.ground_file.proofs.SumLaws.{Fours, fours-start, fours-next, fours-end}
+use Rattle.ground_file.proofs.SumLaws.{fours-start, fours-next, fours-end}
 use Rattle.ground_file.proofs.sums.sum_fours.Goals as goal
 
 pub loop-i-init : goal.loop-i-init

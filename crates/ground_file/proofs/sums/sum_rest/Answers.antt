@@ -1,8 +1,7 @@
 use mathlib.Core.Path.{refl}
-use Prim.Native.Nat.{◌-◌}
 use native.Mathlib.Omega.{arith}
 use Rattle.ground_file.specs.File.{prime}
-use Rattle.ground_file.proofs.SumLaws.{Ones, ones-start, ones-next, ones-end}
+use Rattle.ground_file.proofs.SumLaws.{ones-start, ones-next, ones-end}
 use Rattle.ground_file.proofs.sums.sum_rest.Goals as goal
 
 pub loop-i-init : goal.loop-i-init

@@ -1,9 +1,6 @@
 -- `sums::sum_rest` meets its contract: after each turn one byte more is summed (`Ones`). Assumes nothing.
-use mathlib.Core.Path.{refl}
 use Prim.Native.Nat.{◌-◌}
-use native.Mathlib.Omega.{arith}
-use Rattle.ground_file.specs.File.{prime}
-use Rattle.ground_file.proofs.SumLaws.{Ones, ones-start, ones-next, ones-end}
+use Rattle.ground_file.proofs.SumLaws.{Ones}
 use Rattle.ground_file.proofs.sums.sum_rest.Given as goal
 
 abbrev pub invariant-loop-i : goal.invariant-loop-i

@@ -1,5 +1,4 @@
 -- `values::divided` meets its contract: by 1 it is the number itself. Assumes nothing.
-use borrow.Author.Rules.{rules}
 use Rattle.ground_file.proofs.ValueLaws.{by_one}
 use Rattle.ground_file.proofs.values.divided.Goals as goal
 

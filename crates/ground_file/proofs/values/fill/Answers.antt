@@ -1,11 +1,10 @@
 use mathlib.Core.Path.{◌≡◌, ap, ◌∙◌, subst}
 use mathlib.Core.List.{List}
-use Prim.Native.Nat.{ℕ, ◌+◌, ◌-◌, ◌≤◌, ◌<◌, ◌^◌}
+use Prim.Native.Nat.{ℕ, ◌+◌}
 use native.Mathlib.Omega.{arith}
-use lib.ListN.{length, take}
+use lib.ListN.{take}
 use Rattle.numbers.specs.Signal.{at}
 use Rattle.numbers.proofs.Words.{read_back}
-use mir.Syntax.{w32}
 use Rattle.ground_file.specs.File.{listed}
 use Rattle.ground_file.specs.Values.{kept}
 use Rattle.ground_file.proofs.ValueLaws.{Filling, filling-start, filling-more}

@@ -1,15 +1,9 @@
 -- `values::fill` meets its contract: number by number from the front. Assumes nothing.
-use mathlib.Core.Path.{◌≡◌, ap, ◌∙◌, subst}
-use mathlib.Core.List.{List}
-use Prim.Native.Nat.{ℕ, ◌+◌, ◌-◌, ◌≤◌, ◌<◌, ◌^◌}
-use native.Mathlib.Omega.{arith}
-use lib.ListN.{length, take}
+use Prim.Native.Nat.{◌+◌, ◌-◌, ◌≤◌, ◌<◌, ◌^◌}
+use lib.ListN.{length}
 use Rattle.numbers.specs.Signal.{at}
-use Rattle.numbers.proofs.Words.{read_back}
-use mir.Syntax.{w32}
-use Rattle.ground_file.specs.File.{listed}
 use Rattle.ground_file.specs.Values.{kept}
-use Rattle.ground_file.proofs.ValueLaws.{Filling, filling-start, filling-more}
+use Rattle.ground_file.proofs.ValueLaws.{Filling}
 use Rattle.ground_file.proofs.values.fill.Given as goal
 
 abbrev pub invariant-loop-i : goal.invariant-loop-i

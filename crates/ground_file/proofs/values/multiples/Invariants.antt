@@ -1,13 +1,10 @@
 -- `values::multiples` meets its contract: the answer so far is that of the values passed. Assumes nothing.
-use mathlib.Core.Path.{◌≡◌, refl, ap, ◌∙◌}
-use Prim.Native.Nat.{ℕ, ◌+◌, ◌-◌, ◌≤◌}
-use native.Mathlib.Omega.{arith}
+use mathlib.Core.Path.{◌≡◌}
+use Prim.Native.Nat.{◌-◌, ◌≤◌}
 use lib.ListN.{length}
 use Rattle.numbers.specs.Signal.{at}
 use Rattle.numbers.specs.Tests.{every}
-use Rattle.numbers.proofs.Words.{read_back}
 use Rattle.ground_file.specs.Values.{is_multiple}
-use Rattle.ground_file.proofs.ValueLaws.{every_more}
 use Rattle.ground_file.proofs.values.multiples.Given as goal
 
 abbrev pub invariant-loop-i : goal.invariant-loop-i
