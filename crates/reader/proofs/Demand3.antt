@@ -214,9 +214,9 @@ module _ (f base spare : ℕ) (W H : Side) (l : ℕ) (lim : Limits 0 f base spar
         (want_is 0 f base spare W H l lim d p e x t fs ds kept) ∙ ap₂ (λ u v. wanted (gives (want_says base W u v))) live over
 
   -- ---- the claim, for a world that is reached
-  pub claim : (w : World) (es : List Event) → Then 0 f base spare W H l lim es w → (all.counts_fit w.reader ≡ true)
+  pub claim : (es : List Event) (w : World) → Then 0 f base spare W H l lim es w → (all.counts_fit w.reader ≡ true)
       × Demand3 f base spare W H (suc l) es (λ c. event c w)
-  claim _ es (reached d p e x t fs ds kept) = (
+  claim es _ (reached d p e x t fs ds kept) = (
     counts 0 f base spare W H l lim d p kept.drawn_le kept.level-le kept.band-le kept.back-le e kept.lives,
     record {
       rows_once = steps-once (ahead f) (looks f) W H (suc l) (omega arith);

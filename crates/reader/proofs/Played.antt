@@ -48,15 +48,18 @@ use Rattle.reader.proofs.Demand3.{demand-3}
 
 -- ---- names
 in-names : (f : FedRow) (fs : List FedRow) → In f fs → In f.row (names_of fs)
+in-names f [] i = elim i [ ]
 in-names f (g ∷ fs) first = first
 in-names f (g ∷ fs) (later i) = later (in-names f fs i)
 
 names_in : (x : RowName) (fs : List FedRow) → In x (names_of fs) → (f : FedRow) × In f fs × (f.row ≡ x)
+names_in x [] i = elim i [ ]
 names_in x (f ∷ fs) first = (f, first, refl)
 names_in x (f ∷ fs) (later i) = let r = names_in x fs i in (r.0, later r.1, r.2)
 
 pub in-times : (x : RowName) (xs : List RowName) → In x xs → 1 ≤ times x xs
 unfolding times
+in-times x [] i = elim i [ ]
 in-times x (y ∷ xs) first = rw (same_self x) (omega arith)
 in-times x (y ∷ xs) (later i) = let a = in-times x xs i in omega arith
 

@@ -164,12 +164,14 @@ lookup (f ∷ fs) x = pick (same_name x f.row) f.run.numbers (lookup fs x)
 
 occurs : (f : FedRow) (fs : List FedRow) → In f fs → 1 ≤ times f.row (names_of fs)
 unfolding times
+occurs f [] i = elim i [ ]
 occurs f (g ∷ fs) first = rw (same_self f.row) (omega arith)
 occurs f (g ∷ fs) (later i) = let a = occurs f fs i in omega arith
 
 -- a row that stands once is found
 pub found : (f : FedRow) (fs : List FedRow) → In f fs → times f.row (names_of fs) ≤ 1 → lookup fs f.row ≡ f.run.numbers
 unfolding times lookup
+found f [] i h = elim i [ ]
 found f (g ∷ fs) first h = rw (same_self f.row) refl
 found f (g ∷ fs) (later i) h = go (same_name f.row g.row) h (found f fs i)
   where

@@ -13,10 +13,6 @@ use Rattle.reader.proofs.RunPlaces.{kept-place, is-place, past-fed, band-fed}
 use mathlib.Core.Path.{refl}
 use Rattle.reader.proofs.run_steps.place_past.Goals as goal
 
--- NO GOAL add-t6
--- add-t6 : tie.Need-overflow-add-t6
--- add-t6 c = let start = c.before.before in omega (arith, (spot_in _ _ start.requires.1.spot start.requires.2).1)
-
 pub spot_past-requires : goal.spot_past-requires
 spot_past-requires c = let p = c.requires in (p.0, p.1, p.2)
 
@@ -48,3 +44,6 @@ returns c =
     subst (λ (q : Spot). IsPlace s.filter (columns s) (rows s) s.drawn q c.kept.result)
     (band-fed s n p.1.spot p.2 _ p.3 (p.1.set p.2) n.spot.level refl c.if-complete.false)
     (kept-place s.filter (columns s) (rows s) s.drawn n.at _ c.kept.result p.2 at (omega (arith, at.set, p.1.set p.2)) c.kept.ensures)
+
+pub overflow_add-n : goal.overflow_add-n
+overflow_add-n c = omega (arith, (spot_in _ _ c.requires.1.spot c.requires.2).1)
