@@ -1,5 +1,5 @@
 # Builds and installs the library for programs and the command `terrain` for people. It needs no network.
-#   make                             compiles library and command in seconds, into target/quick; the proofs are not repeated
+#   make                             compiles library and command in a minute or two, into target/quick; the proofs are not repeated
 #   make prove                       repeats the proofs, about 10 minutes on two cores, and compiles what they prove
 #   make install PREFIX=/usr/local   from proved code only: header, archive, pkg-config file, CMake package, command, man page and shell completion;
 #                                    below DESTDIR, if that is set
@@ -37,7 +37,7 @@ COMMAND_FLAGS = -std=c11 -D_GNU_SOURCE -O2 -Wall -Wextra -Wshadow -I include $(i
 COMMAND_LIBS = $(if $(LIBPNG),$(shell pkg-config --libs libpng)) -lm
 # What the crates are compiled from, and what they are proved from.
 SOURCES := $(shell find crates -name '*.rt' -path '*/src/*')
-CRATES := crates.txt $(shell find crates -path '*/must-fail' -prune -o -type f -print)
+CRATES := crates.txt $(shell find crates \( -path '*/must-fail' -o -path '*/out' \) -prune -o -type f -print)
 
 # What is built over an archive of one's own is built each time, apart from the rest.
 BUILT := target/command$(if $(TERRAIN_LIB),/own)
@@ -58,7 +58,7 @@ always:
 
 target/quick/libterrain.a: $(SOURCES) crates.txt $(wildcard tools/quick/*)
 	@printf 'terrain: compiling, once .. ' >&2
-	@tools/quick/compile target/quick terrain list rewrite
+	@tools/quick/compile target/quick terrain_c list rewrite
 	@touch $@
 	@echo "compiled; \`make prove\` repeats the proofs, about 10 minutes" >&2
 
@@ -70,16 +70,15 @@ $(BUILT)/terrain: $(QUICK)/libterrain.a $(COMMAND) $(COMMAND_PARTS) $(if $(TERRA
 # ---- proved
 
 prove:
-	rt staticlib terrain
-	rt check list rewrite
+	tools/build terrain list rewrite
 
 # rt itself goes by contents, and proves only what changed
 target/staticlib/libterrain.a: $(CRATES)
-	rt staticlib terrain
+	tools/build terrain
 	@touch $@
 
 target/bin/list target/bin/rewrite: $(CRATES)
-	rt check $(@F)
+	tools/build $(@F)
 	@touch $@
 
 ifdef TERRAIN_LIB
@@ -97,7 +96,7 @@ target/install/terrain: $(ARCHIVE) $(COMMAND) $(COMMAND_PARTS)
 
 # the proved library for other machines, tested where something here runs them, and one archive a platform (ports/README.md)
 ports:
-	rt check terrain
+	tools/build terrain
 	ports/build target/ports
 
 dist: ports

@@ -8,7 +8,7 @@ fn main() {
     let built = std::env::var_os("TERRAIN_LIB").map_or(root.join("target").join("staticlib"), PathBuf::from);
     for name in ["terrain", "test_exports"] {
         let archive = built.join(format!("lib{name}.a"));
-        assert!(archive.is_file(), "{} is missing: run `rt staticlib {name}`", archive.display());
+        assert!(archive.is_file(), "{} is missing: run `tools/build {name}`", archive.display());
         println!("cargo:rerun-if-changed={}", archive.display());
     }
     println!("cargo:rustc-link-search=native={}", built.display());

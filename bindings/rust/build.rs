@@ -1,4 +1,4 @@
-//! Links libterrain.a: from the folder that TERRAIN_LIB names, else from where `rt staticlib terrain` writes it. What keeps it from being
+//! Links libterrain.a: from the folder that TERRAIN_LIB names, else from where `tools/build terrain` puts it. What keeps it from being
 //! linked is one error, here, and not a page of the linker's.
 use std::env::{var, var_os};
 use std::path::{Path, PathBuf};
@@ -16,7 +16,7 @@ fn main() {
         println!("cargo::error=libterrain.a is for x86-64 Linux, and this build is for {target}");
     } else if !archive.is_file() {
         let archive = archive.display();
-        println!("cargo::error={archive} is missing: run `rt staticlib terrain`, or set TERRAIN_LIB to the folder that has it");
+        println!("cargo::error={archive} is missing: run `tools/build terrain`, or set TERRAIN_LIB to the folder that has it");
     } else {
         println!("cargo::rustc-link-search=native={}", folder.display());
         println!("cargo::rustc-link-lib=static=terrain");

@@ -1,4 +1,4 @@
-//! Where the archives and programs under test stand: all in the folder that TERRAIN_LIB names (`tools/quick/compile` fills one), else where `rt` writes them.
+//! Where the archives and programs under test stand: all in the folder that TERRAIN_LIB names (`tools/quick/compile` fills one), else where `tools/build` puts them.
 use std::path::{Path, PathBuf};
 
 fn built(folder: &str, name: &str, made_by: &str) -> PathBuf {
@@ -9,9 +9,9 @@ fn built(folder: &str, name: &str, made_by: &str) -> PathBuf {
 }
 
 pub fn archive(name: &str) -> PathBuf {
-    built("staticlib", &format!("lib{name}.a"), &format!("rt staticlib {name}"))
+    built("staticlib", &format!("lib{name}.a"), &format!("tools/build {name}"))
 }
 
 pub fn program(name: &str) -> PathBuf {
-    built("bin", name, &format!("rt check {name}"))
+    built("bin", name, &format!("tools/build {name}"))
 }

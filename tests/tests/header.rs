@@ -250,10 +250,10 @@ const OTHER_NAMES: [(&str, &str); 4] = [("plane_len", "len"), ("length", "count"
 #[test]
 fn the_rattle_source_has_the_same_calls() {
     let mut sources = Calls::new();
-    for file in std::fs::read_dir(root().join("crates/terrain/src")).expect("the crate").map(|f| f.expect("a file").path()) {
+    for file in std::fs::read_dir(root().join("crates/terrain_c/src")).expect("the crate").map(|f| f.expect("a file").path()) {
         let source = std::fs::read_to_string(&file).expect("text");
-        sources.extend(functions(&source, "#[no_mangle]\npub extern \"C\" fn ", rattle_argument));
-        assert_eq!(source.matches("extern \"C\"").count(), source.matches("#[no_mangle]\npub extern \"C\" fn ").count(), "{file:?}");
+        sources.extend(functions(&source, "#[unsafe(no_mangle)]\npub extern \"C\" fn ", rattle_argument));
+        assert_eq!(source.matches("extern \"C\"").count(), source.matches("#[unsafe(no_mangle)]\npub extern \"C\" fn ").count(), "{file:?}");
     }
     let declared = header();
     assert_eq!(sources.keys().collect::<Vec<_>>(), declared.keys().collect::<Vec<_>>());

@@ -120,7 +120,7 @@ fn a_missing_archive_is_one_error() {
     let errors =
         |said: &str| said.lines().filter(|l| l.starts_with("cargo::error=")).map(str::to_string).collect::<Vec<_>>();
     let said = build_script("x86_64-unknown-linux-gnu", "nowhere");
-    let wanted = "cargo::error=nowhere/libterrain.a is missing: run `rt staticlib terrain`, or set TERRAIN_LIB to the folder that has it";
+    let wanted = "cargo::error=nowhere/libterrain.a is missing: run `tools/build terrain`, or set TERRAIN_LIB to the folder that has it";
     assert_eq!(errors(&said), [wanted]);
     assert!(!said.contains("rustc-link-lib"), "no linker's page of errors follows: {said}");
     let said = build_script("aarch64-apple-darwin", "nowhere");
