@@ -7,7 +7,7 @@ use lib.IntN.{ℤ}
 use borrow.Author.Tests.{lt-ltb}
 use native.Mathlib.Decide.{dec_lt}
 use Rattle.numbers.specs.Word.{wrap32}
-use Rattle.lifting.specs.Line.{lo, hi}
+use Rattle.lifting.specs.Line.{Half, lo, hi}
 use Rattle.lifting.specs.Grid.{Side, place, count, joined}
 use Rattle.lifting.specs.GridHalves.{halves_of}
 use Rattle.lifting.proofs.GridLaws.{counts, place-in, front-in}
@@ -179,27 +179,21 @@ interleaved-in W h X r c rh cw =
 -- X is the area before the plane's rows x are fetched; from column `from` on the low-low part comes from the plane, and before it from X
 module _ (from : ℕ) (W H : Side) (x X low : Grid) (few : from ≤ count lo W) (left : (i n : ℕ) → i < count lo H → n < from → X (place H lo i) n ≡ low i n)
     (new : (i n : ℕ) → i < count lo H → n < count lo W → from ≤ n → x i n ≡ low i n) where
-  pub rows-fetched : BandsIn W H (plane_bands W H low x) (rows_fetched from W.length H x X)
+  each-fetched : (d a : Half) (i n : ℕ) → i < count d H → n < count a W →
+      halves_of W (rows_fetched from W.length H x X (place H d i)) a n ≡ plane_bands W H low x (band_of a d) i n
   unfolding halves_of plane_bands band_of
-  rows-fetched =
+  each-fetched lo lo i n ib nb =
       let both = counts W in
-      let w = W.length in
-      record {
-        bands = λ d a i n. elim d [
-          | lo ↦ λ ib. elim a [
-            | lo ↦ λ nb.
-                elim (dec_lt n from) [
-                  | yes b ↦ fetched-left from w H x X n (omega arith) i ib b ∙ left i n ib b
-                  | no b ↦ fetched-low from w H x X n (omega arith) i ib (omega arith) ∙ new i n ib nb (omega arith)
-                ]
-            | hi ↦ λ nb. fetched-low from w H x X (count lo W + n) (omega arith) i ib (omega arith)
-          ]
-          | hi ↦ λ ib. elim a [
-            | lo ↦ λ nb. fetched-high from w H x X n (omega arith) i ib
-            | hi ↦ λ nb. fetched-high from w H x X (count lo W + n) (omega arith) i ib
-          ]
-        ];
-      }
+      elim (dec_lt n from) [
+        | yes b ↦ fetched-left from W.length H x X n (omega arith) i ib b ∙ left i n ib b
+        | no b ↦ fetched-low from W.length H x X n (omega arith) i ib (omega arith) ∙ new i n ib nb (omega arith)
+      ]
+  each-fetched lo hi i n ib nb = let both = counts W in fetched-low from W.length H x X (count lo W + n) (omega arith) i ib (omega arith)
+  each-fetched hi lo i n ib nb = let both = counts W in fetched-high from W.length H x X n (omega arith) i ib
+  each-fetched hi hi i n ib nb = let both = counts W in fetched-high from W.length H x X (count lo W + n) (omega arith) i ib
+
+  pub rows-fetched : BandsIn W H (plane_bands W H low x) (rows_fetched from W.length H x X)
+  rows-fetched = record { bands = each-fetched }
 
 -- where that part is what the levels left give
 module _ (F : Filter) (laws : FilterLaws F) (from : ℕ) (W H : Side) (x X : Grid) (few : from ≤ count lo W) (L : ℕ)
@@ -213,16 +207,18 @@ module _ (F : Filter) (laws : FilterLaws F) (from : ℕ) (W H : Side) (x X : Gri
 
   -- y is the level lifted back
   module _ (s : ℕ) (y : ℕ → ℤ) (ws : W.length ≤ s) (e : y ≡ flat s (level_unlifted_by F W H (cells s (flat s fetched_rows)))) where
-    bands-cells : BandsIn W H (bands_back F L W H x) (cells s (flat s fetched_rows))
+    each-cell : (d a : Half) (i n : ℕ) → i < count d H → n < count a W →
+        halves_of W (cells s (flat s fetched_rows) (place H d i)) a n ≡ bands_back F L W H x (band_of a d) i n
     unfolding halves_of
-    bands-cells =
+    each-cell d lo i n ib nb =
         let both = counts W in
-        record {
-          bands = λ d a i n. elim a [
-            | lo ↦ λ ib nb. cells-flat s fetched_rows (place H d i) n (omega arith) ∙ bands-fetched.bands d lo i n ib nb
-            | hi ↦ λ ib nb. cells-flat s fetched_rows (place H d i) (count lo W + n) (omega arith) ∙ bands-fetched.bands d hi i n ib nb
-          ];
-        }
+        cells-flat s fetched_rows (place H d i) n (omega arith) ∙ bands-fetched.bands d lo i n ib nb
+    each-cell d hi i n ib nb =
+        let both = counts W in
+        cells-flat s fetched_rows (place H d i) (count lo W + n) (omega arith) ∙ bands-fetched.bands d hi i n ib nb
+
+    bands-cells : BandsIn W H (bands_back F L W H x) (cells s (flat s fetched_rows))
+    bands-cells = record { bands = each-cell }
 
     pub level-rebuilt : Rebuilt F (suc L) W H x (cells s y)
     unfolding map_back

@@ -27,5 +27,4 @@ pub mod SweepBackGrid
 pub mod BackLineLaws
 pub mod BackRowLaws
 pub mod BackSets
-
 mod Clauses

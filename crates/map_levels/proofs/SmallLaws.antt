@@ -121,6 +121,13 @@ bits-over i all b x s f g few =
 pub bits-more : (i all : ℕ) (x : ℕ → ℤ) → BitsWithin i all x → SFits w32 (x i) → BitsWithin (i + 1) (bit_or all (of_z w32 (x i))) x
 bits-more i all x s f = bits-over i all (of_z w32 (x i)) x s f (of_z_fits w32 (x i) f) (omega arith)
 
+-- the or as a number with a sign
+pub bits-read : (i all : ℕ) (x : ℕ → ℤ) → Fits w32 all → BitsWithin i (of_z w32 (to_z w32 all)) x → BitsWithin i all x
+bits-read i all x f s = rw (of_z-to_z w32 all f) at s
+
+pub bits-written : (i all : ℕ) (x : ℕ → ℤ) → BitsWithin i all x → BitsWithin i (of_z w32 (to_z w32 all)) x
+bits-written i all x s = rw (of_z-to_z w32 all s.fits) s
+
 -- the or of two numbers has the bits of both
 pub or-both : (a b : ℤ) → SFits w32 a → SFits w32 b →
     (of_z w32 a ≤ of_z w32 (to_z w32 (bit_or (of_z w32 a) (of_z w32 b)))) × (of_z w32 b ≤ of_z w32 (to_z w32 (bit_or (of_z w32 a) (of_z w32 b))))

@@ -118,16 +118,17 @@ module _ (F : Filter) (laws : FilterLaws F) where
           cell-within (placed (down b) H r) (placed (across b) W c) (placed-in (down b) H r rb) (placed-in (across b) W c cb)
           (ap (λ (n : ℕ). level_at n W H (placed (down b) H r) (placed (across b) W c)) (sym t) ∙ level-at (L - 1) W H b r c rb cb ∙ e)
 
+      over-within : OnCells (λ v. nat_abs v ≤ range F (k + 1)) (next W) (next H) (low_part W H y₁) →
+          OnBands (λ v. nat_abs v ≤ range F (k + 1)) W H (over (low_part W H y₁) (band_in W H x))
+      unfolding over across down next
+      over-within f LL = f
+      over-within f HL = λ r c rb cb. band-within HL r c rb cb refl
+      over-within f LH = λ r c rb cb. band-within LH r c rb cb refl
+      over-within f HH = λ r c rb cb. band-within HH r c rb cb refl
+
       bands-within : OnCells (λ v. nat_abs v ≤ range F (k + 1)) (next W) (next H) (low_part W H y₁) →
           OnBands (λ v. nat_abs v ≤ range F (k + 1)) W H (bands_in A W H z y₁)
-      unfolding over across down next
-      bands-within f =
-          rw (plane-bands W H (low_part W H y₁) x) (λ b. elim b [
-            | LL ↦ f
-            | HL ↦ λ r c rb cb. band-within HL r c rb cb refl
-            | LH ↦ λ r c rb cb. band-within LH r c rb cb refl
-            | HH ↦ λ r c rb cb. band-within HH r c rb cb refl
-          ])
+      bands-within f = rw (plane-bands W H (low_part W H y₁) x) (over-within f)
 
       -- the last level: the low-low part is the plane's
       pub last_within : has_next L (count lo W) (count lo H) ≡ false → OnBands (λ v. nat_abs v ≤ range F (k + 1)) W H (bands_in A W H z y₁)

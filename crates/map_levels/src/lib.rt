@@ -1,5 +1,6 @@
 // All levels of a whole map, from its heights to its plane and back, over areas that the caller lends.
 #![tactic(auto)]
+
 mod back_lines;
 mod back_rows;
 mod back_sweep;

@@ -5,5 +5,4 @@ pub mod CallLaws
 pub mod ShortColumns
 pub mod SingleLaws
 pub mod LoopLaws
-
 mod Clauses

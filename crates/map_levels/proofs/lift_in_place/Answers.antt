@@ -25,5 +25,8 @@ shape_of-work c = c.forward_levels.auto.work
 pub returns : goal.returns
 returns c =
     let a = c.args in
-    record { plane_after = plane-loaded nine_seven_filter nine-seven-laws (side a.x a.width) (side a.y a.height) a.levels a.heights.now _ _ c.requires.0
-          c.load_rows.ensures _ c.forward_levels.ensures.plane_after; kept_from = c.forward_levels.ensures.kept_from }
+    record {
+      plane_after = plane-loaded nine_seven_filter nine-seven-laws (side a.x a.width) (side a.y a.height) a.levels a.heights.now _ _ c.requires.0
+          c.load_rows.ensures _ c.forward_levels.ensures.plane_after;
+      kept_from = c.forward_levels.ensures.kept_from;
+    }

@@ -17,8 +17,12 @@ plane_in_range-requires c = (c.requires.0, c.requires.1, c.requires.4)
 
 pub returns-then-not-plane_in_range : goal.returns-then-not-plane_in_range
 returns-then-not-plane_in_range c =
-    record { value = out_of_range (filter_of c.args.filter) (filter-laws c.args.filter) _ _ _ _ _ c.plane_in_range.ensures
-          (not-true _ c.if-not-plane_in_range.true-raw); heights_after = rebuilt-no _ _ _ 7 (omega arith) (omega arith); work_after = rebuilt-no _ _ _ 7 (omega arith) (omega arith) }
+    record {
+      value = out_of_range (filter_of c.args.filter) (filter-laws c.args.filter) _ _ _ _ _ c.plane_in_range.ensures
+          (not-true _ c.if-not-plane_in_range.true-raw);
+      heights_after = rebuilt-no _ _ _ 7 (omega arith) (omega arith);
+      work_after = rebuilt-no _ _ _ 7 (omega arith) (omega arith);
+    }
 
 pub rebuild-requires : goal.rebuild-requires
 rebuild-requires c =
@@ -44,10 +48,14 @@ returns-then-not-rebuild c =
     let size = c.args.width * c.args.height in
     let room : (m k : ℕ) → m ≡ k → size ≤ k → leb size m ≡ true = λ m k e h. le-leb size m (omega arith) in
     let b = c.rebuild.ensures in
-    record { value = not-rebuilt (filter_of c.args.filter) (filter-laws c.args.filter) _ _ _ _ _ c.plane_in_range.ensures
-          (not-false _ c.if-not-plane_in_range.false-raw) _ b.answer (not-true _ c.if-not-rebuild.true-raw); heights_after = cleared _ _ _ _ _ c.requires.0.height.0 b.kept_heights
-            (did _ _ _ _ (room _ _ c.rebuild.auto.heights c.requires.2) c.clear_heights.ensures.area) ∙ sym (rebuilt-zero _ _ _); work_after = cleared _ _ _ _ _ c.requires.0.height.0 b.kept
-            (did _ _ _ _ (room _ _ c.rebuild.auto.work c.requires.3) c.clear.ensures.area) ∙ sym (rebuilt-zero _ _ _) }
+    record {
+      value = not-rebuilt (filter_of c.args.filter) (filter-laws c.args.filter) _ _ _ _ _ c.plane_in_range.ensures
+          (not-false _ c.if-not-plane_in_range.false-raw) _ b.answer (not-true _ c.if-not-rebuild.true-raw);
+      heights_after = cleared _ _ _ _ _ c.requires.0.height.0 b.kept_heights
+          (did _ _ _ _ (room _ _ c.rebuild.auto.heights c.requires.2) c.clear_heights.ensures.area) ∙ sym (rebuilt-zero _ _ _);
+      work_after = cleared _ _ _ _ _ c.requires.0.height.0 b.kept
+          (did _ _ _ _ (room _ _ c.rebuild.auto.work c.requires.3) c.clear.ensures.area) ∙ sym (rebuilt-zero _ _ _);
+    }
 
 pub shape_of-heights : goal.shape_of-heights
 shape_of-heights c = c.rebuild.auto.heights
@@ -59,5 +67,9 @@ pub returns : goal.returns
 returns c =
     let t = not-false _ c.if-not-rebuild.false-raw in
     let b = c.rebuild.ensures in
-    record { value = all-rebuilt (filter_of c.args.filter) (filter-laws c.args.filter) _ _ _ _ _ c.plane_in_range.ensures
-          (not-false _ c.if-not-plane_in_range.false-raw) _ b.answer t; heights_after = b.heights t ∙ sym (rebuilt-yes _ _ _); work_after = b.cleared t ∙ sym (rebuilt-yes _ _ _) }
+    record {
+      value = all-rebuilt (filter_of c.args.filter) (filter-laws c.args.filter) _ _ _ _ _ c.plane_in_range.ensures
+          (not-false _ c.if-not-plane_in_range.false-raw) _ b.answer t;
+      heights_after = b.heights t ∙ sym (rebuilt-yes _ _ _);
+      work_after = b.cleared t ∙ sym (rebuilt-yes _ _ _);
+    }

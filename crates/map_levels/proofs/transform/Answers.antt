@@ -31,5 +31,8 @@ returns c =
     let room = le-leb (a.width * a.height) (length done.new.work) (omega (arith, c.requires.3, done.auto.work)) in
     let fits : (i : ℕ) → get_or a.heights.now i 0 < 65536 =
     λ i. omega (arith, c.shared_slice_known-1.given i) in
-    record { plane_after = plane-made (filter_of a.filter) (filter-laws a.filter) (side a.x a.width) (side a.y a.height) a.levels a.heights.now _ _ s
-          c.requires.4 fits done.ensures.plane_after; work_after = cleared _ _ _ _ _ s.height.0 done.ensures.kept_from (did _ _ _ _ room c.clear.ensures.area) }
+    record {
+      plane_after = plane-made (filter_of a.filter) (filter-laws a.filter) (side a.x a.width) (side a.y a.height) a.levels a.heights.now _ _ s
+          c.requires.4 fits done.ensures.plane_after;
+      work_after = cleared _ _ _ _ _ s.height.0 done.ensures.kept_from (did _ _ _ _ room c.clear.ensures.area);
+    }

@@ -1,5 +1,5 @@
 use mathlib.Core.Path.{◌≡◌, refl, ◌∙◌}
-use Prim.Native.Nat.{◌-◌, ◌≤◌}
+use Prim.Native.Nat.{◌+◌}
 use native.Mathlib.Omega.{arith}
 use lib.ListN.{length}
 use borrow.Author.Rules.{sfits_of}
@@ -8,7 +8,7 @@ use mir.ValLaws.{of_z_fits}
 use Rattle.numbers.specs.Signal.{at}
 use Rattle.wavelet.specs.Limits.{max_sample}
 use Rattle.map_levels.specs.BackLines.{even_of, odd_of}
-use Rattle.map_levels.proofs.SmallLaws.{BitsWithin, bits_none, bits-over, bits-end}
+use Rattle.map_levels.proofs.SmallLaws.{BitsWithin, bits_none, bits-read, bits-written, bits-over, bits-end}
 use Rattle.map_levels.proofs.BackLineLaws.{PairRun, pair-none, pair-more, even-bits, odd-bits, even-word, odd-word}
 use Rattle.map_levels.proofs.back_lines.unlift_columns.Goals as goal
 
@@ -28,6 +28,7 @@ pub loop-k-preserved : goal.loop-k-preserved
 loop-k-preserved c =
     let lines = c.args.lines.now in
     let k = c.loop-k.k in
+    let all = c.loop-k.all-bits in
     let inv = c.loop-k.invariant in
     let u = c.unlift_at-all in
     let kb = c.requires.0 in
@@ -35,9 +36,12 @@ loop-k-preserved c =
       omega arith,
       u.auto.lines ∙ inv.1,
       pair-more k _ _ _ (omega arith) u.ensures.lines_after inv.2,
-      bits-over k _ _ (even_of (at lines)) inv.3 (even-word (at lines) k) fits
-          (even-bits k _ _ _ (omega arith) u.ensures.lines_after inv.2 _ u.ensures.k_bound.0),
-      bits-over k _ _ (odd_of (at lines)) inv.4 (odd-word (at lines) k) fits (odd-bits k _ _ _ (omega arith) u.ensures.lines_after inv.2 _ u.ensures.k_bound.1),
+      bits-written (k + 1) _ (even_of (at lines)) (bits-over k all _ (even_of (at lines))
+          (bits-read k all (even_of (at lines)) c.loop-k.auto.all inv.3) (even-word (at lines) k) fits
+          (even-bits k _ _ _ (omega arith) u.ensures.lines_after inv.2 _ u.ensures.k_bound.0)),
+      bits-written (k + 1) _ (odd_of (at lines)) (bits-over k all _ (odd_of (at lines))
+          (bits-read k all (odd_of (at lines)) c.loop-k.auto.all inv.4) (odd-word (at lines) k) fits
+          (odd-bits k _ _ _ (omega arith) u.ensures.lines_after inv.2 _ u.ensures.k_bound.1)),
     )
 
 pub shape_of-lines : goal.shape_of-lines
@@ -48,8 +52,14 @@ unfolding max_sample
 returns c =
     let lines = c.args.lines.now in
     let inv = c.loop-k.invariant in
+    let all = c.loop-k.all-bits in
     let e : c.loop-k.k ≡ c.args.width = omega (arith, c.loop-k-test.false) in
-    record { pair_back = rw e at inv.2.back; is_height = λ t j b. (
-        bits-end c.loop-k.k _ _ (odd_of (at lines)) (omega (arith, c.loop-k-test.false)) inv.4 t j b,
-        bits-end c.loop-k.k _ _ (even_of (at lines)) (omega (arith, c.loop-k-test.false)) inv.3 t j b,
-      ) }
+    record {
+      pair_back = rw e at inv.2.back;
+      is_height = λ t j b. (
+        bits-end c.loop-k.k _ all (odd_of (at lines)) (omega (arith, c.loop-k-test.false))
+            (bits-read c.loop-k.k all (odd_of (at lines)) c.loop-k.auto.all inv.4) t j b,
+        bits-end c.loop-k.k _ all (even_of (at lines)) (omega (arith, c.loop-k-test.false))
+            (bits-read c.loop-k.k all (even_of (at lines)) c.loop-k.auto.all inv.3) t j b,
+      );
+    }

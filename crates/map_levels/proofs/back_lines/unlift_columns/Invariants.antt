@@ -5,7 +5,7 @@ use native.Mathlib.Omega.{arith}
 use lib.ListN.{length}
 use borrow.Author.Rules.{sfits_of}
 use mir.Syntax.{w32}
-use mir.ValLaws.{of_z_fits}
+use mir.Val.{of_z}
 use Rattle.numbers.specs.Signal.{at}
 use Rattle.wavelet.specs.Limits.{max_sample}
 use Rattle.map_levels.specs.BackLines.{even_of, odd_of}
@@ -15,8 +15,8 @@ use Rattle.map_levels.proofs.back_lines.unlift_columns.Given as goal
 
 abbrev pub invariant-loop-k : goal.invariant-loop-k
 invariant-loop-k l =
-    (l.k ≤ l.width) × (length l.lines ≡ length l.initial.lines) × PairRun l.k (at l.initial.lines) (at l.lines) × BitsWithin l.k l.all (even_of (at l.initial.lines))
-    × BitsWithin l.k l.all (odd_of (at l.initial.lines))
+    (l.k ≤ l.width) × (length l.lines ≡ length l.initial.lines) × PairRun l.k (at l.initial.lines) (at l.lines) × BitsWithin l.k (of_z w32 l.all) (even_of (at l.initial.lines))
+    × BitsWithin l.k (of_z w32 l.all) (odd_of (at l.initial.lines))
 
 abbrev pub decreases-loop-k : goal.decreases-loop-k
 decreases-loop-k l = l.width - l.k

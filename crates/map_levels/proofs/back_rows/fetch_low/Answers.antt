@@ -24,13 +24,11 @@ module _ (c : goal.After-low_count) where
       + c.args.r / 2 * count lo (side c.args.x c.args.width)
       + count lo (side c.args.x c.args.width) ≤ length c.args.work.now
   low-room =
-      let c.before.before = c.before.before in
       let a = c.args in
       omega (arith, low-row-in (side a.x a.width) (side a.y a.height) (a.r / 2) low-row, c.requires.1)
 
   row_in : c.args.r / 2 * c.args.across + c.args.width ≤ length c.args.plane.now
   row_in =
-      let c.before.before = c.before.before in
       row_room _ _ _ _ (c.args.r / 2) c.requires.0 (omega (arith, low-row, counts (side c.args.y c.args.height)))
 
 pub overflow_mul-b : goal.overflow_mul-b

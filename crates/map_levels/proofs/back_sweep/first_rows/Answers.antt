@@ -51,7 +51,7 @@ pub put-requires : goal.put-requires
 unfolding line_half max_width
 put-requires c =
     let a = c.args in
-    let S = c.pre.0 in (
+    let S = c.requires.0 in (
       omega (
         arith,
         c.unupdate_columns.auto.lines,
@@ -71,9 +71,9 @@ pub returns : goal.returns
 unfolding line_half max_width
 returns c =
     let a = c.args in
-    let S = c.pre.0 in
+    let S = c.requires.0 in
     let next = c.row_after in
-    first-low a.level a.across (side a.x a.width) (side a.y a.height) _ _ _ S.more c.pre.1 S.halves (a.y % 2) next.result refl
+    first-low a.level a.across (side a.x a.width) (side a.y a.height) _ _ _ S.more c.requires.1 S.halves (a.y % 2) next.result refl
     next.ensures.0 _ _ _ _ _
     c.fetch_low.ensures (c.fetch_high.ensures _) (c.fetch_high-2.ensures _)
     c.unupdate_columns.ensures

@@ -45,7 +45,7 @@ pub put-requires : goal.put-requires
 unfolding line_half max_width
 put-requires c =
     let a = c.args in
-    let S = c.pre.0 in
+    let S = c.requires.0 in
     let put = c.put-ok in
     let u = c.unlift_columns-sure in (
       omega (
@@ -56,8 +56,8 @@ put-requires c =
         S.lines,
         S.halves,
       ),
-      λ e. omega (arith, put.auto.heights, put-room a.width a.height _ (a.r + 1) c.pre.1 (S.area.heights e)),
-      omega (arith, put.auto.work, put-room a.width a.height _ (a.r + 1) c.pre.1 S.area.work),
+      λ e. omega (arith, put.auto.heights, put-room a.width a.height _ (a.r + 1) c.requires.1 (S.area.heights e)),
+      omega (arith, put.auto.work, put-room a.width a.height _ (a.r + 1) c.requires.1 S.area.work),
       S.level,
       λ t j jb. rw (u.ensures.pair_back.even j jb) (u.ensures.is_height t j jb).1,
     )
@@ -66,11 +66,11 @@ pub returns : goal.returns
 unfolding line_half max_width
 returns c =
     let a = c.args in
-    let S = c.pre.0 in
+    let S = c.requires.0 in
     let next = c.row_after in
     λ ok₀ g₀ x₀ small D.
-    pair-done a.level a.across (side a.x a.width) (side a.y a.height) _ g₀ x₀ S.more small S.halves a.r next.result c.pre.1
-    c.pre.2 next.ensures.0 ok₀ _ _ _ _ _ D
+    pair-done a.level a.across (side a.x a.width) (side a.y a.height) _ g₀ x₀ S.more small S.halves a.r next.result c.requires.1
+    c.requires.2 next.ensures.0 ok₀ _ _ _ _ _ D
     c.fetch_low.ensures
     (c.fetch_high.ensures _) _ _ _ _ _ _ _
     c.unlift_columns-sure.ensures.pair_back

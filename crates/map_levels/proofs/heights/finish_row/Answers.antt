@@ -15,5 +15,8 @@ returns c =
     let drawn = c.draw_heights in
     let row = c.args.row.now in
     let n = length row in
-    record { heights_after = did _ _ _ _ (le-leb n (length c.args.heights.now) (omega arith)) drawn.ensures.area ∙
-          drawn-heights (side c.args.x n) (at row) _ c.requires.1; row_after = did _ _ _ _ (le-leb n n (omega arith)) c.clear.ensures.area }
+    record {
+      heights_after = did _ _ _ _ (le-leb n (length c.args.heights.now) (omega arith)) drawn.ensures.area ∙
+          drawn-heights (side c.args.x n) (at row) _ c.requires.1;
+      row_after = did _ _ _ _ (le-leb n n (omega arith)) c.clear.ensures.area;
+    }

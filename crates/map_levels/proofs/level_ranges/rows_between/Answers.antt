@@ -19,7 +19,7 @@ module _ (start : goal.Start) where
   low-is = to_z-of_z w32 _ start.ranges.low
 
   high_is : to_z w32 (of_z w32 start.args.high) ≡ start.args.high
-  high_is = to_z-of_z w32 _ start.fits.high
+  high_is = to_z-of_z w32 _ start.ranges.high
 
 pub loop-r-init : goal.loop-r-init
 loop-r-init c = (c.requires.0, c.requires.2, tested-start _ _ _ _ _ _ _ _ c.requires.1)

@@ -25,7 +25,7 @@ returns-then-height-lt2 c =
 pub rows_back-requires : goal.rows_back-requires
 rows_back-requires c =
     let R = c.requires.0 in (
-      record { area = R.area; wide = R.wide; c.before.before.before = omega arith; lines = R.lines; halves = lines-enough _ R.area.narrow; level = R.level },
+      record { area = R.area; wide = R.wide; more = omega arith; lines = R.lines; halves = lines-enough _ R.area.narrow; level = R.level },
       c.requires.1,
     )
 

@@ -19,7 +19,10 @@ shape_of-work c = c.interleave_rows.auto.area
 pub returns : goal.returns
 returns c =
     let a = c.args in
-    record { value = c.interleave_rows.ensures.value
+    record {
+      value = c.interleave_rows.ensures.value
           ∙ between-by 0 a.height 0 a.width (cells a.stride (at a.work.now))
           (read_back c.lowest.result c.lowest.type_inv ∙ c.lowest.ensures)
-          (read_back c.range_of.result c.range_of.type_inv ∙ range_at a.filter a.level _ c.requires.2 c.range_of.ensures); work_after = c.interleave_rows.ensures.area_after }
+          (read_back c.range_of.result c.range_of.type_inv ∙ range_at a.filter a.level _ c.requires.2 c.range_of.ensures);
+      work_after = c.interleave_rows.ensures.area_after;
+    }

@@ -99,6 +99,9 @@ returns c =
     let a = c.args in
     let fits = c.ranges in
     let e : c.loop-r.r ≡ a.height = omega arith in
-    record { value = (rw e at c.loop-r.invariant.2)
+    record {
+      value = (rw e at c.loop-r.invariant.2)
           ∙ all-rows _ _ a.width a.height (cells a.stride (at a.area.now))
-          ∙ between-by 0 a.height 0 a.width _ (to_z-of_z w32 _ fits.low) (to_z-of_z w32 _ fits.high); area_after = pass-end c.loop-r.invariant.3 (λ r k le. mapped-past _ _ _ _ r k (omega arith)) }
+          ∙ between-by 0 a.height 0 a.width _ (to_z-of_z w32 _ fits.low) (to_z-of_z w32 _ fits.high);
+      area_after = pass-end c.loop-r.invariant.3 (λ r k le. mapped-past _ _ _ _ r k (omega arith));
+    }

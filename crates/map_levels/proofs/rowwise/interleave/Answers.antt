@@ -16,6 +16,9 @@ returns c =
     let copied = c.copy_tested-ok in
     let row = c.args.row.now in
     let n = length row in
-    record { value = copied.ensures.value ∙ between-read n (at row) (to_z-of_z w32 _ c.ranges.low) (to_z-of_z w32 _ c.ranges.high); row_after = interleave-through (side c.args.x n) (n - 0) _ (at row) _ copied.new.to (omega arith) (omega (arith, copied.auto.to))
+    record {
+      value = copied.ensures.value ∙ between-read n (at row) (to_z-of_z w32 _ c.ranges.low) (to_z-of_z w32 _ c.ranges.high);
+      row_after = interleave-through (side c.args.x n) (n - 0) _ (at row) _ copied.new.to (omega arith) (omega (arith, copied.auto.to))
           copied.ensures.to_after n
-          refl c.interleave_line.ensures.area }
+          refl c.interleave_line.ensures.area;
+    }

@@ -12,8 +12,11 @@ use Rattle.map_levels.proofs.short_back.unlift_one.Goals as goal
 pub returns-then-low-eq0 : goal.returns-then-low-eq0
 returns-then-low-eq0 c =
     let a = c.args in
-    record { out_after = λ b. absurd (omega (arith, c.if-low-eq0.true)); out_after_2 = λ b. ap (set a.out.now 0)
-          (read_back _ c.halve.type_inv ∙ c.halve.ensures ∙ ap (λ (v : ℤ). shr_z v 2) (read_back (at a.row.now 0) c.halve-arg-1.given)) }
+    record {
+      out_after = λ b. absurd (omega (arith, c.if-low-eq0.true));
+      out_after_2 = λ b. ap (set a.out.now 0)
+          (read_back _ c.halve.type_inv ∙ c.halve.ensures ∙ ap (λ (v : ℤ). shr_z v 2) (read_back (at a.row.now 0) c.halve-arg-1.given));
+    }
 
 pub returns : goal.returns
 returns c =

@@ -1,10 +1,10 @@
-use Prim.Native.Nat.{◌-◌, ◌≤◌}
+use Prim.Native.Nat.{◌+◌}
 use native.Mathlib.Omega.{arith}
 use lib.ListN.{length}
 use borrow.Author.Rules.{sfits_of}
 use Rattle.numbers.specs.Signal.{at}
 use Rattle.wavelet.specs.Limits.{max_sample}
-use Rattle.map_levels.proofs.SmallLaws.{BitsWithin, bits_none, bits-more, bits-end}
+use Rattle.map_levels.proofs.SmallLaws.{BitsWithin, bits_none, bits-read, bits-written, bits-more, bits-end}
 use Rattle.map_levels.proofs.small.surely_heights.Goals as goal
 
 pub loop-i-init : goal.loop-i-init
@@ -24,9 +24,13 @@ loop-i-smaller c = omega arith
 
 pub loop-i-preserved : goal.loop-i-preserved
 loop-i-preserved c =
-    (omega arith, bits-more c.loop-i.i _ (at c.args.row.now) c.loop-i.invariant.1 (sfits_of c.all-1.given))
+    let x = at c.args.row.now in
+    let before = bits-read c.loop-i.i c.loop-i.all-bits x c.loop-i.auto.all c.loop-i.invariant.1 in
+    (omega arith, bits-written (c.loop-i.i + 1) _ x (bits-more c.loop-i.i c.loop-i.all-bits x before (sfits_of c.all-1.given)))
 
 pub returns : goal.returns
 unfolding max_sample
 returns c =
-    bits-end c.loop-i.i _ _ (at c.args.row.now) (omega (arith, c.loop-i-test.false)) c.loop-i.invariant.1
+    let x = at c.args.row.now in
+    bits-end c.loop-i.i _ c.loop-i.all-bits x (omega (arith, c.loop-i-test.false))
+    (bits-read c.loop-i.i c.loop-i.all-bits x c.loop-i.auto.all c.loop-i.invariant.1)

@@ -2,6 +2,8 @@
 use Prim.Native.Nat.{◌-◌, ◌≤◌}
 use native.Mathlib.Omega.{arith}
 use lib.ListN.{length}
+use mir.Syntax.{w32}
+use mir.Val.{of_z}
 use borrow.Author.Rules.{sfits_of}
 use Rattle.numbers.specs.Signal.{at}
 use Rattle.wavelet.specs.Limits.{max_sample}
@@ -9,7 +11,7 @@ use Rattle.map_levels.proofs.SmallLaws.{BitsWithin, bits_none, bits-more, bits-e
 use Rattle.map_levels.proofs.small.surely_heights.Given as goal
 
 abbrev pub invariant-loop-i : goal.invariant-loop-i
-invariant-loop-i l = (l.i ≤ length l.row) × BitsWithin l.i l.all (at l.row)
+invariant-loop-i l = (l.i ≤ length l.row) × BitsWithin l.i (of_z w32 l.all) (at l.row)
 
 abbrev pub decreases-loop-i : goal.decreases-loop-i
 decreases-loop-i l = length l.row - l.i

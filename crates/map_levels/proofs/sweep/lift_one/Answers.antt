@@ -13,11 +13,10 @@ lift_one-requires c =
     (rows-kept c.lay_one.auto.plane c.requires.0.plane, c.requires.2)
 
 pub save_low-requires : goal.save_low-requires
-save_low-requires c =
-    (
-      rows-kept (c.lift_one.auto.area ∙ c.lay_one.auto.plane) c.requires.0.plane,
-      low-room _ (side c.args.x c.args.width) (side c.args.y c.args.height) c.requires.0.work,
-    )
+save_low-requires c = (
+  rows-kept (c.lift_one.auto.area ∙ c.lay_one.auto.plane) c.requires.0.plane,
+  low-room _ (side c.args.x c.args.width) (side c.args.y c.args.height) c.requires.0.work,
+)
 
 pub shape_of-plane : goal.shape_of-plane
 shape_of-plane c =
