@@ -115,7 +115,7 @@ module _ (K : LevelKind) (Held : Meaning) (Ended : Ending) (laws : LevelLaws K H
     close-stands,
     held_reads,
     ended-reads,
-    IsPlace-in,
+    place-in,
     cell-past,
     put-past,
     make-past,

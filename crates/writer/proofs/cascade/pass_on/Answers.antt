@@ -75,7 +75,7 @@ returns c =
     (omega (arith, c.requires.deep)) g.0 g.1
     (record {
       columns = next-is a.x a.w _ _ c.next_start.ensures c.low_count.ensures;
-      c.before.before.before.before.before.before.before.before.before.before.before.before.before = start_is a.y _ c.next_start-s.ensures;
+      start = start_is a.y _ c.next_start-s.ensures;
       row = refl;
     }) refl c.stretch-a.ensures
     (next-done a.filter (length a.store.now) (side a.x a.w) _ _ _ (omega (arith, c.requires)) c.deliver.ensures.store_after)

@@ -45,7 +45,7 @@ pub returns-then-not-put_row : goal.returns-then-not-put_row
 returns-then-not-put_row c = let a = c.args in
     let f = c.first_rows-part in
     let o = last_row a.s f.result.left (length a.store.now) (length a.out.now) (length a.names.now / 4) a.done f.result.done
-    (at a.store.now) (at a.out.now) (at f.new.out) a.names.now f.new.names f.ensures c.pre.0.sound c.pre.1 _
+    (at a.store.now) (at a.out.now) (at f.new.out) a.names.now f.new.names f.ensures c.requires.0.sound c.requires.1 _
     c.level_of-q.ensures _ c.with_left-t.ensures in
     last-stops _ _ _ _ _ _ _ _ _ _ o _ c.waiting-spot.ensures _ _
     c.first_rows-part.auto.out c.first_rows-part.auto.names _ c.put_row.ensures.value
@@ -55,7 +55,7 @@ pub draw_and_move-next-requires : goal.draw_and_move-next-requires
 draw_and_move-next-requires c = let a = c.args in
     let f = c.first_rows-part in
     let o = last_row a.s f.result.left (length a.store.now) (length a.out.now) (length a.names.now / 4) a.done f.result.done
-    (at a.store.now) (at a.out.now) (at f.new.out) a.names.now f.new.names f.ensures c.pre.0.sound c.pre.1 _
+    (at a.store.now) (at a.out.now) (at f.new.out) a.names.now f.new.names f.ensures c.requires.0.sound c.requires.1 _
     c.level_of-q.ensures _ c.with_left-t.ensures in
     let d = left-drawable _ _ o.draws.ready.sound o.some in
     (d.0, o.waits.2, d.1)
@@ -77,9 +77,9 @@ pub returns : goal.returns
 returns c = let a = c.args in
     let f = c.first_rows-part in
     let o = last_row a.s f.result.left (length a.store.now) (length a.out.now) (length a.names.now / 4) a.done f.result.done
-    (at a.store.now) (at a.out.now) (at f.last.1.1.1.0) a.names.now f.last.1.1.1.1.0 f.ensures c.pre.0.sound c.pre.1 _
+    (at a.store.now) (at a.out.now) (at f.new.out) a.names.now f.new.names f.ensures c.requires.0.sound c.requires.1 _
     c.level_of-q.ensures _
     c.with_left-t.ensures in
-    last-draws _ _ _ _ _ _ _ _ _ _ o _ c.waiting-spot.ensures _ _ c.first_rows-part.kept.1.1.1.0 c.first_rows-part.kept.1.1.1.1.0 _ c.put_row.ensures.value
+    last-draws _ _ _ _ _ _ _ _ _ _ o _ c.waiting-spot.ensures _ _ c.first_rows-part.auto.out c.first_rows-part.auto.names _ c.put_row.ensures.value
     _ _ c.put_row.ensures.out_after c.put_row.ensures.names_after (not-false _ c.if-not-put_row.false-raw) _ _
     c.draw_and_move-next.ensures _ c.one_more.ensures

@@ -23,13 +23,10 @@ pub returns-then-names-done : goal.returns-then-names-done
 returns-then-names-done c = let a = c.args in
     record { value = no_name (leb a.r.length (length a.out.now - a.done.numbers)) a.done.rows (length a.names.now / 4) (omega arith); out_after = refl; names_after = refl; rows_bound = λ f. false-true f }
 
-pub overflow_mul-b : goal.overflow_mul-b
-overflow_mul-b c = search rules
-
 pub returns : goal.returns
 unfolding rest
 returns c = let a = c.args in
-    let one : a.done.rows + 1 < 2 ^ 64 = omega (arith, overflow_mul-b c.before.before.before.before.before.before.before) in
+    let one : a.done.rows + 1 < 2 ^ 64 = omega (arith, c.if-names-done.false, c.well_formed.1.1.1.0.1) in
     let two : a.done.numbers + a.r.length < 2 ^ 64 = omega
     (arith, c.well_formed.1.1.0.1) in
     record {
