@@ -1,6 +1,7 @@
 // Brush strokes: a plane mended where a rectangle of its map was painted. Document 02, Q-9. The work is local: the window of heights that what the rectangle
 // reaches depends on is lifted by itself in the work area.
 #![tactic(auto)]
+
 mod direction;
 mod levels;
 mod patch;

@@ -1,5 +1,6 @@
 // The whole-map engine: the transform of a whole height map to its plane and back, over areas that the caller lends.
 #![tactic(auto)]
+
 ghost use Rattle.std.specs.Prelude.{◌≡◌, ◌*◌, length};
 ghost use Rattle.numbers.specs.Signal.{at};
 ghost use Rattle.numbers.specs.Word.{whole, wrap32};

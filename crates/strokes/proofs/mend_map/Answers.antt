@@ -9,5 +9,8 @@ pub returns : goal.returns
 returns c =
     let a = c.args in
     let n = a.width * a.height in
-    record { plane_after = c.mend_window.ensures; work_after = cleared-part n (n - 0) a.work.now c.mend_window.new.work _ (omega arith) c.requires.3
-          c.mend_window.auto.work c.clear.ensures.area }
+    record {
+      plane_after = c.mend_window.ensures;
+      work_after = cleared-part n (n - 0) a.work.now c.mend_window.new.work _ (omega arith) c.requires.3
+          c.mend_window.auto.work c.clear.ensures.area;
+    }

@@ -18,17 +18,16 @@ pub lift_turn-requires : goal.lift_turn-requires
 lift_turn-requires c = (omega arith, omega arith)
 
 pub loop-n-init : goal.loop-n-init
-loop-n-init c =
-    (
-      omega arith,
-      omega arith,
-      refl,
-      omega arith,
-      omega (arith, c.well_formed.0.1, c.lift_turn.auto.area),
-      refl,
-      rows-kept c.lift_turn.auto.area c.requires,
-      λ X r. r,
-    )
+loop-n-init c = (
+  omega arith,
+  omega arith,
+  refl,
+  omega arith,
+  omega (arith, c.well_formed.0.1, c.lift_turn.auto.area),
+  refl,
+  rows-kept c.lift_turn.auto.area c.requires,
+  λ X r. r,
+)
 
 pub lift_turn-requires-in-loop-n : goal.lift_turn-requires-in-loop-n
 lift_turn-requires-in-loop-n c =
