@@ -14,7 +14,6 @@ use Rattle.wavelet.specs.Questions.{ask, within}
 use Rattle.wavelet.specs.Limits.{max_width}
 use Rattle.filters.specs.Figures.{store_by}
 use Rattle.reader.specs.declared.Reader.{Reader}
-use Rattle.reader.specs.Answers as answer
 use Rattle.reader.specs.Reading as reading
 use Rattle.reader.specs.State.{columns, needs}
 use Rattle.reader.specs.Questions.{store_fits}

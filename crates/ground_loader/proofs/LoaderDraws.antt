@@ -2,7 +2,7 @@
 use mathlib.Core.Path.{◌≡◌, refl, sym, ap, ap₂, ◌∙◌, subst}
 use mathlib.Core.Bool.{Bool, true, false}
 use mathlib.Core.List.{List, [], ◌∷◌, ◌++◌, append-nil, append_assoc}
-use Prim.Native.Nat.{ℕ, suc, ◌+◌, ◌≤◌, ◌<◌}
+use Prim.Native.Nat.{ℕ, suc, ◌≤◌, ◌<◌}
 use native.Mathlib.Nat.{mod-lt}
 use native.Mathlib.Omega.{arith}
 use lib.IntN.{ℤ}
@@ -157,7 +157,7 @@ module _ (f : ℕ) (W H : Side) (l : ℕ) (lim : Limits 0 f 0 0 W H l) where
 
         pub seen : Draws W (store_by f W (suc l)) (demand.ended_by es) (left steps₀ es) n a (demand.drew a says out)
         unfolding demand.event
-        seen = (claim f 0 0 W H l lim _ es came).1.draws n a
+        seen = (claim f 0 0 W H l lim es _ came).1.draws n a
 
       fed-same : (es : List demand.Event) → fed_in f W H l lim (now es) ≡ fed_in f W H l lim es
       unfolding fed_rows fed_by
@@ -205,11 +205,11 @@ module _ (f : ℕ) (W H : Side) (l : ℕ) (lim : Limits 0 f 0 0 W H l) where
       shows-now : (g : Grid) → Begins (s₀ f W H l lim) g bs → FirstRows 0 W g (demand.drawn_rows es ++ drawn_by e)
       shows-now g bg =
           subst (FirstRows 0 W g) (drawn-is r x es)
-          ((claim f 0 0 W H l lim _ (now r x es) (came-after r x es came)).1.first g (record { map = bg.map.map; rows = has-now g bg }))
+          ((claim f 0 0 W H l lim (now r x es) _ (came-after r x es came)).1.first g (record { map = bg.map.map; rows = has-now g bg }))
 
       none-now : ends e ≡ true → NoneBegins (s₀ f W H l lim) bs
       none-now z g bg =
-          (claim f 0 0 W H l lim _ (now r x es) (came-after r x es came)).1.impossible (ended-live ∙ z) g
+          (claim f 0 0 W H l lim (now r x es) _ (came-after r x es came)).1.impossible (ended-live ∙ z) g
           (record { map = bg.map.map; rows = has-now g bg })
 
       pub drawn-by : StateAt (pick (ends e) true fin) bs (demand.drawn_rows es ++ drawn_by e)

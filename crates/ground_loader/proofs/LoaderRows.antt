@@ -2,7 +2,7 @@
 use mathlib.Core.Path.{◌≡◌, refl, sym, ap, ap₂, ◌∙◌, subst}
 use mathlib.Core.Bool.{Bool, true, false, true≢false}
 use mathlib.Core.List.{List, [], ◌∷◌, ◌++◌, append-nil, append_assoc}
-use Prim.Native.Nat.{ℕ, zero, suc, ◌+◌, ◌-◌, ◌^◌, ◌≤◌, ◌<◌}
+use Prim.Native.Nat.{ℕ, zero, suc, ◌-◌, ◌^◌, ◌≤◌, ◌<◌}
 use native.Mathlib.Nat.{mod-lt}
 use native.Mathlib.Omega.{arith}
 use lib.IntN.{ℤ, nat_abs}
@@ -46,7 +46,7 @@ use Rattle.ground_file.proofs.FileLaws.{listed-length, listed_same}
 use Rattle.ground_loader.specs.declared.rows.Coming.{Coming}
 use Rattle.ground_loader.specs.Coming.{between, refused as refused_by, moved, put_on}
 use Rattle.ground_loader.specs.Taken.{Wanting, Taken, more}
-use Rattle.ground_loader.specs.Loader.{World, world_of, loader_at, reader_wants, Byte, taken, away, ends, sum_on, times_step, is_over}
+use Rattle.ground_loader.specs.Loader.{World, world_of, loader_at, reader_wants, Byte, taken, away, sum_on, times_step, is_over}
 use Rattle.ground_loader.specs.Loader.{feed_byte, row_byte, byte_after, byte_of}
 use Rattle.ground_loader.specs.LoaderLists.{Begins, NoneBegins}
 use Rattle.ground_loader.proofs.SumLaws.{sum_more, prime-some}
@@ -238,7 +238,7 @@ module _ (f : ℕ) (W H : Side) (l : ℕ) (lim : Limits 0 f 0 0 W H l) (fin : Bo
         fourteen-none : (r' : Reader) (x' : ℕ → ℤ) → Came f W H l lim (events (refused 14)) r' x' → NoneBegins (s₀ f W H l lim) (bs ++ (b ∷ []))
         unfolding demand.ends
         fourteen-none r' x' c' g bg =
-            (claim f 0 0 W H l lim _ (events (refused 14)) c').1.impossible (ended-now (refused 14) adds-fourteen) g
+            (claim f 0 0 W H l lim (events (refused 14)) _ c').1.impossible (ended-now (refused 14) adds-fourteen) g
             (record { map = bg.map.map; rows = all-has (refused 14) adds-fourteen g bg })
 
         fed-next : (v : answer.Reply Reader) → FeedSeen f W H l lim es r x n a q v → Next f W H l lim fin bs ds b (feed_byte here n b (code q.band) m v)

@@ -3,7 +3,7 @@
 use mathlib.Core.Path.{◌≡◌, refl, sym, ap, ap₂, ◌∙◌, subst}
 use mathlib.Core.Bool.{Bool, true, false, true≢false}
 use mathlib.Core.List.{List, [], ◌∷◌, ◌++◌, append-nil, append_assoc}
-use Prim.Native.Nat.{ℕ, suc, ◌+◌, ◌≤◌, ◌<◌}
+use Prim.Native.Nat.{ℕ, suc, ◌≤◌, ◌<◌}
 use native.Mathlib.Nat.{mod-lt}
 use native.Mathlib.Omega.{arith}
 use native.Mathlib.Decide.{dec_lt}
@@ -97,7 +97,7 @@ module _ (f : ℕ) (W H : Side) (l : ℕ) (lim : Limits 0 f 0 0 W H l) where
   unfolding loader_fits within most_step
   fits-with es r x h k c cm a p q z e =
       let pl = plain_then es _ a in
-      and_yes _ _ (claim f 0 0 W H l lim _ es a).0
+      and_yes _ _ (claim f 0 0 W H l lim es _ a).0
       (and_yes _ _ (eq-eqb r.stop 0 pl.stop)
       (and_yes _ _ (eq-eqb r.spare 0 pl.spare)
       (and_yes _ _ (eq-eqb r.admission 0 pl.admission)

@@ -387,7 +387,7 @@ module _ (f : ℕ) (W H : Side) (l : ℕ) (lim : Limits 0 f 0 0 W H l) where
       → WholeMap (bd f W H l lim es r x came live sized ++ take k (sb f W H l lim es)) (demand.drawn_rows es)
   unfolding want_says
   whole-at es r x k few much came live none_left sized =
-      let c = (claim f 0 0 W H l lim _ es came).1 in
+      let c = (claim f 0 0 W H l lim es _ came).1 in
       let said-done : demand.event demand.want (record { reader = r; store = x }) ≡ demand.wanted (gives answer.done) =
       c.wants ∙ ap₂ (λ u v. demand.wanted (gives (want_says 0 W u v))) live none_left in
       let d = c.finished.0 said-done in

@@ -78,7 +78,7 @@ module _ (f : ℕ) (W H : Side) (l : ℕ) (lim : Limits 0 f 0 0 W H l) where
         turned-is b e = rw (live, head, le-leb (store_by f W (suc l)) n room, eq-eqb a.size (columns_of f W H l lim q) long, e) refl
 
         other : (k : ℕ) → feed_reply r asked ≡ answer.refused k → (b : Bool) → run_fits f q.level a.size a.numbers ≡ b → FeedSeen q (answer.refused k)
-        other k e true z = absurd (go ((claim f 0 0 W H l lim w es came).1.feeds_on n a (turned-is true z)))
+        other k e true z = absurd (go ((claim f 0 0 W H l lim es w came).1.feeds_on n a (turned-is true z)))
           where
             go : OneOf (demand.event (feed n a) w) (fed a (gives tt)) (fed a (refused 14)) → ⊥
             go (this u) = let v = sym (seen-is (answer.refused k) e) ∙ u in let p : ◌≡◌ {A = ℕ} 0 1 = cc in omega arith
@@ -87,7 +87,7 @@ module _ (f : ℕ) (W H : Side) (l : ℕ) (lim : Limits 0 f 0 0 W H l) where
                 let p : k ≡ 14 = cc in
                 never-fourteen es w came asked (e ∙ ap answer.refused p)
         other k e false z =
-            let u = (claim f 0 0 W H l lim w es came).1.feeds_turned n a 6 (turned-is false z) in
+            let u = (claim f 0 0 W H l lim es w came).1.feeds_turned n a 6 (turned-is false z) in
             let v = sym (seen-is (answer.refused k) e) ∙ u in
             let p : k ≡ 7 = cc in
             subst (λ i. FeedSeen q (answer.refused i)) (sym p) (seven z)

@@ -10,7 +10,6 @@ use native.Mathlib.Nat.{mul-add, mul-one, mul-le-mul_left}
 use native.Mathlib.Omega.{arith}
 use native.Mathlib.Decide.{dec_lt}
 use lib.IntN.{ℤ}
-use lib.Dec.{leb, eqb}
 use lib.ListN.{length, get_or, take, drop, length-append, length-take, length-drop, take-append-drop}
 use borrow.Author.Tests.{lt-leb, eq-eqb, ne_eqb}
 use Rattle.ground_file.specs.Groups.{zigzag, width_of, code_of, part_of, group_of, groups_of, row_bytes}

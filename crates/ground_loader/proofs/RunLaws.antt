@@ -13,7 +13,7 @@ use Rattle.numbers.proofs.Sweep.{both as halves}
 use Rattle.ground_loader.specs.declared.loader.Loader.{Loader}
 use Rattle.ground_loader.specs.declared.loader.Due.{Due}
 use Rattle.ground_loader.specs.declared.loader.Step.{Step}
-use Rattle.ground_loader.specs.Loader.{World, world_of, Byte, away, byte_of, Ran, stopped, ran_on, ran, bytes_wanted}
+use Rattle.ground_loader.specs.Loader.{World, world_of, Byte, byte_of, Ran, stopped, ran_on, ran, bytes_wanted}
 use Rattle.ground_loader.specs.Loader.{passed, impossible, turned, ran_answer}
 use Rattle.ground_loader.specs.Local.{due_of, Sound, Areas, Onward, Became, took, over, ToldOf}
 use Rattle.ground_loader.specs.Local as local

@@ -2,7 +2,7 @@
 -- nothing.
 use mathlib.Core.Path.{◌≡◌, refl, sym, ap, ◌∙◌, subst}
 use mathlib.Core.Bool.{Bool, true, false}
-use Prim.Native.Nat.{ℕ, ◌+◌, ◌*◌, ◌-◌, ◌/◌, ◌%◌, ◌^◌, ◌<◌}
+use Prim.Native.Nat.{ℕ, ◌+◌, ◌*◌, ◌/◌, ◌%◌, ◌^◌, ◌<◌}
 use native.Mathlib.Nat.{mod-lt}
 use native.Mathlib.Omega.{arith}
 use lib.IntN.{ℤ}
@@ -13,7 +13,6 @@ use Rattle.numbers.specs.Signal.{windowed}
 use Rattle.reader.specs.declared.Reader.{Reader}
 use Rattle.reader.specs.Answers as answer
 use Rattle.reader.specs.Reading.{feed_question, feed_reply, feed_store}
-use Rattle.reader.specs.State.{needs}
 use Rattle.ground_file.specs.Groups.{bytes_of}
 use Rattle.ground_file.specs.File.{header_of, prime}
 use Rattle.ground_loader.specs.declared.rows.Coming.{Coming}

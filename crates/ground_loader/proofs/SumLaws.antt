@@ -1,7 +1,7 @@
 -- The checksum, byte by byte: the sum with one byte more (`sum_more`), and the four bytes that end a file (`sum-bytes`). Assumes nothing.
 use mathlib.Core.Path.{◌≡◌, refl, sym, ap, ◌∙◌}
 use mathlib.Core.List.{List, [], ◌∷◌, ◌++◌}
-use Prim.Native.Nat.{ℕ, zero, suc, ◌+◌, ◌*◌, ◌-◌, ◌/◌, ◌%◌, ◌^◌, ◌<◌}
+use Prim.Native.Nat.{ℕ, zero, suc, ◌+◌, ◌*◌, ◌/◌, ◌%◌, ◌^◌, ◌<◌}
 use native.Mathlib.Nat.{mul-suc, div-one, add-mul-mod_self_left}
 use native.Mathlib.Omega.{arith}
 use lib.ListN.{get_or}

@@ -2,7 +2,6 @@
 use mathlib.Core.Path.{refl}
 use Rattle.ground_file.specs.Groups.{bytes_of}
 use Rattle.ground_file.specs.File.{header_of}
-use borrow.Author.Rules.{rules}
 use Rattle.ground_loader.proofs.header.byte_at.Goals as goal
 
 pub bounds-header-place : goal.bounds-header-place

@@ -5,7 +5,6 @@ use Rattle.reader.specs.Answers.{of_set_up}
 use Rattle.ground_loader.specs.declared.rows.Coming.{Coming}
 use Rattle.ground_loader.specs.Loader.{loader_at}
 use Rattle.ground_loader.specs.LoaderAnswers.{gives, begun_by}
-use borrow.Author.Rules.{rules}
 use Rattle.ground_loader.proofs.loader.by_reader.Goals as goal
 
 pub returns-in-Ready : goal.returns-in-Ready

@@ -1,7 +1,5 @@
-use mathlib.Core.Path.{◌≡◌, sym, ◌∙◌}
-use Prim.Native.Nat.{◌-◌, ◌≤◌}
+use mathlib.Core.Path.{sym, ◌∙◌}
 use native.Mathlib.Omega.{arith}
-use Rattle.ground_loader.specs.Numbers.{numbers_in, greatest}
 use Rattle.ground_loader.proofs.NumberLaws.{greatest-start, greatest-more, greatest-less, greatest-end}
 use Rattle.ground_loader.proofs.parts.largest.Goals as goal
 

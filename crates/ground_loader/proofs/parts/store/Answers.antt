@@ -1,9 +1,8 @@
 use mathlib.Core.Path.{ap, ◌∙◌}
-use Prim.Native.Nat.{◌-◌}
 use native.Mathlib.Omega.{arith}
 use Rattle.numbers.proofs.Words.{read_back}
 use Rattle.ground_loader.specs.Numbers.{value_of}
-use Rattle.ground_loader.proofs.NumberLaws.{Storing, storing-start, rest-small, storing-place, storing-next, storing-end}
+use Rattle.ground_loader.proofs.NumberLaws.{storing-start, rest-small, storing-place, storing-next, storing-end}
 use Rattle.ground_loader.proofs.Clauses.{value-row_after}
 use Rattle.ground_loader.proofs.parts.store.Goals as goal
 

@@ -3,7 +3,6 @@ use mathlib.Core.Path.{sym, ap}
 use Rattle.reader.specs.declared.Wanted.{Wanted}
 use Rattle.reader.specs.Answers.{of_wanted}
 use Rattle.ground_loader.specs.Local.{is_given}
-use borrow.Author.Rules.{rules}
 use Rattle.ground_loader.proofs.questions.answers.Goals as goal
 
 pub returns-in-Row : goal.returns-in-Row

@@ -1,6 +1,5 @@
 -- `questions::areas_fit` meets its contract: two tests together. Assumes nothing.
 use Rattle.ground_loader.proofs.AskLaws.{width_fits, areas-are}
-use borrow.Author.Rules.{rules}
 use Rattle.ground_loader.proofs.questions.areas_fit.Goals as goal
 
 pub overflow_add-result : goal.overflow_add-result

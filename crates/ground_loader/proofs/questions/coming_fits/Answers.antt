@@ -3,7 +3,6 @@ use native.Mathlib.Omega.{arith}
 use borrow.Author.Tests.{lt-ltb, le-ltb}
 use lib.Dec.{ltb}
 use Rattle.ground_loader.proofs.AskLaws.{at-yes, at-no}
-use borrow.Author.Rules.{rules}
 use Rattle.ground_loader.proofs.questions.coming_fits.Goals as goal
 
 pub returns-then-header-lt24 : goal.returns-then-header-lt24

@@ -3,7 +3,6 @@ use mathlib.Core.Path.{sym, ap, ◌∙◌}
 use Rattle.reader.specs.declared.Wanted.{Wanted}
 use Rattle.reader.specs.Answers.{of_wanted}
 use Rattle.ground_loader.specs.Loader.{want_in, coming_after}
-use borrow.Author.Rules.{rules}
 use Rattle.ground_loader.proofs.questions.coming_for.Goals as goal
 
 pub returns-in-Row : goal.returns-in-Row

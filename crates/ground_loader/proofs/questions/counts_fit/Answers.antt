@@ -5,7 +5,6 @@ use Rattle.numbers.specs.Signal.{pick}
 use Rattle.ground_loader.specs.Loader.{want_in, is_none, coming_after}
 use Rattle.ground_loader.specs.Local.{is_given}
 use Rattle.ground_loader.proofs.AskLaws.{loader-is}
-use borrow.Author.Rules.{rules}
 use Rattle.ground_loader.proofs.questions.counts_fit.Goals as goal
 
 pub returns : goal.returns

@@ -2,7 +2,6 @@
 use native.Mathlib.Omega.{arith}
 use Rattle.ground_loader.proofs.SmallestLaws.{widest}
 use Rattle.ground_loader.proofs.AskLaws.{part_left, part-bits, part-all}
-use borrow.Author.Rules.{rules}
 use Rattle.ground_loader.proofs.questions.part_fits.Goals as goal
 
 pub returns-then-n-c : goal.returns-then-n-c

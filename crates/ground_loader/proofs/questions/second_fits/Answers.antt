@@ -1,6 +1,5 @@
 -- `questions::second_fits` meets its contract: case by case. Assumes nothing.
 use Rattle.ground_loader.proofs.AskLaws.{second-other, second-zero, second-some}
-use borrow.Author.Rules.{rules}
 use Rattle.ground_loader.proofs.questions.second_fits.Goals as goal
 
 pub returns-then-c-ne1 : goal.returns-then-c-ne1

@@ -4,7 +4,6 @@ use native.Mathlib.Omega.{arith}
 use borrow.Author.Tests.{not-true, not-false}
 use Rattle.ground_loader.proofs.AskLaws.{loader-in, take-one, take-five, take-nine, take-eight, take_none}
 use Rattle.ground_loader.proofs.DueLaws.{bytes-yes, bytes-no}
-use borrow.Author.Rules.{rules}
 use Rattle.ground_loader.proofs.questions.take_question.Goals as goal
 
 pub returns-then-not-counts_fit : goal.returns-then-not-counts_fit

@@ -5,7 +5,6 @@ use lib.IntN.{ℤ, pos, nat_abs, ◌-ℤ◌}
 use mir.Syntax.{w32}
 use mir.ValLaws.{to_z-of_z}
 use borrow.Author.Tests.{not-true, not-false}
-use borrow.Author.Rules.{rules, sfits_of}
 use Rattle.numbers.specs.Signal.{at, both}
 use Rattle.level.proofs.AdmitLaws.{neg-fits}
 use Rattle.ground_loader.proofs.RangeLaws.{stored_is, within_all, cast_fits, stand-done, take_long}

@@ -6,7 +6,6 @@ use Rattle.ground_loader.specs.Local.{brought_within}
 use Rattle.ground_loader.proofs.SmallestLaws.{widest}
 use Rattle.ground_loader.proofs.AskLaws.{at-yes}
 use Rattle.ground_loader.proofs.RangeLaws.{brought-fits, brought-is}
-use borrow.Author.Rules.{rules}
 use Rattle.ground_loader.proofs.rows.brings_within.Goals as goal
 
 pub returns-then-c-eq0 : goal.returns-then-c-eq0

@@ -1,6 +1,5 @@
 -- `rows::group_next` meets its contract: by the two cases of what is turned away. Assumes nothing.
 use Rattle.ground_loader.proofs.ByteLaws.{group-away, group-on}
-use borrow.Author.Rules.{rules}
 use Rattle.ground_loader.proofs.rows.group_next.Goals as goal
 
 pub returns-then-group_refused : goal.returns-then-group_refused

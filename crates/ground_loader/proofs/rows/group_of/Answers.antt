@@ -1,6 +1,5 @@
 -- `rows::group_of` meets its contract: by the two cases of its low code. Assumes nothing.
 use native.Mathlib.Omega.{arith}
-use borrow.Author.Rules.{rules}
 use Rattle.ground_loader.proofs.ByteLaws.{group-open, group-none, size_room}
 use Rattle.ground_loader.proofs.rows.group_of.Goals as goal
 

@@ -1,6 +1,5 @@
 -- `rows::part_next` meets its contract: by the two cases of what is turned away. Assumes nothing.
 use Rattle.ground_loader.proofs.ByteLaws.{part-away, part-on}
-use borrow.Author.Rules.{rules}
 use Rattle.ground_loader.proofs.rows.part_next.Goals as goal
 
 pub returns-then-part_refused : goal.returns-then-part_refused

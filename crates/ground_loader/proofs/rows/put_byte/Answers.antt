@@ -1,7 +1,6 @@
 -- `rows::put_byte` meets its contract: by the phase. Assumes nothing.
 use native.Mathlib.Omega.{arith}
 use Rattle.ground_loader.proofs.ByteLaws.{group-put, part-put}
-use borrow.Author.Rules.{rules}
 use Rattle.ground_loader.proofs.rows.put_byte.Goals as goal
 
 pub put_group-requires : goal.put_group-requires

@@ -1,6 +1,5 @@
 -- `rows::put_group` meets its contract: by the two cases of its low code. Assumes nothing.
 use native.Mathlib.Omega.{arith}
-use borrow.Author.Rules.{rules}
 use Rattle.ground_loader.proofs.ByteLaws.{group-kept, group-zeros}
 use Rattle.ground_loader.proofs.rows.put_group.Goals as goal
 

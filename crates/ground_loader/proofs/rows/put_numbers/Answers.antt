@@ -1,6 +1,5 @@
 -- `rows::put_numbers` meets its contract: the numbers stored at the width of the code. Assumes nothing.
 use native.Mathlib.Omega.{arith}
-use borrow.Author.Rules.{rules}
 use Rattle.ground_loader.proofs.ByteLaws.{whole-left, stored_is}
 use Rattle.ground_loader.proofs.SmallestLaws.{widest}
 use Rattle.ground_loader.proofs.rows.put_numbers.Goals as goal

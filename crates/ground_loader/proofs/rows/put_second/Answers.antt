@@ -1,6 +1,5 @@
 -- `rows::put_second` meets its contract: by the two cases of its code. Assumes nothing.
 use native.Mathlib.Omega.{arith}
-use borrow.Author.Rules.{rules}
 use Rattle.ground_loader.proofs.ByteLaws.{second-kept, second-zeros}
 use Rattle.ground_loader.proofs.rows.put_second.Goals as goal
 

@@ -3,7 +3,6 @@ use native.Mathlib.Omega.{arith}
 use borrow.Author.Tests.{lt-ltb, le-ltb}
 use lib.Dec.{ltb}
 use Rattle.ground_loader.proofs.AskLaws.{at-yes, at-no}
-use borrow.Author.Rules.{rules}
 use Rattle.ground_loader.proofs.steps.at_end.Goals as goal
 
 pub returns-then-tail-lt4 : goal.returns-then-tail-lt4

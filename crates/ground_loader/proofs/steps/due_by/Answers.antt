@@ -4,7 +4,6 @@ use Rattle.reader.specs.declared.Wanted.{Wanted}
 use Rattle.reader.specs.Answers.{of_wanted}
 use Rattle.ground_loader.specs.Loader.{want_in}
 use Rattle.ground_loader.specs.Local.{due_after}
-use borrow.Author.Rules.{rules}
 use Rattle.ground_loader.proofs.steps.due_by.Goals as goal
 
 pub returns-in-Row : goal.returns-in-Row

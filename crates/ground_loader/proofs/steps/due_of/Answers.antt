@@ -4,7 +4,6 @@ use native.Mathlib.Omega.{arith}
 use Rattle.ground_loader.specs.Loader.{want_in}
 use Rattle.ground_loader.specs.Local.{due_after}
 use Rattle.ground_loader.proofs.DueLaws.{due-ended, due-header, due-rest}
-use borrow.Author.Rules.{rules}
 use Rattle.ground_loader.proofs.steps.due_of.Goals as goal
 
 pub returns-then-r : goal.returns-then-r

@@ -2,7 +2,6 @@
 use mathlib.Core.Path.{ap}
 use Rattle.reader.specs.Answers.{of_fed}
 use Rattle.ground_loader.proofs.StepLaws.{fed-on, fed-over, fed-none}
-use borrow.Author.Rules.{rules}
 use Rattle.ground_loader.proofs.steps.feed.Goals as goal
 
 pub returns-in-Passed : goal.returns-in-Passed

@@ -2,7 +2,6 @@
 use native.Mathlib.Omega.{arith}
 use Rattle.ground_loader.proofs.DueLaws.{in-header, header-fits}
 use Rattle.ground_loader.proofs.StepLaws.{header-away, header-on}
-use borrow.Author.Rules.{rules}
 use Rattle.ground_loader.proofs.Clauses.{header_taken-onward}
 use Rattle.ground_loader.proofs.steps.header_byte.Goals as goal
 

@@ -1,10 +1,10 @@
 -- `steps::last_byte` meets its contract: 7 before anything is changed, then the row is fed. Assumes nothing.
 use mathlib.Core.Path.{◌≡◌, sym, ap, ◌∙◌}
 use native.Mathlib.Omega.{arith}
+use Prim.Native.Nat.{◌≤◌}
 use native.Mathlib.Nat.{le_trans}
 use lib.ListN.{length}
 use borrow.Author.Tests.{not-true, not-false}
-use borrow.Author.Rules.{rules}
 use Rattle.numbers.specs.Signal.{at, windowed}
 use Rattle.numbers.proofs.Words.{read_back}
 use Rattle.reader.specs.Questions.{run_fits}
@@ -56,7 +56,7 @@ slice_bounds-feed-end c =
     omega (arith, row-half (in_row c.args.l c.args.d p.0 p.1), p.2.1, c.put_byte.auto.row)
 
 pub slice_bounds-feed-end-2 : goal.slice_bounds-feed-end-2
-slice_bounds-feed-end-2 c = take_long _ _ (slice_bounds-feed-end c.before)
+slice_bounds-feed-end-2 c = take_long _ _ (slice_bounds-feed-end c)
 
 pub feed-requires : goal.feed-requires
 feed-requires c = let p = c.requires in (p.0, p.1)
@@ -81,8 +81,9 @@ returns c =
     ∙ not-false _ c.if-not-all_within.false-raw in
     let came = put ∙ sym (over-put g.l x y n g.byte d.band m one) in
     let fed = front-is m _ ∙ ap (windowed 0 m) came in
+    let row_in : m ≤ length c.put_byte.new.row = omega (arith, row-half due, p.2.1, c.put_byte.auto.row) in
     record {
-      became = row-fed-by g.l x y n g.byte d.band m f.result _ _ _ _ (sym (slice_bounds-feed-end-2 c.before.before)) p.3 p.4 fed came
+      became = row-fed-by g.l x y n g.byte d.band m f.result _ _ _ _ (sym (take_long _ _ row_in)) p.3 p.4 fed came
           (feed-on due p.0.stop.0 n p.2.0 x _ (ap (run_fits g.l.reader.filter d.level m) fed ∙ fits)) f.ensures.store_after f.ensures.fed_step;
       onward = f.ensures.onward;
     }

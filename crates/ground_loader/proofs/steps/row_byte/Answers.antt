@@ -2,7 +2,6 @@
 use mathlib.Core.Path.{refl, sym, ap, ◌∙◌}
 use native.Mathlib.Omega.{arith}
 use native.Mathlib.Nat.{le_trans}
-use borrow.Author.Rules.{rules}
 use Rattle.ground_loader.specs.Loader.{is_over}
 use Rattle.ground_loader.proofs.ByteLaws.{took-away, took-on}
 use Rattle.ground_loader.proofs.ReaderLaws.{row-half}

@@ -3,7 +3,6 @@ use native.Mathlib.Omega.{arith}
 use borrow.Author.Tests.{not-true, not-false}
 use Rattle.ground_loader.proofs.DueLaws.{in_tail}
 use Rattle.ground_loader.proofs.StepLaws.{tail-away, tail-on}
-use borrow.Author.Rules.{rules}
 use Rattle.ground_loader.proofs.Clauses.{tail_taken-onward}
 use Rattle.ground_loader.proofs.steps.tail_byte.Goals as goal
 

@@ -2,7 +2,6 @@
 use mathlib.Core.Path.{sym, subst}
 use native.Mathlib.Omega.{arith}
 use lib.ListN.{length}
-use borrow.Author.Rules.{rules}
 use Rattle.numbers.specs.Signal.{at}
 use Rattle.ground_loader.specs.Loader.{world_of}
 use Rattle.ground_loader.specs.Local.{Became}

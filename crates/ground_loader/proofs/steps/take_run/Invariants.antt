@@ -1,12 +1,10 @@
 -- `steps::take_run` meets its contract: turn by turn, what is left to do is the same. Assumes nothing.
-use mathlib.Core.Path.{◌≡◌, refl, sym, ap, ◌∙◌}
-use native.Mathlib.Omega.{arith}
+use mathlib.Core.Path.{◌≡◌}
 use Prim.Native.Nat.{◌<◌, ◌^◌}
 use lib.ListN.{length}
-use borrow.Author.Rules.{rules}
 use Rattle.numbers.specs.Signal.{at}
-use Rattle.ground_loader.specs.Loader.{world_of, ran_answer}
-use Rattle.ground_loader.proofs.RunLaws.{Running, running-start, turn-sound, turn-areas, turn_in, turn-zero, turn, left, less, one-le, running-end}
+use Rattle.ground_loader.specs.Loader.{world_of}
+use Rattle.ground_loader.proofs.RunLaws.{Running, left}
 use Rattle.ground_loader.proofs.steps.take_run.Given as goal
 
 abbrev pub invariant-loop-answer : goal.invariant-loop-answer

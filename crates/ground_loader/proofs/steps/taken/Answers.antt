@@ -1,7 +1,6 @@
 -- `steps::taken` meets its contract. Assumes nothing.
 use mathlib.Core.Path.{ap}
 use Rattle.ground_loader.specs.declared.loader.Due.{Due}
-use borrow.Author.Rules.{rules}
 use Rattle.ground_loader.proofs.steps.taken.Goals as goal
 
 pub returns : goal.returns

@@ -3,7 +3,6 @@ use mathlib.Core.Path.{refl, sym, ap, ◌∙◌}
 use borrow.Author.Tests.{not-true, not-false}
 use Rattle.ground_loader.specs.LoaderAnswers.{drawn_by}
 use Rattle.ground_loader.proofs.AskLaws.{at-yes, at-no}
-use borrow.Author.Rules.{rules}
 use Rattle.ground_loader.proofs.loader.Loader.draw.Goals as goal
 
 pub returns-then-not-counts_fit : goal.returns-then-not-counts_fit

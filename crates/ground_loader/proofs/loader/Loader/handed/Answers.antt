@@ -4,7 +4,6 @@ use Rattle.reader.specs.declared.Drawn.{Drawn}
 use Rattle.reader.specs.Answers.{of_drawn}
 use Rattle.ground_loader.specs.declared.loader.Loader.{Loader}
 use Rattle.ground_loader.specs.LoaderAnswers.{gives, ends, a_row, drawn_by}
-use borrow.Author.Rules.{rules}
 use Rattle.ground_loader.proofs.loader.Loader.handed.Goals as goal
 
 pub returns-in-Heights : goal.returns-in-Heights

@@ -1,9 +1,7 @@
 -- `Loader::set_up` meets its contract: the questions, then the reader's own. Assumes nothing.
 use mathlib.Core.Path.{sym, ap, ◌∙◌}
-use native.Mathlib.Omega.{arith}
 use Rattle.ground_loader.specs.LoaderAnswers.{begun_by}
 use Rattle.ground_loader.proofs.CallLaws.{up-no, up_step, up_strict}
-use borrow.Author.Rules.{rules}
 use Rattle.ground_loader.proofs.Clauses.{result_value-store_after}
 use Rattle.ground_loader.proofs.loader.Loader.set_up.Goals as goal
 

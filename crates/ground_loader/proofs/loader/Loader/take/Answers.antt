@@ -1,9 +1,6 @@
 -- `Loader::take` meets its contract: the questions, then the run. Assumes nothing.
 use mathlib.Core.Path.{sym, ◌∙◌}
-use native.Mathlib.Omega.{arith}
 use lib.ListN.{length}
-use borrow.Author.Rules.{rules}
-use Rattle.numbers.specs.Signal.{at}
 use Rattle.ground_loader.proofs.CallLaws.{take_no, take-yes, take-sound}
 use Rattle.ground_loader.proofs.Clauses.{answer-kept-came}
 use Rattle.ground_loader.proofs.loader.Loader.take.Goals as goal

@@ -3,7 +3,6 @@ use mathlib.Core.Path.{sym, ◌∙◌}
 use native.Mathlib.Omega.{arith}
 use borrow.Author.Tests.{not-true, not-false}
 use Rattle.ground_loader.proofs.CallLaws.{want-no, want-bytes, want-draw, want-done, want-ended}
-use borrow.Author.Rules.{rules}
 use Rattle.ground_loader.proofs.loader.Loader.want.Goals as goal
 
 pub returns-then-not-counts_fit : goal.returns-then-not-counts_fit
