@@ -84,15 +84,21 @@ lefts_in x t (e ∷ es) i = left-in x t e (lefts_in x (left_by t e) es i)
 
 as-in : (u : FedRow) (t : List Step) (a : Area) → In u (fed_as t a) → In u.row (band_rows_of t)
 unfolding band_rows_of
+as-in u [] a i = elim i [ ]
 as-in u (step.feed y ∷ t) a first = first
+as-in u (step.feed y ∷ t) a (later i) = elim i [ ]
+as-in u (step.draw _ ∷ t) a i = elim i [ ]
 
 by_in : (u : FedRow) (t : List Step) (e : Event) → In u (fed_by t e) → In u.row (band_rows_of t)
 unfolding fed_by
+by_in u t (wanted _) i = elim i [ ]
+by_in u t (drew _ _ _) i = elim i [ ]
 by_in u t (fed a (gives v)) i = as-in u t a i
 by_in u t (fed a (refused q)) i = go (eqb q 14) i
   where
     go : (b : Bool) → In u (pick b (fed_as t a) []) → In u.row (band_rows_of t)
     go true i = as-in u t a i
+    go false i = elim i [ ]
 
 split-in : {A : Type 0} (u : A) (xs ys : List A) → In u (xs ++ ys) → In u xs ⊎ In u ys
 split-in u [] ys i = inr i
@@ -101,11 +107,13 @@ split-in u (x ∷ xs) ys (later i) = ⊎_elim (λ p. inl (later p)) (λ q. inr q
 
 fed-in : (u : FedRow) (t : List Step) (es : List Event) → In u (fed_rows t es) → In u.row (band_rows_of t)
 unfolding fed_rows
+fed-in u t [] i = elim i [ ]
 fed-in u t (e ∷ es) i =
     ⊎_elim (λ p. by_in u t e p) (λ q. left-in u.row t e (fed-in u (left_by t e) es q)) (split-in u (fed_by t e) (fed_rows (left_by t e) es) i)
 
 in-times : (x : RowName) (xs : List RowName) → In x xs → 1 ≤ times x xs
 unfolding times
+in-times x [] i = elim i [ ]
 in-times x (y ∷ xs) first = rw (same_self x) (omega arith)
 in-times x (y ∷ xs) (later i) = let a = in-times x xs i in omega arith
 

@@ -88,6 +88,8 @@ module _ (f : ℕ) (W : Side) (s H : ℕ) (g : Grid) where
   found_right : (ds : List writer.DrawnRow) (names : List RowName) → map (λ d. d.row) ds ≡ map (answered W) names →
       All (HasValues f W s H g) ds → (x : RowName) → In x names → Right x (drawn_as ds x)
   unfolding drawn_as
+  found_right [] [] e a x i = elim i [ ]
+  found_right (d ∷ ds) [] e a x i = elim i [ ]
   found_right [] (z ∷ names) e a x i = absurd (let p : ◌≡◌ {A = ℕ} 0 1 = cc in omega arith)
   found_right (d ∷ ds) (z ∷ names) e (all_more h a) x i =
       let q : d.row ≡ answered W z = cc in

@@ -154,41 +154,41 @@ module _ (W H l : ℕ) (lim : Limits 1 0 0 0 (side 0 W) (side 0 H) l) where
   none-spare : 0 + M ≡ M
   none-spare = omega arith
 
-  wants-are : (w : World) (es : List Event) → After es w → event want w ≡ wanted (gives (want_says 0 wide false (left (steps_of W H (suc l)) es)))
-  wants-are _ es (reached d p e x t fs ds kept) =
+  wants-are : (es : List Event) (w : World) → After es w → event want w ≡ wanted (gives (want_says 0 wide false (left (steps_of W H (suc l)) es)))
+  wants-are es _ (reached d p e x t fs ds kept) =
       want_is 1 0 0 0 wide high l lim d p e x t fs ds kept ∙ ap (λ u. wanted (gives (want_says 0 wide u t))) (kept.lives (omega arith))
 
-  feeds-are : (w : World) (es : List Event) → After es w → (n : ℕ) (a : Area) →
+  feeds-are : (es : List Event) (w : World) → After es w → (n : ℕ) (a : Area) →
       event (feed n a) w ≡ fed a (unless (feed_turned 0 0 wide M false (left (steps_of W H (suc l)) es) n a) tt)
-  feeds-are _ es (reached d p e x t fs ds kept) n a =
+  feeds-are es _ (reached d p e x t fs ds kept) n a =
       let never : e ≡ false = kept.lives (omega arith) in
       turned _ es (reached d p e x t fs ds kept) n a t (feed_turned 0 0 wide M false t n a)
       (λ q z. feed-turned 1 0 0 0 wide high l lim d p e x t fs ds kept n a q (ap₂ (λ m u. feed_turned 0 0 wide m u t n a) none-spare never ∙ z))
       (λ z. feed-on 1 0 0 0 wide high l lim d p e x t fs ds kept n a (ap₂ (λ m u. feed_turned 0 0 wide m u t n a) none-spare never ∙ z)) refl
 
-  draws-are : (w : World) (es : List Event) → After es w → (n : ℕ) (a : Area) →
+  draws-are : (es : List Event) (w : World) → After es w → (n : ℕ) (a : Area) →
       Hands (draw_says wide M false (left (steps_of W H (suc l)) es) n a.size) a (event (draw n a) w)
-  draws-are _ es (reached d p e x t fs ds kept) n a =
+  draws-are es _ (reached d p e x t fs ds kept) n a =
       handed _ es (reached d p e x t fs ds kept) n a t
       (subst (λ m. Draws wide m false t n a (event (draw n a) (world 1 0 0 0 wide high l lim d p e x))) none-spare
       (subst (λ u. Draws wide (0 + M) u t n a (event (draw n a) (world 1 0 0 0 wide high l lim d p e x))) (kept.lives (omega arith))
       (draw-is 1 0 0 0 wide high l lim d p e x t fs ds kept n a)))
 
-  heights-are : (w : World) (es : List Event) → After es w → (y : ℕ → ℤ) → FedFrom W H (suc l) y es → (r c : ℕ) → r < length (drawn_rows es) → c < W →
+  heights-are : (es : List Event) (w : World) → After es w → (y : ℕ → ℤ) → FedFrom W H (suc l) y es → (r c : ℕ) → r < length (drawn_rows es) → c < W →
       get_or (drawn_rows es) r (λ _. pos 0) c ≡ map_back_limited five_three_filter wrap32 0 (suc l) wide high (cells W y) r c
-  heights-are _ es (reached d p e x t fs ds kept) y from r c u v =
+  heights-are es _ (reached d p e x t fs ds kept) y from r c u v =
       (kept.rows (rows_in W H y) from.rows).shows r c (omega (arith, kept.drawn)) v
       ∙ part-limited y r c (omega (arith, kept.drawn, kept.drawn_le)) v
 
-  few : (w : World) (es : List Event) → After es w → length (drawn_rows es) ≤ H
-  few _ es (reached d p e x t fs ds kept) = omega (arith, kept.drawn, kept.drawn_le)
+  few : (es : List Event) (w : World) → After es w → length (drawn_rows es) ≤ H
+  few es _ (reached d p e x t fs ds kept) = omega (arith, kept.drawn, kept.drawn_le)
 
-  finished-then : (w : World) (es : List Event) → After es w → event want w ≡ wanted (gives done) → length (drawn_rows es) ≡ H
-  finished-then w es r z = go w es r (sym (wants-are w es r) ∙ z)
+  finished-then : (es : List Event) (w : World) → After es w → event want w ≡ wanted (gives done) → length (drawn_rows es) ≡ H
+  finished-then es w r z = go es w r (sym (wants-are es w r) ∙ z)
     where
-      go : (w : World) (es : List Event) → After es w → wanted (gives (want_says 0 wide false (left (steps_of W H (suc l)) es))) ≡ wanted (gives done) →
+      go : (es : List Event) (w : World) → After es w → wanted (gives (want_says 0 wide false (left (steps_of W H (suc l)) es))) ≡ wanted (gives done) →
           length (drawn_rows es) ≡ H
-      go _ es (reached d p e x t fs ds kept) z =
+      go es _ (reached d p e x t fs ds kept) z =
           let y : want_says 0 wide false t ≡ done = cc in
           let over = (done-only 0 wide false t y).1 in
           omega (
@@ -198,23 +198,23 @@ module _ (W H l : ℕ) (lim : Limits 1 0 0 0 (side 0 W) (side 0 H) l) where
             all_drawn 1 0 0 0 wide high l lim d p e x t fs ds kept (subst (View 0 wide high l d p) over (viewed 1 0 0 0 wide high l lim d p e x t fs ds kept)),
           )
 
-  then-finished : (w : World) (es : List Event) → After es w → length (drawn_rows es) ≡ H → event want w ≡ wanted (gives done)
+  then-finished : (es : List Event) (w : World) → After es w → length (drawn_rows es) ≡ H → event want w ≡ wanted (gives done)
   unfolding want_says
-  then-finished w es r z = wants-are w es r ∙ ap (λ v. wanted (gives (want_says 0 wide false v))) (go w es r z)
+  then-finished es w r z = wants-are es w r ∙ ap (λ v. wanted (gives (want_says 0 wide false v))) (go es w r z)
     where
-      go : (w : World) (es : List Event) → After es w → length (drawn_rows es) ≡ H → left (steps_of W H (suc l)) es ≡ []
-      go _ es (reached d p e x t fs ds kept) z =
+      go : (es : List Event) (w : World) → After es w → length (drawn_rows es) ≡ H → left (steps_of W H (suc l)) es ≡ []
+      go es _ (reached d p e x t fs ds kept) z =
           none_left 1 0 0 0 wide high l lim d p e x t fs ds kept t (viewed 1 0 0 0 wide high l lim d p e x t fs ds kept) (omega (arith, kept.drawn, z))
 
-  claim : (w : World) (es : List Event) → After es w → Tolerant W H (suc l) es (λ c. event c w)
-  claim w es r = record {
+  claim : (es : List Event) (w : World) → After es w → Tolerant W H (suc l) es (λ c. event c w)
+  claim es w r = record {
     lives = lives es w r;
-    wants = wants-are w es r;
-    feeds = feeds-are w es r;
-    draws = draws-are w es r;
-    heights = heights-are w es r;
-    drawn_le = few w es r;
-    finished = (finished-then w es r, then-finished w es r);
+    wants = wants-are es w r;
+    feeds = feeds-are es w r;
+    draws = draws-are es w r;
+    heights = heights-are es w r;
+    drawn_le = few es w r;
+    finished = (finished-then es w r, then-finished es w r);
   }
 
   -- from a fresh one; and where each call finds numbers of its own past the needed part of the store

@@ -86,8 +86,8 @@ module _ (f : ℕ) (W H : Side) (L : ℕ) where
   pub cut : {s t : ℕ → ℕ} {x : Step} (p q : List Action) → Runs s (p ++ (call x ∷ q)) t → Cut s p x
   cut [] q (step y r) = record { here = _; run = stop; finds = y }
   cut (call z ∷ p) q (step y r) = let c = cut p q r in record { here = c.here; run = step y c.run; finds = c.finds }
-  cut (works k n ∷ p) q (work i g b e r) =
-      let c = cut p q r in
+  cut {s = s} (works k n ∷ p) q (work i g b e r) =
+      let c = cut {s = bump i s} p q r in
       record { here = c.here; run = work i g b e c.run; finds = c.finds }
 
   -- the sets b, b + 1 and on, n of them
@@ -134,7 +134,7 @@ module _ (f : ℕ) (W H : Side) (L : ℕ) where
       (g < (rows k).start / 2 + t k) × ((rows k).start / 2 ≤ g) × (g ≤ (rows k).start / 2 + last_set (rows k))
   work-is {s} [] q k g (work i h₀ b e r) = let h = (worked-is r k).0 in let o = bump-own k s in (omega arith, omega arith, omega arith)
   work-is (call x ∷ p) q k g (step y r) = work-is p q k g r
-  work-is (works j n ∷ p) q k g (work i m b e r) = work-is p q k g r
+  work-is {s} (works j n ∷ p) q k g (work i m b e r) = work-is {s = bump i s} p q k g r
 
   -- ---- a set, its LL row first
   unfoldable pub set_w : ℕ → ℕ → ℕ → List Action
