@@ -3,13 +3,13 @@
 use mathlib.Core.Path.{◌≡◌, sym, ap, subst, ◌∙◌}
 use mathlib.Core.Bool.{Bool, true}
 use mathlib.Core.List.{List, [], ◌++◌, append_assoc, append-nil}
-use Prim.Native.Nat.{ℕ, zero, suc, ◌+◌, ◌*◌, ◌≤◌, ◌<◌}
+use Prim.Native.Nat.{ℕ, zero, suc, ◌*◌, ◌≤◌, ◌<◌}
 use native.Mathlib.Omega.{arith}
 use lib.ListN.{length}
 use Rattle.lifting.specs.Grid.{side}
 use Rattle.calls.specs.Lists.{All}
 use Rattle.level.specs.Level.{Memory}
-use Rattle.writer.specs.History.{DrawnRow, events, fresh_world, finished_by, drawn}
+use Rattle.writer.specs.History.{DrawnRow, events, fresh_world, finished_by}
 use Rattle.writer.specs.declared.Writer.{Writer}
 use Rattle.text.specs.Refusal.{answer_line}
 use Rattle.wavelet.specs.Limits.{max_sample}

@@ -18,7 +18,7 @@ use Rattle.pgm.specs.InputSteps.{phased, input_ended}
 use Rattle.listing.specs.Parts.{refused_part}
 use Rattle.listing.specs.States.{map_store, State, draw_state, finish_state, end_to, end_state}
 use Rattle.listing.specs.Moves.{line_on, Idle}
-use Rattle.listing.specs.Events.{Event, height, refusal, Ending, whole, few, over, ending_of}
+use Rattle.listing.specs.Events.{Event, refusal, Ending, whole, few, over, ending_of}
 use Rattle.pgm.specs.declared.input.Input.{Input}
 use Rattle.pgm.specs.EndedAnswer.{EndedAnswer}
 use Rattle.pgm.specs.EndedAnswer as ended

@@ -1,5 +1,5 @@
 -- A listing with its line store x and its row area z, and what each step leaves of them. n and k are the lengths of store and area.
-use Rattle.std.specs.Prelude.{◌≡◌, [], ◌∷◌, ℕ, ◌+◌, ltb, eqb, length}
+use Rattle.std.specs.Prelude.{◌≡◌, [], ◌∷◌, ℕ, ◌+◌, ltb, eqb}
 use Rattle.numbers.specs.Signal.{pick}
 use Rattle.lifting.specs.Grid.{side}
 use Rattle.wavelet.specs.Limits.{max_levels}

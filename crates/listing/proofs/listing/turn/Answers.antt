@@ -3,7 +3,6 @@ use mathlib.Core.Bool.{true, false}
 use native.Mathlib.Omega.{arith}
 use Rattle.text.specs.Moves.{full, idle}
 use Rattle.listing.specs.Moves.{on, off}
-use borrow.Author.Rules.{rules}
 use Rattle.text.proofs.MoveLaws.{went-not}
 use Rattle.listing.proofs.MoveLaws.{reads-went, writes-went}
 use Rattle.listing.proofs.listing.turn.Goals as goal

@@ -2,7 +2,6 @@
 use lib.ListN.{length}
 use Rattle.numbers.specs.Signal.{at}
 use Rattle.listing.specs.States.{state_of}
-use borrow.Author.Rules.{rules}
 use Rattle.listing.proofs.ReadingMoves.{byte-on}
 use Rattle.listing.proofs.reading.read_byte.Goals as goal
 

@@ -1,6 +1,5 @@
 -- `reading::read_on` meets its contract: heights that came together, else a byte. Assumes nothing.
 use lib.ListN.{length}
-use borrow.Author.Rules.{rules}
 use Rattle.listing.proofs.NextLaws.{room_after}
 use Rattle.listing.proofs.reading.read_on.Goals as goal
 

@@ -7,7 +7,6 @@ use lib.Seq.{length-take-le}
 use Rattle.numbers.specs.Signal.{at}
 use Rattle.writer.specs.Answers.{of_offered}
 use Rattle.listing.specs.States.{state_of}
-use borrow.Author.Rules.{rules}
 use Rattle.listing.proofs.ReadingMoves.{run-read, back-size, back-room, taken-room, heights-on, offer-kept, still-there}
 use Rattle.listing.proofs.reading.read_run.Goals as goal
 

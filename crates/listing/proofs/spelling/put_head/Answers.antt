@@ -4,7 +4,6 @@ use mathlib.Core.List.{List, [], ◌∷◌, append_assoc}
 use Prim.Native.Nat.{ℕ, ◌+◌, ◌≤◌}
 use native.Mathlib.Omega.{arith}
 use lib.ListN.{length}
-use borrow.Author.Rules.{rules}
 use Rattle.text.specs.Decimal.{numeral}
 use Rattle.text.specs.Text.{Wrote, Puts}
 use Rattle.text.proofs.TextLaws.{puts-on, puts-place}

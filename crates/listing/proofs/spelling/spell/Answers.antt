@@ -1,6 +1,5 @@
 -- `spelling::spell` meets its contract: the part's text stands at the front of a small area, and as much of it as there is room for is copied. Assumes nothing.
 use native.Mathlib.Omega.{arith}
-use borrow.Author.Rules.{rules}
 use Rattle.text.proofs.TextLaws.{front-end}
 use Rattle.listing.proofs.SpellLaws.{from-bound, count-bound, spelled}
 use Rattle.listing.proofs.spelling.spell.Goals as goal

@@ -4,7 +4,6 @@ use lib.ListN.{length}
 use Rattle.numbers.specs.Signal.{at}
 use Rattle.listing.specs.States.{listed, state_of}
 use Rattle.listing.proofs.StateLaws.{past-line, past_head, past_value, past_end}
-use borrow.Author.Rules.{rules}
 use Rattle.listing.proofs.states.advance.Goals as goal
 
 pub returns-then-part-lt3 : goal.returns-then-part-lt3

@@ -3,7 +3,6 @@ use mathlib.Core.Path.{sym, ap, ◌∙◌}
 use Rattle.writer.specs.Answers.{of_drawn}
 use Rattle.listing.specs.States.{listed}
 use Rattle.listing.proofs.StateLaws.{drew}
-use borrow.Author.Rules.{rules}
 use Rattle.listing.proofs.states.draw.Goals as goal
 
 pub returns-in-Row : goal.returns-in-Row

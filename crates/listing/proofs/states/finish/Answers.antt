@@ -2,7 +2,6 @@
 use mathlib.Core.Path.{sym, ap, ◌∙◌}
 use Rattle.writer.specs.Answers.{of_finished}
 use Rattle.listing.proofs.StateLaws.{closed, not-closed}
-use borrow.Author.Rules.{rules}
 use Rattle.listing.proofs.states.finish.Goals as goal
 
 pub returns-in-Closed : goal.returns-in-Closed

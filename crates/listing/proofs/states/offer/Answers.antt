@@ -2,7 +2,6 @@
 use mathlib.Core.Path.{sym, ap, ◌∙◌}
 use Rattle.writer.specs.Answers.{of_offered}
 use Rattle.listing.proofs.StateLaws.{took, not_taken}
-use borrow.Author.Rules.{rules}
 use Rattle.listing.proofs.states.offer.Goals as goal
 
 pub returns-in-Taken : goal.returns-in-Taken

@@ -6,7 +6,6 @@ use Rattle.numbers.specs.Signal.{at}
 use Rattle.pgm.specs.StepAnswer.{of_step}
 use Rattle.listing.specs.States.{listed, state_of}
 use Rattle.listing.proofs.StateLaws.{read_as, began}
-use borrow.Author.Rules.{rules}
 use Rattle.listing.proofs.states.read.Goals as goal
 
 pub returns-in-More : goal.returns-in-More

@@ -1,5 +1,4 @@
 -- `states::refuse` meets its contract. Assumes nothing.
-use borrow.Author.Rules.{rules}
 use Rattle.listing.proofs.states.refuse.Goals as goal
 
 pub returns : goal.returns

@@ -1,19 +1,12 @@
 -- `values::put_values` meets its contract: the values up to the next one stand in the area, each after a space; and the loop does not end before the
 -- first while there is room for it. Assumes nothing.
-use mathlib.Core.Path.{◌≡◌, ap, ◌∙◌}
-use mathlib.Core.List.{List, ◌∷◌}
-use Prim.Native.Nat.{ℕ, suc, ◌+◌, ◌-◌, ◌≤◌, ◌<◌}
-use native.Mathlib.Omega.{arith}
-use native.Mathlib.Decide.{dec_lt}
-use borrow.Author.Tests.{leb-true, leb-false}
+use mathlib.Core.List.{List}
+use Prim.Native.Nat.{ℕ, ◌+◌, ◌-◌, ◌≤◌}
 use lib.IntN.{ℤ}
 use lib.ListN.{length}
 use Rattle.numbers.specs.Signal.{at as number_at}
-use Rattle.numbers.proofs.Words.{read_back}
-use Rattle.text.specs.Decimal.{integer}
 use Rattle.listing.specs.Lines.{spaced}
 use Rattle.text.specs.Text.{Wrote}
-use Rattle.text.proofs.TextLaws.{wrote_none, wrote-size, wrote_on}
 use Rattle.listing.proofs.values.put_values.Given as goal
 
 -- the values from `from` on, up to `value`, are written

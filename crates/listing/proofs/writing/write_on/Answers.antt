@@ -2,7 +2,6 @@
 use mathlib.Core.Path.{refl}
 use lib.ListN.{length}
 use Rattle.numbers.specs.Signal.{at}
-use borrow.Author.Rules.{rules}
 use Rattle.listing.proofs.NextLaws.{room_after}
 use Rattle.listing.proofs.writing.write_on.Goals as goal
 

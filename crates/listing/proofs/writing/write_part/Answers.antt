@@ -4,7 +4,6 @@ use native.Mathlib.Omega.{arith}
 use lib.ListN.{length}
 use Rattle.numbers.specs.Signal.{at}
 use Rattle.listing.specs.States.{state_of, listed}
-use borrow.Author.Rules.{rules}
 use Rattle.listing.proofs.WritingMoves.{part-on, part-whole}
 use Rattle.listing.proofs.writing.write_part.Goals as goal
 

@@ -8,12 +8,11 @@ use Rattle.listing.proofs.NextLaws.{least_first, least-second, below-least, up-t
 use Rattle.listing.proofs.writing.write_values.Goals as goal
 
 pub put_values-v-requires : goal.put_values-v-requires
-put_values-v-requires c =
-    (
-      then_less (below-least _ _ c.least-end.ensures c.requires.2 c.requires.3),
-      least-second _ _ c.least-end.ensures,
-      begins c.args.place 12 (length c.args.out.now) c.requires.4,
-    )
+put_values-v-requires c = (
+  then_less (below-least _ _ c.least-end.ensures c.requires.2 c.requires.3),
+  least-second _ _ c.least-end.ensures,
+  begins c.args.place 12 (length c.args.out.now) c.requires.4,
+)
 
 pub shape_of-out : goal.shape_of-out
 shape_of-out c = c.put_values-v.auto.out

@@ -5,7 +5,6 @@ use Rattle.numbers.specs.Signal.{at}
 use Rattle.pgm.specs.EndedAnswer.{of_ended}
 use Rattle.listing.specs.States.{state_of}
 use Rattle.listing.proofs.StateLaws.{end-in-line, ended-as}
-use borrow.Author.Rules.{rules}
 use Rattle.listing.proofs.listing.Listing.end.Goals as goal
 
 pub returns-then-part-gt0 : goal.returns-then-part-gt0

@@ -1,7 +1,4 @@
-use lib.ListN.{length}
-use Rattle.numbers.specs.Signal.{at}
-use Rattle.listing.specs.States.{state_of}
-use Rattle.listing.proofs.TurnLaws.{Gone, start, size, piece-room, area-room, turned, stops, left, turn-less}
+use Rattle.listing.proofs.TurnLaws.{start, size, piece-room, area-room, turned, stops, turn-less}
 use Rattle.listing.proofs.listing.Listing.feed.Goals as goal
 
 pub loop-going-init : goal.loop-going-init

@@ -3,7 +3,7 @@
 use lib.ListN.{length}
 use Rattle.numbers.specs.Signal.{at}
 use Rattle.listing.specs.States.{state_of}
-use Rattle.listing.proofs.TurnLaws.{Gone, start, size, piece-room, area-room, turned, stops, left, turn-less}
+use Rattle.listing.proofs.TurnLaws.{Gone, left}
 use Rattle.listing.proofs.listing.Listing.feed.Given as goal
 
 abbrev pub invariant-loop-going : goal.invariant-loop-going
