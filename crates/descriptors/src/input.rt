@@ -3,7 +3,7 @@ ghost use Rattle.std.specs.Prelude.{◌≡◌, length};
 ghost use Rattle.descriptors.specs.Left.{used_of, reads_now, came, Fills};
 
 use crate::again;
-use crate::tell::tell;
+use crate::tell::{tell, tell_error};
 use std::io::{Print, Read};
 
 // The bytes of the chunk from `from` to `to`.
@@ -50,7 +50,7 @@ fn read_some<R: Read, E: Print>(from: &mut R, name: &[u8], chunk: &mut [u8], err
             Ok(count) => return count as isize,
             Err(error) => {
                 if !again::again(&error) {
-                    tell(errors, name, error);
+                    tell_error(errors, name, error);
                     return -1;
                 }
             }

@@ -3,7 +3,7 @@ ghost use Rattle.std.specs.Prelude.{◌≡◌, ◌+◌, ◌-◌, ◌≤◌, eqb,
 ghost use Rattle.io.specs.Counts.{clamp_len};
 
 use crate::again;
-use crate::tell::tell;
+use crate::tell::{tell, tell_error};
 use std::io::{Error, Print, Write};
 
 // How many of the bytes the writes took, in sum, and whether that is all of them.
@@ -26,7 +26,7 @@ fn continues<E: Print>(error: Error, name: &[u8], errors: &E) -> bool {
     if again::again(&error) {
         return true;
     }
-    tell(errors, name, error);
+    tell_error(errors, name, error);
     false
 }
 

@@ -2,7 +2,7 @@
 #![tactic(auto)]
 
 use descriptors::output;
-use descriptors::tell::tell;
+use descriptors::tell::tell_error;
 use std::env::Env;
 use std::fs::File;
 use std::io::{Error, ErrorKind, Result};
@@ -27,7 +27,7 @@ fn list_named(rt: HostRuntime, path: &[u8]) {
         Ok(mut file) => {
             listing_io::list(&mut file, path, &mut rt.stdout(), &rt.stderr());
         }
-        Err(error) => tell(&rt.stderr(), path, error),
+        Err(error) => tell_error(&rt.stderr(), path, error),
     }
 }
 
