@@ -106,12 +106,15 @@ module _ (s : Shape) (Q : ℕ → ℤ) where
   -- what a row has was put, whatever was put after it
   covers : (ds : List DrawnRow) → All Right ds → (d : DrawnRow) → In d ds → (z : ℕ → ℤ) (j : ℕ) → begin d ≤ j → j < begin d + d.row.length → placed s ds z j ≡ Q j
   unfolding placed
+  covers [] _ d i z j l m = elim i [ ]
   covers (d ∷ ds) (all_more h a) _ first z j l m = keeps ds a (with_row d z) j (put-there d h z j l m)
   covers (y ∷ ds) (all_more h a) d (later i) z j l m = covers ds a d i (with_row y z) j l m
 
 -- ---- drawn rows by their names
 row-of : (W : Side) (ds : List DrawnRow) (names : List RowName) → map (λ d. d.row) ds ≡ map (answered W) names → (x : RowName) → In x names
     → (d : DrawnRow) × In d ds × (d.row ≡ answered W x)
+row-of W [] [] e x i = elim i [ ]
+row-of W (d ∷ ds) [] e x i = elim i [ ]
 row-of W [] (y ∷ names) e x i = absurd (let p : ◌≡◌ {A = ℕ} 0 1 = cc in omega arith)
 row-of W (d ∷ ds) (y ∷ names) e _ first = let q : d.row ≡ answered W y = cc in (d, first, q)
 row-of W (d ∷ ds) (y ∷ names) e x (later i) =

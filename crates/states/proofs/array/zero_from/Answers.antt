@@ -7,6 +7,7 @@ use Rattle.numbers.specs.Signal.{both}
 use Rattle.states.specs.States.{zero_from}
 use Rattle.states.proofs.StateLaws.{zero_same, zero-lost, zero-end}
 use Rattle.states.proofs.array.zero_from.Goals as goal
+use Rattle.states.proofs.array.zero_from.Goals.{then-s-i-ne0, else-s-i-ne0}
 
 pub loop-i-init : goal.loop-i-init
 loop-i-init c = refl
@@ -16,10 +17,10 @@ loop-i-preserved c =
     let l = c.loop-i in
     let a = c.args in
     l.invariant
-    ∙ ⊎_elim
-    (λ w. zero-lost 16 a.s.now l.i l.zero _ (omega arith) w.0.taken w.1)
-    (λ w. zero_same 16 a.s.now l.i l.zero _ (omega arith) w.0.left w.1)
-    c.if-s-i-ne0.branch
+    ∙ (elim c.if-s-i-ne0.branch [
+      | then-s-i-ne0 w ↦ zero-lost 16 a.s.now l.i l.zero _ (omega arith) w.if-s-i-ne0.true w.zero-is
+      | else-s-i-ne0 w ↦ zero_same 16 a.s.now l.i l.zero _ (omega arith) w.if-s-i-ne0.false w.zero-is
+    ])
 
 pub returns : goal.returns
 returns c =
