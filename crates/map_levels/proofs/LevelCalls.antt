@@ -20,7 +20,7 @@ use Rattle.wavelet.specs.Plane.{cells}
 use Rattle.wavelet.specs.Maps.{every, every_cell}
 use Rattle.wavelet.proofs.MapTheorems.{every-each, each-every, every-same}
 use Rattle.map_levels.specs.Rowwise.{cut, between}
-use Rattle.map_levels.specs.Passes.{is_low, before, after, rows_mapped, plane_row}
+use Rattle.map_levels.specs.Passes.{is_low, rows_mapped, plane_row}
 use Rattle.map_levels.specs.ByFilter.{row_copied}
 use Rattle.map_levels.specs.LevelPasses.{rows_between}
 use Rattle.map_levels.proofs.GridSweep.{RowSwept, store-row}

@@ -10,7 +10,6 @@ use native.Mathlib.Omega.{arith}
 use lib.IntN.{ℤ}
 use mir.Syntax.{w64}
 use mir.Val.{Fits}
-use lib.Dec.{leb, ltb}
 use borrow.Author.Tests.{lt-ltb, ltb-true, le-leb, leb-true}
 use Rattle.numbers.specs.Signal.{pick, both}
 use Rattle.numbers.proofs.Sweep.{both as both_yes}
@@ -21,8 +20,8 @@ use Rattle.wavelet.specs.Plane.{cells, flat}
 use Rattle.map_levels.specs.Passes.{Rows}
 use Rattle.map_levels.proofs.GridSweep.{row_room}
 use Rattle.map_levels.proofs.CellLaws.{flat-same}
-use Rattle.strokes.specs.Reach.{Span, span, reached}
-use Rattle.strokes.specs.Local.{among, patch, patch_copied, touches, number_of, band_mended, half_of, changed_of, place_of, Lies, Placed, Ready}
+use Rattle.strokes.specs.Reach.{Span, reached}
+use Rattle.strokes.specs.Local.{among, patch, patch_copied, touches, number_of, band_mended, half_of, changed_of, place_of, Lies, Ready}
 use Rattle.strokes.specs.declared.direction.Direction.{Direction}
 use Rattle.strokes.proofs.CoverLaws.{Held, held}
 use Rattle.strokes.proofs.PatchLaws.{among_in, among-yes}

@@ -7,7 +7,7 @@ use Prim.Native.Nat.{ℕ, ◌+◌, ◌-◌, ◌*◌, ◌/◌, ◌≤◌, ◌<◌
 use native.Mathlib.Decide.{dec_lt, ℕ_discrete}
 use native.Mathlib.Omega.{arith}
 use lib.IntN.{ℤ}
-use lib.Dec.{eqb, ltb}
+use lib.Dec.{eqb}
 use borrow.Author.Tests.{lt-ltb, le-ltb, eq-eqb, ne_eqb}
 use Rattle.numbers.specs.Signal.{pick}
 use Rattle.numbers.specs.Word.{wrap32}
@@ -18,9 +18,9 @@ use Rattle.lifting.proofs.GridLaws.{joined-place, low-one}
 use Rattle.lifting.proofs.RowLaws.{rows-fit, changed, row-at, row-past, row_other}
 use Rattle.wavelet.specs.Bands.{Grid}
 use Rattle.wavelet.specs.Plane.{cells, flat}
-use Rattle.map_levels.specs.Passes.{Rows, within}
+use Rattle.map_levels.specs.Passes.{Rows}
 use Rattle.map_levels.proofs.GridSweep.{RowSwept, start, finish, store-row, row_room, within_in, within-past, within-wide}
-use Rattle.strokes.specs.Local.{columns_done, row_after, row_before, last_done, pair_done, turn_done}
+use Rattle.strokes.specs.Local.{columns_done, row_after, row_before, pair_done, turn_done}
 use Rattle.strokes.proofs.LineAtZero.{high-inner, high_end, low-inner, low_end}
 
 -- the rows that are done after n turns

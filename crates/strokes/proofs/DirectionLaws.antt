@@ -1,16 +1,16 @@
 -- A direction of the next level, and that of the map. Assumes nothing.
-use mathlib.Core.Path.{◌≡◌, refl, sym, ap, ◌∙◌}
+use mathlib.Core.Path.{◌≡◌, refl}
 use mathlib.Core.Logic.{◌⊎◌, inl, inr, ⊎_elim}
 use Prim.Native.Nat.{ℕ, zero, suc, ◌+◌, ◌-◌, ◌*◌, ◌/◌, ◌%◌, ◌^◌, ◌≤◌, ◌<◌, min}
-use native.Mathlib.Decide.{dec_lt, ℕ_discrete}
+use native.Mathlib.Decide.{dec_lt}
 use native.Mathlib.Nat.{mul_assoc, one-le-pow, mul-div-le, div-add-mod', mod-lt}
 use native.Mathlib.Omega.{arith}
 use mathlib.Core.Bool.{true}
 use borrow.Author.Tests.{eq-eqb, ne_eqb, le-leb}
 use Rattle.lifting.specs.Line.{lo}
 use Rattle.lifting.specs.Grid.{side, count}
-use Rattle.strokes.specs.Reach.{Span, span, low_span}
-use Rattle.strokes.specs.Local.{Cut, Cover, Lies, Placed, Ready, direction, changed_of, lowered_of, widened_of, window_start, window_end, used_in}
+use Rattle.strokes.specs.Reach.{low_span}
+use Rattle.strokes.specs.Local.{Lies, Placed, Ready, direction, changed_of, lowered_of, window_start, window_end, used_in}
 use Rattle.strokes.specs.declared.direction.Direction.{Direction}
 use Rattle.strokes.proofs.CoverLaws.{cut-next, cover-next}
 

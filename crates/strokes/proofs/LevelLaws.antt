@@ -1,18 +1,18 @@
 -- A level of the window lifted by itself: its bands are those of the window, and where they are right those of the map. Assumes nothing.
-use mathlib.Core.Path.{◌≡◌, refl, sym, ap, ◌∙◌}
+use mathlib.Core.Path.{◌≡◌, sym, ap, ◌∙◌}
 use mathlib.Core.Bool.{true}
 use Prim.Native.Nat.{ℕ, ◌+◌, ◌-◌, ◌*◌, ◌/◌, ◌≤◌, ◌<◌}
 use native.Mathlib.Omega.{arith}
 use lib.IntN.{ℤ}
 use Rattle.numbers.specs.Word.{wrap32}
 use Rattle.lifting.specs.Line.{Half, lo, hi}
-use Rattle.lifting.specs.Grid.{Side, side, place, count, line_forward}
+use Rattle.lifting.specs.Grid.{side, place, count, line_forward}
 use Rattle.lifting.specs.GridHalves.{in_halves, forward_into}
 use Rattle.lifting.specs.FiveThree.{five_three_filter}
 use Rattle.lifting.proofs.GridLaws.{counts, halves-low, halves-high, place-in}
 use Rattle.lifting.proofs.GridReads.{forward-reads}
-use Rattle.wavelet.specs.Bands.{Grid, Band, LL, across, down, band_of, columns_lifted, subband}
-use Rattle.wavelet.specs.Plane.{cells, flat}
+use Rattle.wavelet.specs.Bands.{Grid, across, down, band_of, columns_lifted, subband}
+use Rattle.wavelet.specs.Plane.{flat}
 use Rattle.wavelet.proofs.GridLaws.{flat-at}
 use Rattle.wavelet.proofs.LevelTheory.{across-of, down-of}
 use Rattle.map_levels.specs.Rowwise.{cut}

@@ -1,9 +1,9 @@
 -- The values of a line that starts at coordinate 0, with the mirror worked out: inside, and at either end. Assumes nothing.
-use mathlib.Core.Path.{◌≡◌, ap₂, ◌∙◌}
-use Prim.Native.Nat.{ℕ, suc, ◌+◌, ◌-◌, ◌*◌, ◌/◌, ◌≤◌, ◌<◌, min}
+use mathlib.Core.Path.{◌≡◌, ◌∙◌}
+use Prim.Native.Nat.{ℕ, ◌+◌, ◌-◌, ◌*◌, ◌≤◌, ◌<◌}
 use native.Mathlib.Omega.{arith}
 use lib.IntN.{ℤ}
-use Rattle.lifting.specs.Line.{Half, lo, hi, predicted, updated}
+use Rattle.lifting.specs.Line.{lo, hi, predicted, updated}
 use Rattle.lifting.specs.Grid.{Side, side, place, count, line_forward}
 use Rattle.lifting.specs.Passes.{near}
 use Rattle.lifting.proofs.GridLaws.{ahead, high-near, low_near}

@@ -1,9 +1,9 @@
 -- The window of a map: where it lies, what the calls ask, and what its levels come to for the map. Assumes nothing.
 use mathlib.Core.Path.{◌≡◌, refl, sym, ap, ◌∙◌, fun_ext}
-use mathlib.Core.Bool.{Bool, true, false}
+use mathlib.Core.Bool.{true}
 use mathlib.Core.List.{List}
-use Prim.Native.Nat.{ℕ, zero, suc, ◌+◌, ◌-◌, ◌*◌, ◌/◌, ◌^◌, ◌≤◌, ◌<◌}
-use native.Mathlib.Nat.{mul-le-mul, mul-le-mul_right, mul_comm}
+use Prim.Native.Nat.{ℕ, zero, suc, ◌+◌, ◌-◌, ◌*◌, ◌^◌, ◌≤◌, ◌<◌}
+use native.Mathlib.Nat.{mul-le-mul, mul-le-mul_right}
 use native.Mathlib.Decide.{dec_lt, ℕ_discrete}
 use mathlib.Core.Logic.{⊎_elim}
 use native.Mathlib.Omega.{arith}
@@ -13,19 +13,17 @@ use lib.Dec.{leb}
 use borrow.Author.Tests.{leb-true, le-leb, eq-eqb, ne_eqb, lt-ltb, le-ltb}
 use borrow.Rule.Slice.PartMut.{mid_of, put_mid, same_len_mid}
 use Rattle.numbers.specs.Signal.{at, pick}
-use Rattle.numbers.specs.Word.{wrap32, whole}
 use Rattle.numbers.proofs.Sweep.{both as both_yes}
 use Rattle.numbers.proofs.Parts.{splice-past}
-use Rattle.lifting.specs.Line.{lo}
 use Rattle.lifting.specs.Halves.{fronted}
 use Rattle.lifting.specs.Grid.{side, count}
 use Rattle.lifting.specs.FiveThree.{five_three_filter}
 use Rattle.lifting.proofs.FiveThreeFilter.{five-three-laws}
 use Rattle.areas.specs.Areas.{heights_at}
 use Rattle.areas.proofs.AreaLaws.{front_at, front_rest, did}
-use Rattle.wavelet.specs.Limits.{max_width, max_height}
+use Rattle.wavelet.specs.Limits.{max_width}
 use Rattle.wavelet.specs.Bands.{Grid}
-use Rattle.wavelet.specs.Plane.{cells, flat, plane_cell}
+use Rattle.wavelet.specs.Plane.{cells, flat}
 use Rattle.wavelet.specs.Questions.{Sized}
 use Rattle.wavelet.proofs.GridLaws.{cells-flat}
 use Rattle.wavelet.proofs.LimitLaws.{width_small, height-small, five-three-few}
@@ -36,11 +34,10 @@ use Rattle.map_levels.specs.LevelPasses.{Doubling}
 use Rattle.map_levels.proofs.GridSweep.{within_in, row_room}
 use Rattle.map_levels.proofs.LevelCalls.{moved-part}
 use Rattle.map_levels.proofs.CallLaws.{map-rows, map-doubling, map-places, heights-map}
-use Rattle.strokes.specs.Reach.{Span, in_reach}
+use Rattle.strokes.specs.Reach.{in_reach}
 use Rattle.strokes.specs.Strokes.{column_span, row_span, mended_cell, mended_plane, stretch_in, lies_in}
 use Rattle.strokes.specs.Local.{Lies, Placed, Agrees, widened_of, grid_mended, changed_of, unread_before, unread_past, read_of, patch, patch_copied}
 use Rattle.strokes.proofs.PatchLaws.{patch-in}
-use Rattle.strokes.proofs.CoverLaws.{Held}
 use Rattle.strokes.specs.declared.rectangle.Rectangle.{Rectangle}
 use Rattle.strokes.specs.declared.direction.Direction.{Direction}
 use Rattle.strokes.proofs.DirectionLaws.{widened-placed}

@@ -1,14 +1,11 @@
 -- What a mended plane is. A plane that belonged to a map equal outside the rectangle is now the new map's (`mended-map`; in memory `mended-plane`), and in any
 -- plane what is out of reach stays, though the heights inside may be any (`mended-else`).
 -- Assumes nothing.
-use mathlib.Core.Path.{◌≡◌, refl, sym, ap, ◌∙◌, fun_ext}
+use mathlib.Core.Path.{◌≡◌, refl, ◌∙◌}
 use mathlib.Core.Bool.{Bool, true, false}
-use Prim.Native.Nat.{ℕ, zero, suc, ◌+◌, ◌-◌, ◌*◌, ◌/◌, ◌%◌, ◌≤◌, ◌<◌}
+use Prim.Native.Nat.{ℕ, ◌+◌, ◌*◌, ◌/◌, ◌%◌, ◌<◌}
 use native.Mathlib.Nat.{mod-lt}
-use native.Mathlib.Decide.{dec_lt}
-use native.Mathlib.Omega.{arith}
 use lib.IntN.{ℤ}
-use Rattle.numbers.specs.Signal.{pick, both}
 use Rattle.numbers.specs.Word.{whole}
 use Rattle.lifting.specs.Grid.{side}
 use Rattle.lifting.specs.FiveThree.{five_three_filter}
@@ -16,7 +13,7 @@ use Rattle.wavelet.specs.Bands.{Grid}
 use Rattle.wavelet.specs.Maps.{IsMap, HasPlane}
 use Rattle.wavelet.specs.Plane.{cells, flat, plane_cell, plane_of}
 use Rattle.wavelet.proofs.GridLaws.{row_below, place-below, flat-at}
-use Rattle.strokes.specs.Reach.{Span, changed, in_reach}
+use Rattle.strokes.specs.Reach.{in_reach}
 use Rattle.strokes.specs.Strokes.{column_span, row_span, mended_cell, mended_plane}
 use Rattle.strokes.specs.declared.rectangle.Rectangle.{Rectangle}
 use Rattle.strokes.proofs.ReachLaws.{SameOutside, pick_is, unreached}

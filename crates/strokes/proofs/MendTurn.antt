@@ -1,15 +1,11 @@
 -- One level of the mended plane: its three high bands, and what the levels left make of the low-low part. Assumes nothing.
-use mathlib.Core.Path.{◌≡◌, refl, sym, ap, ◌∙◌}
-use mathlib.Core.Bool.{Bool, true, false}
-use Prim.Native.Nat.{ℕ, zero, suc, ◌+◌, ◌-◌, ◌*◌, ◌/◌, ◌≤◌, ◌<◌}
+use mathlib.Core.Path.{◌≡◌, ◌∙◌}
+use Prim.Native.Nat.{ℕ, suc}
 use native.Mathlib.Decide.{dec_lt}
 use native.Mathlib.Omega.{arith}
-use lib.IntN.{ℤ}
-use lib.Dec.{leb, ltb}
 use borrow.Author.Tests.{lt-ltb, le-ltb, le-leb, lt-leb}
-use Rattle.numbers.specs.Signal.{pick, both}
 use Rattle.numbers.specs.Word.{wrap32}
-use Rattle.lifting.specs.Line.{Half, lo, hi}
+use Rattle.lifting.specs.Line.{lo}
 use Rattle.lifting.specs.Grid.{side, count}
 use Rattle.lifting.specs.FiveThree.{five_three_filter}
 use Rattle.lifting.proofs.GridLaws.{counts}
@@ -17,7 +13,7 @@ use Rattle.wavelet.specs.Bands.{Grid, LL, band_of, subband}
 use Rattle.wavelet.specs.Levels.{next}
 use Rattle.wavelet.specs.Plane.{plane_cell, half_at, place_in, in_corner}
 use Rattle.map_levels.specs.Passes.{within}
-use Rattle.strokes.specs.Reach.{Span, changed, reached, low_span, in_reach}
+use Rattle.strokes.specs.Reach.{Span, low_span, in_reach}
 use Rattle.strokes.specs.Local.{touches, number_of, band_mended, highs_mended, grid_mended}
 use Rattle.strokes.proofs.ReachLaws.{low-span}
 use Rattle.strokes.proofs.PatchLaws.{second-no}

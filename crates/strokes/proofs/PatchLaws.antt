@@ -1,13 +1,12 @@
 -- A patch copied row by row, and which places of a plane are in the patch of what is in reach of one band. Assumes nothing.
-use mathlib.Core.Path.{◌≡◌, refl, sym, ap, ap₂, ◌∙◌}
+use mathlib.Core.Path.{◌≡◌, refl, sym, ap₂, ◌∙◌}
 use mathlib.Core.Bool.{Bool, true, false}
 use Prim.Native.Nat.{ℕ, ◌+◌, ◌-◌, ◌*◌, ◌≤◌, ◌<◌}
-use native.Mathlib.Decide.{dec_lt}
 use native.Mathlib.Omega.{arith}
 use lib.IntN.{ℤ}
 use borrow.Author.Tests.{lt-ltb, le-ltb, le-leb, lt-leb, leb-true, ltb-true}
 use Rattle.numbers.proofs.Sweep.{both as both_yes}
-use Rattle.numbers.specs.Signal.{pick, both, spliced}
+use Rattle.numbers.specs.Signal.{both, spliced}
 use Rattle.wavelet.specs.Bands.{Grid}
 use Rattle.wavelet.specs.Plane.{cells}
 use Rattle.map_levels.proofs.GridSweep.{RowSwept}

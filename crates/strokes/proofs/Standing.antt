@@ -1,5 +1,5 @@
 -- The levels one after the other: what is still to be done of the plane stays the same (Standing). Assumes nothing.
-use mathlib.Core.Path.{◌≡◌, refl, sym, ap, ap₂, ◌∙◌}
+use mathlib.Core.Path.{◌≡◌, refl, sym, ap, ◌∙◌}
 use Prim.Native.Nat.{ℕ, zero, suc, ◌+◌, ◌-◌, ◌*◌, ◌/◌, ◌≤◌, ◌<◌}
 use native.Mathlib.Omega.{arith}
 use lib.IntN.{ℤ}
@@ -15,9 +15,9 @@ use Rattle.map_levels.specs.LevelPasses.{Doubling}
 use Rattle.map_levels.proofs.CellLaws.{flat-same}
 use Rattle.map_levels.proofs.LevelSteps.{doubled, rows_next, rows-corner}
 use Rattle.strokes.specs.Reach.{Span, span, low_span}
-use Rattle.strokes.specs.Local.{Sound, Lies, Placed, Agrees, changed_of, lowered_of, level_done, band_mended, highs_mended, grid_mended}
+use Rattle.strokes.specs.Local.{Lies, Placed, Agrees, changed_of, lowered_of, level_done, band_mended, highs_mended, grid_mended}
 use Rattle.strokes.specs.declared.direction.Direction.{Direction}
-use Rattle.strokes.proofs.LevelLaws.{column, window-at}
+use Rattle.strokes.proofs.LevelLaws.{window-at}
 use Rattle.strokes.proofs.DirectionLaws.{lows-of, lies-next, placed-next, used_low}
 use Rattle.strokes.proofs.MendTurn as mend
 use Rattle.strokes.proofs.StepLaws.{then-band}

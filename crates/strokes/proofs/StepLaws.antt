@@ -19,7 +19,6 @@ use Rattle.strokes.specs.Local.{Lies, Agrees, changed_of, used_in, columns_done,
 use Rattle.strokes.specs.declared.direction.Direction.{Direction}
 use borrow.Author.Tests.{leb-true}
 use Rattle.numbers.proofs.Sweep.{both as both_yes}
-use Rattle.strokes.proofs.CoverLaws.{Held}
 use Rattle.strokes.proofs.DirectionLaws.{used_low, used_high}
 use Rattle.strokes.proofs.LevelLaws.{column, window-at}
 use Rattle.strokes.proofs.BandLaws.{held_of}

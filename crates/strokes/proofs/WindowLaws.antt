@@ -2,13 +2,13 @@
 -- the even place a = 2t on. v places at its beginning are not right, and u at its end: none where the end is the line's own, else two, at this level and so at
 -- every level below. Assumes nothing.
 use mathlib.Core.Path.{◌≡◌, sym, ap, ◌∙◌}
-use mathlib.Core.Logic.{◌⊎◌, inl, inr, ⊎_elim}
+use mathlib.Core.Logic.{⊎_elim}
 use Prim.Native.Nat.{ℕ, ◌+◌, ◌-◌, ◌*◌, ◌/◌, ◌≤◌, ◌<◌}
 use native.Mathlib.Decide.{dec_lt}
 use native.Mathlib.Omega.{arith}
 use lib.IntN.{ℤ}
 use Rattle.lifting.specs.Line.{Half, lo, hi, predicted, updated}
-use Rattle.lifting.specs.Grid.{Side, side, place, count, line_forward}
+use Rattle.lifting.specs.Grid.{side, place, count, line_forward}
 use Rattle.lifting.proofs.GridLaws.{low-one}
 use Rattle.strokes.specs.Local.{Cut, Sound}
 use Rattle.strokes.proofs.LineAtZero.{high-inner, high_end, low-inner, low_end}

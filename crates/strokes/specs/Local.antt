@@ -4,7 +4,7 @@ use Rattle.std.specs.Prelude.{◌≡◌, ◌⊎◌, Bool, true, ℕ, zero, suc, 
 use Rattle.numbers.specs.Signal.{pick, both}
 use Rattle.numbers.specs.Word.{wrap32}
 use Rattle.lifting.specs.Line.{Half, lo, hi, predicted, updated}
-use Rattle.lifting.specs.Grid.{Side, side, count, joined, line_forward}
+use Rattle.lifting.specs.Grid.{side, count, joined, line_forward}
 use Rattle.lifting.specs.GridHalves.{forward_into}
 use Rattle.lifting.specs.FiveThree.{five_three_filter}
 use Rattle.lifting.specs.Rows.{rows_changed}

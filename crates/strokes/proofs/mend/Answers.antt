@@ -6,7 +6,6 @@ use borrow.Author.Tests.{not-true, not-false}
 use Rattle.numbers.specs.Signal.{pick}
 use Rattle.map_questions.proofs.QuestionLaws.{roomy-is, asked-on, asked-no, passed-no, passed-yes}
 use Rattle.strokes.specs.Strokes.{lies_in, mend_question}
-use borrow.Author.Rules.{rules}
 use Rattle.strokes.proofs.mend.Goals as goal
 
 pub returns-then-no-ne0 : goal.returns-then-no-ne0

@@ -2,7 +2,6 @@
 use Prim.Native.Nat.{◌-◌, ◌*◌}
 use native.Mathlib.Omega.{arith}
 use Rattle.strokes.proofs.MapCall.{cleared-part}
-use borrow.Author.Rules.{rules}
 use Rattle.strokes.proofs.mend_map.Goals as goal
 
 pub returns : goal.returns

@@ -5,7 +5,6 @@ use lib.ListN.{get_or}
 use Rattle.wavelet.specs.Limits.{max_levels}
 use Rattle.wavelet.proofs.LimitLaws.{width_small, height-small}
 use Rattle.strokes.proofs.MapCall.{lies-yes, map-window, window-load, window-levels, window-mended}
-use borrow.Author.Rules.{rules}
 use Rattle.strokes.proofs.mend_window.Goals as goal
 
 pub widened-columns-requires : goal.widened-columns-requires

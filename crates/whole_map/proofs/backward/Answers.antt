@@ -1,6 +1,5 @@
 -- `backward` meets its contract: it is `map_levels`' call, of the map's shape. Assumes nothing.
 use Rattle.map_questions.specs.Calls.{backward_question}
-use borrow.Author.Rules.{rules}
 use Rattle.whole_map.proofs.backward.Goals as goal
 
 pub returns : goal.returns

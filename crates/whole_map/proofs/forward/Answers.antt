@@ -1,7 +1,5 @@
 -- `forward` meets its contract: it is `map_levels`' call, of the map's shape. Assumes nothing.
 use Rattle.map_questions.specs.Calls.{forward_question}
-use native.Mathlib.Omega.{arith}
-use borrow.Author.Rules.{rules}
 use Rattle.whole_map.proofs.forward.Goals as goal
 
 pub returns : goal.returns

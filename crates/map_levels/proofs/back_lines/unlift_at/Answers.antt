@@ -15,7 +15,6 @@ use Rattle.map_levels.specs.BackLines.{even_of, odd_of}
 use Rattle.map_levels.proofs.SmallLaws.{or-both, or-of}
 use Rattle.map_levels.proofs.BackLineLaws.{stored-three}
 use borrow.Author.Rules.{sfits_of}
-use borrow.Author.Rules.{rules}
 use Rattle.map_levels.proofs.back_lines.unlift_at.Goals as goal
 
 pub slice_copy_out-p : goal.slice_copy_out-p

@@ -1,15 +1,14 @@
 use mathlib.Core.Path.{◌≡◌, refl, ◌∙◌}
 use Prim.Native.Nat.{◌+◌}
 use native.Mathlib.Omega.{arith}
-use lib.ListN.{length}
 use borrow.Author.Rules.{sfits_of}
 use mir.Syntax.{w32}
 use mir.ValLaws.{of_z_fits}
 use Rattle.numbers.specs.Signal.{at}
 use Rattle.wavelet.specs.Limits.{max_sample}
 use Rattle.map_levels.specs.BackLines.{even_of, odd_of}
-use Rattle.map_levels.proofs.SmallLaws.{BitsWithin, bits_none, bits-read, bits-written, bits-over, bits-end}
-use Rattle.map_levels.proofs.BackLineLaws.{PairRun, pair-none, pair-more, even-bits, odd-bits, even-word, odd-word}
+use Rattle.map_levels.proofs.SmallLaws.{bits_none, bits-read, bits-written, bits-over, bits-end}
+use Rattle.map_levels.proofs.BackLineLaws.{pair-none, pair-more, even-bits, odd-bits, even-word, odd-word}
 use Rattle.map_levels.proofs.back_lines.unlift_columns.Goals as goal
 
 pub loop-k-init : goal.loop-k-init

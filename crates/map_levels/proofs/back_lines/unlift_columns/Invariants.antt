@@ -1,16 +1,13 @@
 -- `back_lines::unlift_columns` meets its contract: a column a turn, and the or of its numbers with those before. Assumes nothing.
-use mathlib.Core.Path.{◌≡◌, refl, ◌∙◌}
+use mathlib.Core.Path.{◌≡◌}
 use Prim.Native.Nat.{◌-◌, ◌≤◌}
-use native.Mathlib.Omega.{arith}
 use lib.ListN.{length}
-use borrow.Author.Rules.{sfits_of}
 use mir.Syntax.{w32}
 use mir.Val.{of_z}
 use Rattle.numbers.specs.Signal.{at}
-use Rattle.wavelet.specs.Limits.{max_sample}
 use Rattle.map_levels.specs.BackLines.{even_of, odd_of}
-use Rattle.map_levels.proofs.SmallLaws.{BitsWithin, bits_none, bits-over, bits-end}
-use Rattle.map_levels.proofs.BackLineLaws.{PairRun, pair-none, pair-more, even-bits, odd-bits, even-word, odd-word}
+use Rattle.map_levels.proofs.SmallLaws.{BitsWithin}
+use Rattle.map_levels.proofs.BackLineLaws.{PairRun}
 use Rattle.map_levels.proofs.back_lines.unlift_columns.Given as goal
 
 abbrev pub invariant-loop-k : goal.invariant-loop-k

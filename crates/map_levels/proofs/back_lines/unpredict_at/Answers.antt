@@ -8,7 +8,6 @@ use Rattle.numbers.proofs.Words.{read_back}
 use Rattle.lifting.proofs.PlaceLaws.{step-read}
 use Rattle.map_levels.specs.SweepBack.{short_unpredicted}
 use Rattle.map_levels.proofs.SweepLines.{stored-by}
-use borrow.Author.Rules.{rules}
 use Rattle.map_levels.proofs.back_lines.unpredict_at.Goals as goal
 
 pub slice_copy_out-unpredict : goal.slice_copy_out-unpredict

@@ -8,7 +8,6 @@ use Rattle.numbers.proofs.Words.{read_back}
 use Rattle.lifting.proofs.PlaceLaws.{step-read}
 use Rattle.map_levels.specs.SweepBack.{short_unupdated}
 use Rattle.map_levels.proofs.SweepLines.{stored-by}
-use borrow.Author.Rules.{rules}
 use Rattle.map_levels.proofs.back_lines.unupdate_at.Goals as goal
 
 pub slice_copy_out-unupdate-2 : goal.slice_copy_out-unupdate-2

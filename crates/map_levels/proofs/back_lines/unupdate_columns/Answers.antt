@@ -1,9 +1,6 @@
 use mathlib.Core.Path.{◌≡◌, refl, ◌∙◌}
-use Prim.Native.Nat.{◌-◌, ◌≤◌}
 use native.Mathlib.Omega.{arith}
-use lib.ListN.{length}
-use Rattle.numbers.specs.Signal.{at}
-use Rattle.map_levels.proofs.BackLineLaws.{EvenRun, even-none, even-more}
+use Rattle.map_levels.proofs.BackLineLaws.{even-none, even-more}
 use Rattle.map_levels.proofs.back_lines.unupdate_columns.Goals as goal
 
 pub loop-k-init : goal.loop-k-init

@@ -14,7 +14,6 @@ use Rattle.filters.specs.Filters.{filter_of}
 use Rattle.map_levels.proofs.ByFilterLaws.{range_at}
 use Rattle.map_levels.proofs.SmallLaws.{natural-fits, natural-is}
 use Rattle.map_levels.proofs.BackRowLaws.{within-fits, range-fits}
-use borrow.Author.Rules.{rules}
 use Rattle.map_levels.proofs.back_rows.all_in_range.Goals as goal
 
 pub overflow_cast-most : goal.overflow_cast-most

@@ -9,7 +9,6 @@ use Rattle.map_levels.specs.SweepBack.{short_unlifted}
 use Rattle.map_levels.proofs.CellLaws.{is-high}
 use Rattle.map_levels.proofs.GridSweep.{row_room, few}
 use Rattle.map_levels.proofs.BackRowLaws.{high_half, high-row-at, line-by}
-use borrow.Author.Rules.{rules}
 use Rattle.map_levels.proofs.back_rows.fetch_high.Goals as goal
 
 -- its place there

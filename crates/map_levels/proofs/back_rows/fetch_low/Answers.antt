@@ -11,7 +11,6 @@ use Rattle.map_levels.specs.SweepBack.{short_unlifted, low_place}
 use Rattle.map_levels.proofs.CellLaws.{is-low}
 use Rattle.map_levels.proofs.GridSweep.{row_room}
 use Rattle.map_levels.proofs.BackRowLaws.{low_half, low-row-in, low-row-at, line-by}
-use borrow.Author.Rules.{rules}
 use Rattle.map_levels.proofs.back_rows.fetch_low.Goals as goal
 
 -- the row's low half in the work area, and the row in the plane

@@ -4,7 +4,6 @@ use native.Mathlib.Omega.{arith}
 use Rattle.lifting.specs.Grid.{side}
 use Rattle.map_levels.specs.SweepBack.{low_place}
 use Rattle.map_levels.proofs.SweepLevels.{low-least}
-use borrow.Author.Rules.{rules}
 use Rattle.map_levels.proofs.back_rows.low_place.Goals as goal
 
 pub overflow_mul-result-2 : goal.overflow_mul-result-2

@@ -1,5 +1,4 @@
 -- `back_rows::put` meets its contract: the two cases of the test. Assumes nothing.
-use borrow.Author.Rules.{rules}
 use Rattle.map_levels.proofs.back_rows.put.Goals as goal
 
 pub put_heights-requires : goal.put_heights-requires

@@ -7,7 +7,6 @@ use Rattle.numbers.specs.Signal.{at}
 use Rattle.areas.specs.Areas.{between}
 use Rattle.wavelet.specs.Limits.{max_sample}
 use Rattle.map_levels.proofs.BackRowLaws.{lent-test, all-heights, heights-put, heights-test}
-use borrow.Author.Rules.{rules}
 use Rattle.map_levels.proofs.back_rows.put_heights.Goals as goal
 
 pub returns-then-sure : goal.returns-then-sure

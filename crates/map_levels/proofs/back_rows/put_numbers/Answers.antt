@@ -5,7 +5,6 @@ use native.Mathlib.Omega.{arith}
 use Rattle.lifting.specs.FiveThree.{five_three_filter}
 use Rattle.wavelet.specs.Maps.{value_fits}
 use Rattle.map_levels.proofs.BackRowLaws.{lent-test, numbers-put}
-use borrow.Author.Rules.{rules}
 use Rattle.map_levels.proofs.back_rows.put_numbers.Goals as goal
 
 pub returns : goal.returns

@@ -2,7 +2,6 @@
 use Prim.Native.Nat.{◌+◌, ◌-◌}
 use native.Mathlib.Omega.{arith}
 use Rattle.map_levels.proofs.BackRowLaws.{part-made, lent-lengths}
-use borrow.Author.Rules.{rules}
 use Rattle.map_levels.proofs.back_rows.unlift_part.Goals as goal
 
 pub unlift-requires : goal.unlift-requires

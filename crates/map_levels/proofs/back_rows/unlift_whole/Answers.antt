@@ -4,7 +4,6 @@ use native.Mathlib.Omega.{arith}
 use Rattle.lifting.specs.Grid.{side}
 use Rattle.lifting.proofs.GridLaws.{counts}
 use Rattle.map_levels.proofs.BackRowLaws.{part-made, lent-lengths}
-use borrow.Author.Rules.{rules}
 use Rattle.map_levels.proofs.back_rows.unlift_whole.Goals as goal
 
 pub overflow_add-c : goal.overflow_add-c

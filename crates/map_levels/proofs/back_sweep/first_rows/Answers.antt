@@ -7,7 +7,6 @@ use Rattle.map_levels.specs.Sweep.{line_half}
 use Rattle.lifting.specs.Grid.{side}
 use Rattle.map_levels.proofs.TestLaws.{false-true}
 use Rattle.map_levels.proofs.BackSets.{put-room, next-high, first-high, first-low}
-use borrow.Author.Rules.{rules}
 use Rattle.map_levels.proofs.back_sweep.first_rows.Goals as goal
 
 pub fetch_high-requires : goal.fetch_high-requires

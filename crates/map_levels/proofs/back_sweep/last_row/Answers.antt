@@ -5,7 +5,6 @@ use Rattle.map_levels.specs.Sweep.{line_half}
 use Rattle.lifting.specs.Grid.{side}
 use Rattle.map_levels.proofs.TestLaws.{false-true}
 use Rattle.map_levels.proofs.BackSets.{put-room, none_left, last-done}
-use borrow.Author.Rules.{rules}
 use Rattle.map_levels.proofs.back_sweep.last_row.Goals as goal
 
 pub returns-then-height-r : goal.returns-then-height-r

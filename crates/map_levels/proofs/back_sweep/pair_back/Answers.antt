@@ -5,7 +5,6 @@ use Rattle.wavelet.specs.Limits.{max_width}
 use Rattle.map_levels.specs.Sweep.{line_half}
 use Rattle.lifting.specs.Grid.{side}
 use Rattle.map_levels.proofs.BackSets.{put-room, next-high, pair-done}
-use borrow.Author.Rules.{rules}
 use Rattle.map_levels.proofs.back_sweep.pair_back.Goals as goal
 
 pub fetch_high-requires : goal.fetch_high-requires

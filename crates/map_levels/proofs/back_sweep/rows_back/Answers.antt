@@ -1,13 +1,8 @@
-use mathlib.Core.Path.{◌≡◌, refl, ◌∙◌}
-use Prim.Native.Nat.{ℕ, ◌+◌, ◌-◌, ◌%◌, ◌≤◌}
+use mathlib.Core.Path.{refl, ◌∙◌}
 use native.Mathlib.Omega.{arith}
-use lib.IntN.{ℤ}
-use lib.ListN.{length}
 use Rattle.numbers.specs.Signal.{at}
 use Rattle.lifting.specs.Grid.{side}
 use Rattle.areas.specs.Areas.{heights_at}
-use Rattle.map_levels.specs.SweepBack.{SmallBands}
-use Rattle.map_levels.specs.BackLines.{RowsDone}
 use Rattle.map_levels.proofs.RowwiseLaws.{and_both}
 use Rattle.map_levels.proofs.SweepBackGrid.{rows-swept, rows-and, room-kept, height-less}
 use Rattle.map_levels.proofs.back_sweep.rows_back.Goals as goal

@@ -1,8 +1,7 @@
 -- `back_sweep::rows_back` meets its contract: the first rows, then pair by pair, and the last row. What is done is told of the areas at the start of the level,
 -- which the loop does not know: so its invariant says it of any. Assumes nothing.
-use mathlib.Core.Path.{◌≡◌, refl, ◌∙◌}
+use mathlib.Core.Path.{◌≡◌}
 use Prim.Native.Nat.{ℕ, ◌+◌, ◌-◌, ◌%◌, ◌≤◌}
-use native.Mathlib.Omega.{arith}
 use lib.IntN.{ℤ}
 use lib.ListN.{length}
 use Rattle.numbers.specs.Signal.{at}
@@ -10,8 +9,6 @@ use Rattle.lifting.specs.Grid.{side}
 use Rattle.areas.specs.Areas.{heights_at}
 use Rattle.map_levels.specs.SweepBack.{SmallBands}
 use Rattle.map_levels.specs.BackLines.{RowsDone}
-use Rattle.map_levels.proofs.RowwiseLaws.{and_both}
-use Rattle.map_levels.proofs.SweepBackGrid.{rows-swept, rows-and, room-kept, height-less}
 use Rattle.map_levels.proofs.back_sweep.rows_back.Given as goal
 
 abbrev pub invariant-loop-r : goal.invariant-loop-r

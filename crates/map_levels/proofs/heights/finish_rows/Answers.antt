@@ -2,12 +2,11 @@ use mathlib.Core.Path.{◌∙◌, sym, refl}
 use Prim.Native.Nat.{◌+◌, ◌-◌, ◌*◌, ◌≤◌}
 use native.Mathlib.Omega.{arith}
 use lib.ListN.{length}
-use borrow.Author.Rules.{rules}
 use borrow.Author.Tests.{not-true, not-false}
 use Rattle.lifting.specs.Grid.{side}
 use Rattle.wavelet.specs.Limits.{max_sample}
 use Rattle.map_levels.proofs.GridSweep.{pass-room, row-length}
-use Rattle.map_levels.proofs.HeightRows.{swept-room, swept-length, swept-size, row-heights, Finishing, finish-start, finish-no, finish-turn, finish-yes}
+use Rattle.map_levels.proofs.HeightRows.{swept-room, swept-length, swept-size, row-heights, finish-start, finish-no, finish-turn, finish-yes}
 use Rattle.map_levels.proofs.heights.finish_rows.Goals as goal
 
 pub loop-r-init : goal.loop-r-init

@@ -1,15 +1,8 @@
-use mathlib.Core.Path.{◌≡◌, refl, ◌∙◌}
-use Prim.Native.Nat.{◌-◌, ◌≤◌}
+use mathlib.Core.Path.{refl, ◌∙◌}
 use native.Mathlib.Omega.{arith}
-use lib.ListN.{length}
-use Rattle.numbers.specs.Signal.{at}
-use Rattle.lifting.specs.Grid.{side}
-use Rattle.wavelet.specs.Plane.{cells}
-use Rattle.map_levels.specs.Rowwise.{heights_at}
-use Rattle.map_levels.specs.Passes.{Rows}
 use Rattle.map_levels.proofs.GridSweep.{fronts-start}
-use Rattle.map_levels.proofs.ForwardCalls.{Pairs, pairs-of, pair-sums, last-sums, odd-sums, first_load, second-load, odd-load, pairs-on, pairs_end}
-use Rattle.map_levels.proofs.ForwardCalls.{Laid, laid-turn, laid-even, laid-odd}
+use Rattle.map_levels.proofs.ForwardCalls.{pairs-of, pair-sums, last-sums, odd-sums, first_load, second-load, odd-load, pairs-on, pairs_end}
+use Rattle.map_levels.proofs.ForwardCalls.{laid-turn, laid-even, laid-odd}
 use Rattle.map_levels.proofs.heights.load_rows.Goals as goal
 
 pub loop-n-init : goal.loop-n-init

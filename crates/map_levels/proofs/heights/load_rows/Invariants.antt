@@ -1,16 +1,14 @@
 -- `map_levels::heights::load_rows` meets its contract: two rows a turn, and the last of an odd number. Assumes nothing.
-use mathlib.Core.Path.{◌≡◌, refl, ◌∙◌}
+use mathlib.Core.Path.{◌≡◌}
 use Prim.Native.Nat.{◌-◌, ◌≤◌}
-use native.Mathlib.Omega.{arith}
 use lib.ListN.{length}
 use Rattle.numbers.specs.Signal.{at}
 use Rattle.lifting.specs.Grid.{side}
 use Rattle.wavelet.specs.Plane.{cells}
 use Rattle.map_levels.specs.Rowwise.{heights_at}
 use Rattle.map_levels.specs.Passes.{Rows}
-use Rattle.map_levels.proofs.GridSweep.{fronts-start}
-use Rattle.map_levels.proofs.ForwardCalls.{Pairs, pairs-of, pair-sums, last-sums, odd-sums, first_load, second-load, odd-load, pairs-on, pairs_end}
-use Rattle.map_levels.proofs.ForwardCalls.{Laid, laid-turn, laid-even, laid-odd}
+use Rattle.map_levels.proofs.ForwardCalls.{Pairs}
+use Rattle.map_levels.proofs.ForwardCalls.{Laid}
 use Rattle.map_levels.proofs.heights.load_rows.Given as goal
 
 abbrev pub invariant-loop-n : goal.invariant-loop-n

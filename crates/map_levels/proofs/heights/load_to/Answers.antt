@@ -2,7 +2,6 @@
 use Prim.Native.Nat.{◌+◌, ◌-◌, ◌*◌}
 use native.Mathlib.Omega.{arith}
 use Rattle.map_levels.proofs.ForwardCalls.{height-part}
-use borrow.Author.Rules.{rules}
 use Rattle.map_levels.proofs.heights.load_to.Goals as goal
 
 pub overflow_mul-a : goal.overflow_mul-a

@@ -5,12 +5,10 @@ use lib.ListN.{length}
 use mir.Syntax.{w32}
 use mir.Val.{to_z, of_z}
 use mir.ValLaws.{to_z-of_z}
-use borrow.Author.Rules.{rules}
 use borrow.Author.Tests.{not-true, not-false}
-use Rattle.map_levels.specs.Passes.{Rows}
 use Rattle.map_levels.proofs.GridSweep.{row_room}
 use Rattle.map_levels.proofs.LevelSteps.{between-by}
-use Rattle.map_levels.proofs.LevelCalls.{Tested, row-test, tested-start, tested-turn, tested-no, tested-yes}
+use Rattle.map_levels.proofs.LevelCalls.{row-test, tested-start, tested-turn, tested-no, tested-yes}
 use Rattle.map_levels.proofs.level_ranges.rows_between.Goals as goal
 
 -- a parameter is its bits read back

@@ -2,7 +2,6 @@
 use Prim.Native.Nat.{◌+◌, ◌-◌}
 use native.Mathlib.Omega.{arith}
 use Rattle.map_levels.proofs.ForwardCalls.{halved-part}
-use borrow.Author.Rules.{rules}
 use Rattle.map_levels.proofs.levels.halve_part.Goals as goal
 
 pub returns : goal.returns

@@ -1,11 +1,6 @@
-use mathlib.Core.Path.{◌≡◌, refl, ◌∙◌}
-use Prim.Native.Nat.{◌≤◌, ◌-◌}
+use mathlib.Core.Path.{refl, ◌∙◌}
 use native.Mathlib.Omega.{arith}
-use lib.ListN.{length}
-use Rattle.numbers.specs.Signal.{at}
-use Rattle.wavelet.specs.Plane.{cells}
-use Rattle.map_levels.specs.Passes.{Rows, grid_copied}
-use Rattle.map_levels.proofs.GridSweep.{RowSwept, row_room, start, finish}
+use Rattle.map_levels.proofs.GridSweep.{row_room, start, finish}
 use Rattle.map_levels.proofs.CellLaws.{copied-out, outside-rows}
 use Rattle.map_levels.proofs.ForwardCalls.{copied-turn}
 use Rattle.map_levels.proofs.levels.save.Goals as goal

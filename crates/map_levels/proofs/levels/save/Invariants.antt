@@ -1,14 +1,11 @@
 -- `levels::save` meets its contract: a pass over the rows of the grid, each from its row of the plane. Assumes nothing.
-use mathlib.Core.Path.{◌≡◌, refl, ◌∙◌}
+use mathlib.Core.Path.{◌≡◌}
 use Prim.Native.Nat.{◌≤◌, ◌-◌}
-use native.Mathlib.Omega.{arith}
 use lib.ListN.{length}
 use Rattle.numbers.specs.Signal.{at}
 use Rattle.wavelet.specs.Plane.{cells}
 use Rattle.map_levels.specs.Passes.{Rows, grid_copied}
-use Rattle.map_levels.proofs.GridSweep.{RowSwept, row_room, start, finish}
-use Rattle.map_levels.proofs.CellLaws.{copied-out, outside-rows}
-use Rattle.map_levels.proofs.ForwardCalls.{copied-turn}
+use Rattle.map_levels.proofs.GridSweep.{RowSwept}
 use Rattle.map_levels.proofs.levels.save.Given as goal
 
 abbrev pub invariant-loop-r : goal.invariant-loop-r

@@ -1,13 +1,6 @@
-use mathlib.Core.Path.{◌≡◌, refl, ◌∙◌}
-use Prim.Native.Nat.{◌≤◌, ◌-◌}
+use mathlib.Core.Path.{refl, ◌∙◌}
 use native.Mathlib.Omega.{arith}
-use lib.ListN.{length}
-use borrow.Author.Rules.{rules}
-use Rattle.numbers.specs.Signal.{at}
-use Rattle.lifting.specs.Grid.{side}
-use Rattle.wavelet.specs.Plane.{cells}
-use Rattle.map_levels.specs.Passes.{Rows, grid_halved}
-use Rattle.map_levels.proofs.GridSweep.{RowSwept, row_room, start, finish}
+use Rattle.map_levels.proofs.GridSweep.{row_room, start, finish}
 use Rattle.map_levels.proofs.CellLaws.{halved-out, outside-rows}
 use Rattle.map_levels.proofs.ForwardCalls.{halved-turn}
 use Rattle.map_levels.proofs.levels.spread.Goals as goal

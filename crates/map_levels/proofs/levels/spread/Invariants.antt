@@ -1,16 +1,12 @@
 -- `levels::spread` meets its contract: a pass over the plane's rows, each from its row of the grid, in halves. Assumes nothing.
-use mathlib.Core.Path.{◌≡◌, refl, ◌∙◌}
+use mathlib.Core.Path.{◌≡◌}
 use Prim.Native.Nat.{◌≤◌, ◌-◌}
-use native.Mathlib.Omega.{arith}
 use lib.ListN.{length}
-use borrow.Author.Rules.{rules}
 use Rattle.numbers.specs.Signal.{at}
 use Rattle.lifting.specs.Grid.{side}
 use Rattle.wavelet.specs.Plane.{cells}
 use Rattle.map_levels.specs.Passes.{Rows, grid_halved}
-use Rattle.map_levels.proofs.GridSweep.{RowSwept, row_room, start, finish}
-use Rattle.map_levels.proofs.CellLaws.{halved-out, outside-rows}
-use Rattle.map_levels.proofs.ForwardCalls.{halved-turn}
+use Rattle.map_levels.proofs.GridSweep.{RowSwept}
 use Rattle.map_levels.proofs.levels.spread.Given as goal
 
 abbrev pub invariant-loop-r : goal.invariant-loop-r

@@ -3,7 +3,6 @@ use mathlib.Core.Path.{refl, ◌∙◌}
 use Prim.Native.Nat.{◌-◌}
 use native.Mathlib.Omega.{arith}
 use lib.Signed.{shr_z}
-use borrow.Author.Rules.{rules}
 use borrow.Author.Tests.{eq-eqb}
 use Rattle.lifting.specs.Grid.{side, is_even}
 use Rattle.lifting.proofs.SingleLaws.{single-odd, single-even}

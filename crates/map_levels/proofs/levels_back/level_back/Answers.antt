@@ -1,6 +1,5 @@
 -- `levels_back::level_back` meets its contract: rows that are no lines turn it away; one row by itself, more in a sweep. Assumes nothing.
 use native.Mathlib.Omega.{arith}
-use borrow.Author.Rules.{rules}
 use borrow.Author.Tests.{not-true, not-false}
 use Rattle.lifting.specs.Grid.{side}
 use Rattle.map_levels.proofs.SweepSets.{lines-enough}

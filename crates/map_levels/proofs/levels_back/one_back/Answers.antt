@@ -1,6 +1,5 @@
 -- `levels_back::one_back` meets its contract: the row lifted back, halved and put. Assumes nothing.
 use native.Mathlib.Omega.{arith}
-use borrow.Author.Rules.{rules}
 use Rattle.lifting.specs.Grid.{side}
 use Rattle.map_levels.proofs.RowwiseLaws.{and_both}
 use Rattle.map_levels.proofs.SweepBackGrid.{one-back, one-room}

@@ -10,10 +10,6 @@ use Rattle.map_levels.proofs.SweepLines.{stored-by}
 use native.Mathlib.Omega.{arith}
 use Rattle.wavelet.specs.Limits.{max_width}
 use Rattle.map_levels.specs.Sweep.{short_updated, line_half}
-use borrow.Author.Rules.{rules}
-use Rattle.map_levels.proofs.lines.end_place.Reads as reads
-use Rattle.map_levels.proofs.lines.end_place.Lts as lts
-use Rattle.lifting.proofs.sample.update.Reads as update-reads
 use Rattle.map_levels.proofs.lines.end_place.Goals as goal
 
 -- src/lines.rt:95:5

@@ -1,12 +1,9 @@
 use mathlib.Core.Path.{◌≡◌, refl, ◌∙◌}
 use mathlib.Core.Bool.{false}
-use Prim.Native.Nat.{◌+◌, ◌-◌, ◌*◌, ◌/◌, ◌≤◌}
+use Prim.Native.Nat.{◌+◌, ◌*◌}
 use native.Mathlib.Omega.{arith}
-use lib.ListN.{length}
-use Rattle.numbers.specs.Signal.{at}
-use Rattle.areas.specs.Areas.{heights_at}
 use Rattle.wavelet.specs.Limits.{max_width}
-use Rattle.map_levels.specs.Sweep.{line_half, ColumnsMade}
+use Rattle.map_levels.specs.Sweep.{line_half}
 use Rattle.map_levels.proofs.SweepLines.{made_none, one-made, pair-made, pairs-made}
 use Rattle.map_levels.proofs.lines.heights_columns.Goals as goal
 

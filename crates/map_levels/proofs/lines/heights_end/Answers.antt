@@ -2,14 +2,10 @@ use lib.ListN.{get_or}
 use Rattle.areas.proofs.HeightLaws.{height-fits, height-read}
 use mathlib.Core.Path.{◌≡◌, refl, ◌∙◌}
 use mathlib.Core.Bool.{true}
-use Prim.Native.Nat.{ℕ, ◌+◌, ◌-◌, ◌≤◌}
+use Prim.Native.Nat.{◌+◌}
 use native.Mathlib.Omega.{arith}
-use lib.IntN.{ℤ}
-use lib.ListN.{length}
-use Rattle.numbers.specs.Signal.{at}
-use Rattle.areas.specs.Areas.{heights_at}
 use Rattle.wavelet.specs.Limits.{max_width}
-use Rattle.map_levels.specs.Sweep.{line_half, ColumnsMade}
+use Rattle.map_levels.specs.Sweep.{line_half}
 use Rattle.map_levels.proofs.SweepLines.{made_none, ended-more}
 use Rattle.map_levels.proofs.lines.heights_end.Goals as goal
 

@@ -3,10 +3,6 @@ use mathlib.Core.Path.{◌∙◌}
 use lib.ListN.{get_or}
 use native.Mathlib.Omega.{arith}
 use Rattle.areas.proofs.HeightLaws.{height-fits, height-read}
-use borrow.Author.Rules.{rules}
-use Rattle.map_levels.proofs.lines.lift_heights.Reads as reads
-use Rattle.map_levels.proofs.lines.lift_heights.Lts as lts
-use Rattle.map_levels.proofs.lines.lift_place.Reads as lift-place-reads
 use Rattle.map_levels.proofs.lines.lift_heights.Goals as goal
 
 -- src/lines.rt:39:26

@@ -3,10 +3,6 @@ use mathlib.Core.Path.{◌∙◌}
 use native.Mathlib.Omega.{arith}
 use Rattle.numbers.specs.Signal.{at}
 use Rattle.numbers.proofs.Words.{read_back}
-use borrow.Author.Rules.{rules}
-use Rattle.map_levels.proofs.lines.lift_numbers.Reads as reads
-use Rattle.map_levels.proofs.lines.lift_numbers.Lts as lts
-use Rattle.map_levels.proofs.lines.lift_place.Reads as lift-place-reads
 use Rattle.map_levels.proofs.lines.lift_numbers.Goals as goal
 
 -- src/lines.rt:47:5

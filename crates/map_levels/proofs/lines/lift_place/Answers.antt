@@ -11,11 +11,6 @@ use Rattle.map_levels.proofs.SweepLines.{stored-two}
 use native.Mathlib.Omega.{arith}
 use Rattle.wavelet.specs.Limits.{max_width}
 use Rattle.map_levels.specs.Sweep.{short_predicted, short_updated, line_half}
-use borrow.Author.Rules.{rules}
-use Rattle.map_levels.proofs.lines.lift_place.Reads as reads
-use Rattle.map_levels.proofs.lines.lift_place.Lts as lts
-use Rattle.lifting.proofs.sample.predict.Reads as predict-reads
-use Rattle.lifting.proofs.sample.update.Reads as update-reads
 use Rattle.map_levels.proofs.lines.lift_place.Goals as goal
 
 -- src/lines.rt:27:5

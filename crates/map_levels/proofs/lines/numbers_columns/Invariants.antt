@@ -1,13 +1,10 @@
 -- `lines::numbers_columns` meets its contract: a pair of columns a turn, the last of an odd number behind the loop. Assumes nothing.
-use mathlib.Core.Path.{◌≡◌, refl, ◌∙◌}
+use mathlib.Core.Path.{◌≡◌}
 use mathlib.Core.Bool.{false}
 use Prim.Native.Nat.{◌+◌, ◌-◌, ◌*◌, ◌/◌, ◌≤◌}
-use native.Mathlib.Omega.{arith}
 use lib.ListN.{length}
 use Rattle.numbers.specs.Signal.{at}
-use Rattle.wavelet.specs.Limits.{max_width}
-use Rattle.map_levels.specs.Sweep.{line_half, ColumnsMade}
-use Rattle.map_levels.proofs.SweepLines.{made_none, one-made, pair-made, pairs-made}
+use Rattle.map_levels.specs.Sweep.{ColumnsMade}
 use Rattle.map_levels.proofs.lines.numbers_columns.Given as goal
 
 abbrev pub invariant-loop-k : goal.invariant-loop-k

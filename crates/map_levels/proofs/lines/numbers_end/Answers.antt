@@ -1,13 +1,11 @@
 use Rattle.numbers.proofs.Words.{read_back}
 use mathlib.Core.Path.{◌≡◌, refl, ◌∙◌}
 use mathlib.Core.Bool.{true}
-use Prim.Native.Nat.{ℕ, ◌+◌, ◌-◌, ◌≤◌}
+use Prim.Native.Nat.{◌+◌}
 use native.Mathlib.Omega.{arith}
-use lib.IntN.{ℤ}
-use lib.ListN.{length}
 use Rattle.numbers.specs.Signal.{at}
 use Rattle.wavelet.specs.Limits.{max_width}
-use Rattle.map_levels.specs.Sweep.{line_half, ColumnsMade}
+use Rattle.map_levels.specs.Sweep.{line_half}
 use Rattle.map_levels.proofs.SweepLines.{made_none, ended-more}
 use Rattle.map_levels.proofs.lines.numbers_end.Goals as goal
 

@@ -1,15 +1,11 @@
 -- `lines::numbers_end` meets its contract: a column a turn. Assumes nothing.
-use Rattle.numbers.proofs.Words.{read_back}
-use mathlib.Core.Path.{◌≡◌, refl, ◌∙◌}
+use mathlib.Core.Path.{◌≡◌}
 use mathlib.Core.Bool.{true}
 use Prim.Native.Nat.{ℕ, ◌+◌, ◌-◌, ◌≤◌}
-use native.Mathlib.Omega.{arith}
 use lib.IntN.{ℤ}
 use lib.ListN.{length}
 use Rattle.numbers.specs.Signal.{at}
-use Rattle.wavelet.specs.Limits.{max_width}
-use Rattle.map_levels.specs.Sweep.{line_half, ColumnsMade}
-use Rattle.map_levels.proofs.SweepLines.{made_none, ended-more}
+use Rattle.map_levels.specs.Sweep.{ColumnsMade}
 use Rattle.map_levels.proofs.lines.numbers_end.Given as goal
 
 abbrev pub invariant-loop-i : goal.invariant-loop-i

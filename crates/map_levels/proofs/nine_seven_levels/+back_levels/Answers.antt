@@ -10,7 +10,6 @@ use Rattle.lifting.proofs.GridLaws.{counts}
 use Rattle.nine_seven.specs.NineSevenFilter.{nine_seven_filter}
 use Rattle.nine_seven.proofs.NineSevenFilter.{nine-seven-laws}
 use Rattle.filters.specs.Filters.{filter_of}
-use Rattle.map_levels.proofs.GridSweep.{rows-kept}
 use Rattle.map_levels.proofs.LevelCalls.{put-area, put_same, put-again}
 use Rattle.map_levels.proofs.TestLaws.{goes-as, goes-yes}
 use Rattle.map_levels.proofs.LevelSteps.{doubled, next-side, rows_next, rows-corner, part_room, mid-fits, lows-few, back_end, back-no}

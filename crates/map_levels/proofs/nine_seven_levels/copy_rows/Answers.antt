@@ -1,12 +1,6 @@
-use mathlib.Core.Path.{◌≡◌, refl, ◌∙◌}
-use Prim.Native.Nat.{◌+◌, ◌-◌, ◌≤◌}
+use mathlib.Core.Path.{refl, ◌∙◌}
 use native.Mathlib.Omega.{arith}
-use lib.ListN.{length}
-use Rattle.numbers.specs.Signal.{at}
-use Rattle.lifting.specs.Grid.{side}
-use Rattle.wavelet.specs.Plane.{cells}
-use Rattle.map_levels.specs.Passes.{rows_fetched}
-use Rattle.map_levels.proofs.GridSweep.{RowSwept, rows-kept, few, start, finish, within-past}
+use Rattle.map_levels.proofs.GridSweep.{rows-kept, few, start, finish, within-past}
 use Rattle.map_levels.proofs.CellLaws.{fetched-out}
 use Rattle.map_levels.proofs.NineSevenBack.{copied-turn}
 use Rattle.map_levels.proofs.nine_seven_levels.copy_rows.Goals as goal

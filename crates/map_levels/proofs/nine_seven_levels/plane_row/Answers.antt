@@ -1,6 +1,5 @@
 -- `nine_seven_levels::plane_row` meets its contract: the definition's two cases. Assumes nothing.
 use native.Mathlib.Omega.{arith}
-use borrow.Author.Rules.{rules}
 use Rattle.lifting.specs.Grid.{side, count}
 use Rattle.map_levels.specs.Passes.{plane_row}
 use Rattle.map_levels.proofs.CellLaws.{is-low, is-high}

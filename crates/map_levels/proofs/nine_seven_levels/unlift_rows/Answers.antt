@@ -1,12 +1,7 @@
 use Prim.Native.Nat.{◌+◌, ◌-◌, ◌*◌, ◌≤◌}
 use native.Mathlib.Omega.{arith}
 use lib.ListN.{length}
-use Rattle.numbers.specs.Signal.{at}
-use Rattle.lifting.specs.Grid.{side}
-use Rattle.nine_seven.specs.Memory.{unlifted_in_place}
-use Rattle.wavelet.specs.Plane.{cells}
-use Rattle.map_levels.specs.Passes.{rows_mapped}
-use Rattle.map_levels.proofs.GridSweep.{Passed, pass-start, pass-end, pass-room, mapped-past}
+use Rattle.map_levels.proofs.GridSweep.{pass-start, pass-end, pass-room, mapped-past}
 use Rattle.map_levels.proofs.NineSevenBack.{unlifted-turn}
 use Rattle.map_levels.proofs.nine_seven_levels.unlift_rows.Goals as goal
 

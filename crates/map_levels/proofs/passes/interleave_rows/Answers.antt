@@ -1,18 +1,15 @@
 use mathlib.Core.Path.{◌≡◌, refl, sym, ◌∙◌}
-use Prim.Native.Nat.{◌+◌, ◌-◌, ◌*◌, ◌/◌, ◌≤◌}
+use Prim.Native.Nat.{◌+◌, ◌-◌, ◌*◌, ◌≤◌}
 use native.Mathlib.Omega.{arith}
 use lib.ListN.{length}
 use mir.Syntax.{w32}
-use mir.Val.{to_z}
 use mir.ValLaws.{to_z-of_z}
 use Rattle.numbers.specs.Signal.{at}
 use Rattle.lifting.specs.Grid.{side}
 use Rattle.wavelet.specs.Limits.{max_width}
-use Rattle.map_levels.specs.Rowwise.{interleaved_in_place, between}
+use Rattle.map_levels.specs.Rowwise.{interleaved_in_place}
 use Rattle.wavelet.specs.Plane.{cells}
-use Rattle.wavelet.specs.Maps.{every}
-use Rattle.map_levels.specs.Passes.{rows_mapped}
-use Rattle.map_levels.proofs.GridSweep.{Passed, pass-start, pass-room, pass-end, row-length, lent_row, mapped-past, map-turn}
+use Rattle.map_levels.proofs.GridSweep.{pass-start, pass-room, pass-end, row-length, lent_row, mapped-past, map-turn}
 use Rattle.areas.proofs.AreaLaws.{between_start}
 use Rattle.map_levels.proofs.RowwiseLaws.{gather-turn}
 use Rattle.map_levels.proofs.TestLaws.{row-between, all-rows}

@@ -3,7 +3,6 @@ use Prim.Native.Nat.{◌+◌, ◌-◌, ◌*◌}
 use native.Mathlib.Omega.{arith}
 use Rattle.lifting.specs.GridHalves.{lifted_in_place}
 use Rattle.map_levels.proofs.ForwardCalls.{changed-part}
-use borrow.Author.Rules.{rules}
 use Rattle.map_levels.proofs.passes.lift_row.Goals as goal
 
 pub overflow_mul-a : goal.overflow_mul-a

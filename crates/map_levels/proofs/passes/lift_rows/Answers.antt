@@ -1,12 +1,9 @@
 use Prim.Native.Nat.{◌+◌, ◌-◌, ◌*◌, ◌≤◌}
 use native.Mathlib.Omega.{arith}
 use lib.ListN.{length}
-use Rattle.numbers.specs.Signal.{at}
 use Rattle.lifting.specs.Grid.{side}
 use Rattle.nine_seven.specs.Memory.{lifted_in_place}
-use Rattle.wavelet.specs.Plane.{cells}
-use Rattle.map_levels.specs.Passes.{rows_mapped}
-use Rattle.map_levels.proofs.GridSweep.{Passed, pass-start, pass-end, pass-room, map-turn, mapped-past}
+use Rattle.map_levels.proofs.GridSweep.{pass-start, pass-end, pass-room, map-turn, mapped-past}
 use Rattle.map_levels.proofs.passes.lift_rows.Goals as goal
 
 pub loop-r-init : goal.loop-r-init

@@ -2,7 +2,6 @@
 use native.Mathlib.Omega.{arith}
 use borrow.Author.Tests.{lt-ltb, le-ltb}
 use Rattle.map_levels.specs.Passes.{after}
-use borrow.Author.Rules.{rules}
 use Rattle.map_levels.proofs.passes.row_after.Goals as goal
 
 pub returns-then-r-height : goal.returns-then-r-height

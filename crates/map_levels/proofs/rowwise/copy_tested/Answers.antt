@@ -1,16 +1,11 @@
-use mathlib.Core.Path.{◌≡◌, sym}
-use Prim.Native.Nat.{◌-◌, ◌≤◌}
+use mathlib.Core.Path.{sym}
 use native.Mathlib.Omega.{arith}
 use lib.ListN.{length}
 use mir.Syntax.{w32}
-use mir.Val.{to_z}
 use mir.ValLaws.{to_z-of_z}
 use Rattle.numbers.specs.Signal.{at}
 use Rattle.numbers.proofs.Words.{read_back}
-use Rattle.numbers.proofs.Sweep.{Swept, start, store, finish}
-use Rattle.lifting.specs.Halves.{fronted}
-use Rattle.wavelet.specs.Maps.{every}
-use Rattle.map_levels.specs.Rowwise.{between}
+use Rattle.numbers.proofs.Sweep.{start, store, finish}
 use Rattle.areas.proofs.AreaLaws.{front_at, front_rest, between_start, between-turn, between-end}
 use Rattle.map_levels.proofs.rowwise.copy_tested.Goals as goal
 

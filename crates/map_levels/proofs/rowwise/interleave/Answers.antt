@@ -8,7 +8,6 @@ use lib.ListN.{length}
 use Rattle.numbers.specs.Signal.{at}
 use Rattle.lifting.specs.Grid.{side}
 use Rattle.map_levels.proofs.RowwiseLaws.{interleave-through, between-read}
-use borrow.Author.Rules.{rules}
 use Rattle.map_levels.proofs.rowwise.interleave.Goals as goal
 
 pub returns : goal.returns

@@ -3,7 +3,6 @@ use Prim.Native.Nat.{◌+◌, ◌-◌, ◌*◌}
 use native.Mathlib.Omega.{arith}
 use Rattle.map_levels.specs.Sweep.{short_lifted}
 use Rattle.map_levels.proofs.ForwardCalls.{changed-part}
-use borrow.Author.Rules.{rules}
 use Rattle.map_levels.proofs.short.lift_row.Goals as goal
 
 pub overflow_mul-a : goal.overflow_mul-a

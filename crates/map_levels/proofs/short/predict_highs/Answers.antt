@@ -1,9 +1,7 @@
 use mathlib.Core.Path.{refl, ◌∙◌}
-use Prim.Native.Nat.{◌-◌}
 use native.Mathlib.Omega.{arith}
-use Rattle.map_levels.specs.Sweep.{short_predicted}
 use Rattle.lifting.proofs.RowLaws.{falls}
-use Rattle.lifting.proofs.PassLaws.{Highs, high-first-in, highs-at, high_sums, high-in, high-ends, high-last-in, highs-again, highs-last, highs-done}
+use Rattle.lifting.proofs.PassLaws.{high-first-in, highs-at, high_sums, high-in, high-ends, high-last-in, highs-again, highs-last, highs-done}
 use Rattle.map_levels.proofs.short.predict_highs.Goals as goal
 
 pub overflow_sub-end : goal.overflow_sub-end

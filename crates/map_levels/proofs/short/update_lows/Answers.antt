@@ -1,8 +1,6 @@
 use mathlib.Core.Path.{refl, ◌∙◌}
-use Prim.Native.Nat.{◌-◌}
-use Rattle.map_levels.specs.Sweep.{short_updated}
 use Rattle.lifting.proofs.RowLaws.{falls}
-use Rattle.lifting.proofs.PassLaws.{Lows, low-begins, low-first-in, lows-at, low_sums, low-in, low-ends, low-last-in, lows-again, lows-last, lows-done}
+use Rattle.lifting.proofs.PassLaws.{low-begins, low-first-in, lows-at, low_sums, low-in, low-ends, low-last-in, lows-again, lows-last, lows-done}
 use Rattle.map_levels.proofs.short.update_lows.Goals as goal
 
 pub overflow_sub-high : goal.overflow_sub-high

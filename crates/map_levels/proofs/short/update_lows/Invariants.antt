@@ -1,9 +1,7 @@
 -- `short::update_lows` meets its contract: a sweep over the low numbers, the first before the loop and the last after it. Assumes nothing.
-use mathlib.Core.Path.{refl, ◌∙◌}
 use Prim.Native.Nat.{◌-◌}
 use Rattle.map_levels.specs.Sweep.{short_updated}
-use Rattle.lifting.proofs.RowLaws.{falls}
-use Rattle.lifting.proofs.PassLaws.{Lows, low-begins, low-first-in, lows-at, low_sums, low-in, low-ends, low-last-in, lows-again, lows-last, lows-done}
+use Rattle.lifting.proofs.PassLaws.{Lows}
 use Rattle.map_levels.proofs.short.update_lows.Given as goal
 
 -- `line₀` is the line after the first store

@@ -1,7 +1,6 @@
 -- `short_back::last_low` meets its contract: the two cases of the test. Assumes nothing.
 use mathlib.Core.Path.{refl}
 use native.Mathlib.Omega.{arith}
-use borrow.Author.Rules.{rules}
 use Rattle.map_levels.proofs.short_back.last_low.Goals as goal
 
 pub returns-then-low-n : goal.returns-then-low-n

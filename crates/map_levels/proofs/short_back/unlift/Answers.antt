@@ -7,7 +7,6 @@ use Rattle.lifting.specs.Grid.{side}
 use Rattle.lifting.proofs.PassLaws.{lows-beside, highs-beside}
 use Rattle.map_levels.proofs.BackLineLaws.{row-lifted}
 use Rattle.map_levels.proofs.BackRowLaws.{one-stored}
-use borrow.Author.Rules.{rules}
 use Rattle.map_levels.proofs.short_back.unlift.Goals as goal
 
 pub returns-then-row-lt2 : goal.returns-then-row-lt2

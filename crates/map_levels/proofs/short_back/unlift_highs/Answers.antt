@@ -1,7 +1,6 @@
 use mathlib.Core.Path.{refl, sym, ◌∙◌}
-use Prim.Native.Nat.{◌-◌}
 use native.Mathlib.Omega.{arith}
-use Rattle.map_levels.proofs.BackLineLaws.{HighsRun, high-run, highs-end}
+use Rattle.map_levels.proofs.BackLineLaws.{high-run, highs-end}
 use Rattle.map_levels.proofs.Clauses.{by_index-by_index_2}
 use Rattle.map_levels.proofs.short_back.unlift_highs.Goals as goal
 

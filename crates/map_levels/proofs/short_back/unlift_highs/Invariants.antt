@@ -1,8 +1,6 @@
 -- `short_back::unlift_highs` meets its contract: a sweep over the high numbers, the last and the first behind the loop. Assumes nothing.
-use mathlib.Core.Path.{refl, sym, ◌∙◌}
 use Prim.Native.Nat.{◌-◌}
-use native.Mathlib.Omega.{arith}
-use Rattle.map_levels.proofs.BackLineLaws.{HighsRun, high-run, highs-end}
+use Rattle.map_levels.proofs.BackLineLaws.{HighsRun}
 use Rattle.map_levels.proofs.short_back.unlift_highs.Given as goal
 
 abbrev pub invariant-loop-n : goal.invariant-loop-n

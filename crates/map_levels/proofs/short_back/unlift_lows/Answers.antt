@@ -1,7 +1,6 @@
 use mathlib.Core.Path.{refl, sym, ◌∙◌}
-use Prim.Native.Nat.{◌-◌}
 use native.Mathlib.Omega.{arith}
-use Rattle.map_levels.proofs.BackLineLaws.{LowsRun, low_run, lows-end}
+use Rattle.map_levels.proofs.BackLineLaws.{low_run, lows-end}
 use Rattle.map_levels.proofs.short_back.unlift_lows.Goals as goal
 
 pub overflow_sub-end : goal.overflow_sub-end

@@ -6,7 +6,6 @@ use lib.Signed.{shr_z}
 use lib.ListN.{set}
 use Rattle.numbers.specs.Signal.{at}
 use Rattle.numbers.proofs.Words.{read_back}
-use borrow.Author.Rules.{rules}
 use Rattle.map_levels.proofs.short_back.unlift_one.Goals as goal
 
 pub returns-then-low-eq0 : goal.returns-then-low-eq0

@@ -1,10 +1,9 @@
 use Prim.Native.Nat.{◌+◌}
 use native.Mathlib.Omega.{arith}
-use lib.ListN.{length}
 use borrow.Author.Rules.{sfits_of}
 use Rattle.numbers.specs.Signal.{at}
 use Rattle.wavelet.specs.Limits.{max_sample}
-use Rattle.map_levels.proofs.SmallLaws.{BitsWithin, bits_none, bits-read, bits-written, bits-more, bits-end}
+use Rattle.map_levels.proofs.SmallLaws.{bits_none, bits-read, bits-written, bits-more, bits-end}
 use Rattle.map_levels.proofs.small.surely_heights.Goals as goal
 
 pub loop-i-init : goal.loop-i-init

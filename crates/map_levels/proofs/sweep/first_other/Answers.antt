@@ -4,7 +4,6 @@ use Prim.Native.Nat.{◌%◌}
 use native.Mathlib.Omega.{arith}
 use borrow.Author.Tests.{eq-eqb, ne_eqb}
 use Rattle.map_levels.specs.Sweep.{first_other}
-use borrow.Author.Rules.{rules}
 use Rattle.map_levels.proofs.sweep.first_other.Goals as goal
 
 pub returns-then-y-eq0 : goal.returns-then-y-eq0

@@ -7,7 +7,6 @@ use Rattle.wavelet.specs.Limits.{max_width}
 use Rattle.map_levels.specs.Sweep.{line_half}
 use Rattle.map_levels.proofs.GridSweep.{row_room, rows-kept, few}
 use Rattle.map_levels.proofs.SweepSets.{corner-room, set-done}
-use borrow.Author.Rules.{rules}
 use Rattle.map_levels.proofs.sweep.lift_set.Goals as goal
 
 pub overflow_mul-n : goal.overflow_mul-n

@@ -1,14 +1,9 @@
-use mathlib.Core.Path.{◌≡◌, refl, sym, ◌∙◌}
-use Prim.Native.Nat.{ℕ, ◌-◌, ◌*◌, ◌≤◌}
+use mathlib.Core.Path.{refl, sym, ◌∙◌}
 use native.Mathlib.Omega.{arith}
-use lib.IntN.{ℤ}
-use lib.ListN.{length}
 use Rattle.numbers.specs.Signal.{at}
 use Rattle.lifting.specs.Grid.{side}
-use Rattle.lifting.specs.FiveThree.{five_three_filter}
-use Rattle.areas.specs.Areas.{heights_at}
 use Rattle.wavelet.specs.Limits.{max_width}
-use Rattle.map_levels.specs.Sweep.{line_half, SetsDone}
+use Rattle.map_levels.specs.Sweep.{line_half}
 use Rattle.map_levels.proofs.SweepSets.{lines-enough, area-kept, sets_end}
 use Rattle.map_levels.proofs.sweep.lift_sets.Goals as goal
 

@@ -1,17 +1,14 @@
 -- `sweep::lift_sets` meets its contract: the first high row, and then set by set. What is done is told of the areas at the start of the level, which the
 -- loop does not know: so its invariant says it of any. Assumes nothing.
-use mathlib.Core.Path.{◌≡◌, refl, sym, ◌∙◌}
+use mathlib.Core.Path.{◌≡◌}
 use Prim.Native.Nat.{ℕ, ◌-◌, ◌*◌, ◌≤◌}
-use native.Mathlib.Omega.{arith}
 use lib.IntN.{ℤ}
 use lib.ListN.{length}
 use Rattle.numbers.specs.Signal.{at}
 use Rattle.lifting.specs.Grid.{side}
 use Rattle.lifting.specs.FiveThree.{five_three_filter}
 use Rattle.areas.specs.Areas.{heights_at}
-use Rattle.wavelet.specs.Limits.{max_width}
 use Rattle.map_levels.specs.Sweep.{line_half, SetsDone}
-use Rattle.map_levels.proofs.SweepSets.{lines-enough, area-kept, sets_end}
 use Rattle.map_levels.proofs.sweep.lift_sets.Given as goal
 
 abbrev pub invariant-loop-n : goal.invariant-loop-n

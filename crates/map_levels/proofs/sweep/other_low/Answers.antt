@@ -4,7 +4,6 @@ use Prim.Native.Nat.{◌+◌}
 use native.Mathlib.Omega.{arith}
 use borrow.Author.Tests.{lt-ltb, le-ltb}
 use Rattle.map_levels.specs.Sweep.{other_low}
-use borrow.Author.Rules.{rules}
 use Rattle.map_levels.proofs.sweep.other_low.Goals as goal
 
 pub returns-then-height-a-le2 : goal.returns-then-height-a-le2

@@ -1,6 +1,5 @@
 use mathlib.Core.Path.{◌∙◌}
-use Prim.Native.Nat.{◌-◌}
-use Rattle.nine_seven_sweep.proofs.LoopLaws.{Lowering, lower-count, lowering, lower-next, lower-less, lower-room, lower-again, lower-done, lower-all}
+use Rattle.nine_seven_sweep.proofs.LoopLaws.{lower-count, lowering, lower-next, lower-less, lower-room, lower-again, lower-done, lower-all}
 use Rattle.nine_seven_sweep.proofs.back.unlift_rows.Goals as goal
 
 pub overflow_sub-last : goal.overflow_sub-last

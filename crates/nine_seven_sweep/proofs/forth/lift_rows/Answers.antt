@@ -1,5 +1,4 @@
-use Prim.Native.Nat.{◌-◌}
-use Rattle.nine_seven_sweep.proofs.LoopLaws.{Raising, raise-count, raising, raise-next, raise-less, raise-room, raise-again, raise-done}
+use Rattle.nine_seven_sweep.proofs.LoopLaws.{raise-count, raising, raise-next, raise-less, raise-room, raise-again, raise-done}
 use Rattle.nine_seven_sweep.proofs.forth.lift_rows.Goals as goal
 
 pub overflow_add-end : goal.overflow_add-end

@@ -1,6 +1,6 @@
 -- `forth::lift_rows` meets its contract: a sweep over the rows of both halves. Assumes nothing.
 use Prim.Native.Nat.{◌-◌}
-use Rattle.nine_seven_sweep.proofs.LoopLaws.{Raising, raise-count, raising, raise-next, raise-less, raise-room, raise-again, raise-done}
+use Rattle.nine_seven_sweep.proofs.LoopLaws.{Raising}
 use Rattle.nine_seven_sweep.proofs.forth.lift_rows.Given as goal
 
 abbrev pub invariant-loop-n : goal.invariant-loop-n

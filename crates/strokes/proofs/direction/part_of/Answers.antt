@@ -3,7 +3,6 @@ use mathlib.Core.Path.{ap₂, ◌∙◌}
 use Prim.Native.Nat.{ℕ, ◌-◌, ◌/◌}
 use native.Mathlib.Omega.{arith}
 use Rattle.strokes.proofs.CallLaws.{part_low, part-high}
-use borrow.Author.Rules.{rules}
 use Rattle.strokes.proofs.direction.part_of.Goals as goal
 
 pub returns-then-high-eq0 : goal.returns-then-high-eq0

@@ -6,7 +6,6 @@ use Rattle.wavelet.specs.Plane.{cells}
 use Rattle.map_levels.proofs.GridSweep.{rows-kept}
 use Rattle.strokes.specs.Local.{changed_of}
 use Rattle.strokes.proofs.StepLaws.{work-band, highs-copied}
-use borrow.Author.Rules.{rules}
 use Rattle.strokes.proofs.levels.copy_highs.Goals as goal
 
 pub copy_band-requires : goal.copy_band-requires

@@ -1,7 +1,6 @@
 -- `levels::lift_level` meets its contract: columns, then rows. Assumes nothing.
 use Rattle.map_levels.proofs.GridSweep.{rows-kept}
 use Rattle.strokes.proofs.StepLaws.{lifted}
-use borrow.Author.Rules.{rules}
 use Rattle.strokes.proofs.levels.lift_level.Goals as goal
 
 pub lift_columns-requires : goal.lift_columns-requires

@@ -1,5 +1,4 @@
 -- `levels::mend_level` meets its contract: the window lifted, and what is in reach of its high bands. Assumes nothing.
-use mathlib.Core.Path.{◌∙◌}
 use native.Mathlib.Omega.{arith}
 use Rattle.map_levels.proofs.GridSweep.{rows-kept}
 use Rattle.wavelet.specs.Plane.{cells}

@@ -1,19 +1,12 @@
 use mathlib.Core.Path.{◌≡◌, refl, ◌∙◌}
-use Prim.Native.Nat.{ℕ, ◌≤◌}
 use native.Mathlib.Omega.{arith}
-use lib.IntN.{ℤ}
-use lib.ListN.{length}
 use Rattle.numbers.specs.Signal.{at}
-use Rattle.wavelet.specs.Limits.{max_width}
 use Rattle.wavelet.specs.Plane.{cells}
-use Rattle.map_levels.specs.Passes.{Rows}
-use Rattle.map_levels.specs.LevelPasses.{Doubling}
 use Rattle.map_levels.proofs.GridSweep.{rows-kept}
 use Rattle.map_levels.proofs.LevelSteps.{stride-small}
-use Rattle.strokes.specs.Local.{Placed}
 use Rattle.strokes.proofs.DirectionLaws.{ready}
 use Rattle.strokes.proofs.StepLaws.{work-band}
-use Rattle.strokes.proofs.Standing.{Standing, levels-turn, narrower, standing-turn, standing-last}
+use Rattle.strokes.proofs.Standing.{levels-turn, narrower, standing-turn, standing-last}
 use Rattle.strokes.proofs.levels.mend_levels.Goals as goal
 
 pub loop-left-init : goal.loop-left-init

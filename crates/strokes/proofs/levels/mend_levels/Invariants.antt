@@ -1,20 +1,14 @@
 -- `levels::mend_levels` meets its contract: what is still to be done stays the same from level to level. Assumes nothing.
-use mathlib.Core.Path.{◌≡◌, refl, ◌∙◌}
+use mathlib.Core.Path.{◌≡◌}
 use Prim.Native.Nat.{ℕ, ◌≤◌}
-use native.Mathlib.Omega.{arith}
 use lib.IntN.{ℤ}
 use lib.ListN.{length}
 use Rattle.numbers.specs.Signal.{at}
 use Rattle.wavelet.specs.Limits.{max_width}
-use Rattle.wavelet.specs.Plane.{cells}
 use Rattle.map_levels.specs.Passes.{Rows}
 use Rattle.map_levels.specs.LevelPasses.{Doubling}
-use Rattle.map_levels.proofs.GridSweep.{rows-kept}
-use Rattle.map_levels.proofs.LevelSteps.{stride-small}
 use Rattle.strokes.specs.Local.{Placed}
-use Rattle.strokes.proofs.DirectionLaws.{ready}
-use Rattle.strokes.proofs.StepLaws.{work-band}
-use Rattle.strokes.proofs.Standing.{Standing, levels-turn, narrower, standing-turn, standing-last}
+use Rattle.strokes.proofs.Standing.{Standing}
 use Rattle.strokes.proofs.levels.mend_levels.Given as goal
 
 abbrev pub invariant-loop-left : goal.invariant-loop-left

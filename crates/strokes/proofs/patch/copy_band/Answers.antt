@@ -1,8 +1,7 @@
 -- `patch::copy_band` meets its contract: the patch of what is in reach. Assumes nothing.
-use mathlib.Core.Path.{◌≡◌, ap₂, ◌∙◌}
-use Prim.Native.Nat.{ℕ, ◌+◌, ◌-◌, ◌*◌, ◌/◌, ◌≤◌, ◌<◌}
+use mathlib.Core.Path.{ap₂}
+use Prim.Native.Nat.{ℕ, ◌+◌, ◌*◌}
 use native.Mathlib.Omega.{arith}
-use lib.ListN.{length}
 use Rattle.numbers.specs.Signal.{at}
 use Rattle.strokes.proofs.BandLaws.{reaches, band-asked, band-called, first-row, row-fits, place-fits, across-in}
 use Rattle.strokes.proofs.patch.copy_band.Goals as goal

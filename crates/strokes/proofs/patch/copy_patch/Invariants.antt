@@ -1,14 +1,11 @@
 -- `patch::copy_patch` meets its contract: a pass over the rows of the patch. Assumes nothing.
-use mathlib.Core.Path.{◌≡◌, refl, ◌∙◌}
+use mathlib.Core.Path.{◌≡◌}
 use Prim.Native.Nat.{ℕ, ◌+◌, ◌-◌, ◌*◌, ◌≤◌, ◌<◌}
-use native.Mathlib.Nat.{mul-le-mul_left}
 use lib.ListN.{length}
 use Rattle.numbers.specs.Signal.{at}
 use Rattle.wavelet.specs.Plane.{cells}
-use Rattle.map_levels.proofs.GridSweep.{RowSwept, start, finish}
+use Rattle.map_levels.proofs.GridSweep.{RowSwept}
 use Rattle.strokes.specs.Local.{patch_copied, patch}
-use Rattle.strokes.proofs.PatchLaws.{patch-above, patch-below, patch-turn}
-use native.Mathlib.Omega.{arith}
 use Rattle.strokes.proofs.patch.copy_patch.Given as goal
 
 abbrev pub invariant-loop-i : goal.invariant-loop-i

@@ -1,7 +1,6 @@
 -- `rectangle::lies-in` meets its contract: both tests. Assumes nothing.
 use Rattle.strokes.specs.Strokes.{lies_in}
 use Rattle.strokes.proofs.CallLaws.{both_first, both-none}
-use borrow.Author.Rules.{rules}
 use Rattle.strokes.proofs.rectangle.lies_in.Goals as goal
 
 pub returns-then-stretch_in : goal.returns-then-stretch_in

@@ -1,14 +1,10 @@
 use Rattle.wavelet.specs.Plane.{cells}
-use mathlib.Core.Path.{◌≡◌, refl, ◌∙◌}
-use Prim.Native.Nat.{◌+◌, ◌-◌, ◌*◌, ◌/◌, ◌^◌, ◌≤◌, ◌<◌}
+use mathlib.Core.Path.{refl, ◌∙◌}
 use native.Mathlib.Omega.{arith}
 use lib.ListN.{length}
 use Rattle.numbers.specs.Signal.{at}
-use Rattle.wavelet.specs.Bands.{Grid}
-use Rattle.map_levels.specs.Passes.{Rows}
-use Rattle.map_levels.proofs.GridSweep.{RowSwept, rows-kept, few, start as start-rows, finish}
-use Rattle.strokes.specs.Local.{columns_done}
-use Rattle.strokes.proofs.ColumnTurns.{rows_done, turn, rows_before, rows-after, one-row, done-past}
+use Rattle.map_levels.proofs.GridSweep.{rows-kept, few, start as start-rows, finish}
+use Rattle.strokes.proofs.ColumnTurns.{turn, rows_before, rows-after, one-row, done-past}
 use Rattle.strokes.proofs.window.lift_columns.Goals as goal
 
 pub returns-then-height-lt2 : goal.returns-then-height-lt2

@@ -1,15 +1,13 @@
 -- `window::lift_columns` meets its contract: a pair of rows a turn. Assumes nothing.
-use Rattle.wavelet.specs.Plane.{cells}
-use mathlib.Core.Path.{◌≡◌, refl, ◌∙◌}
-use Prim.Native.Nat.{◌+◌, ◌-◌, ◌*◌, ◌/◌, ◌^◌, ◌≤◌, ◌<◌}
-use native.Mathlib.Omega.{arith}
+use mathlib.Core.Path.{◌≡◌}
+use Prim.Native.Nat.{◌-◌, ◌/◌, ◌^◌, ◌≤◌, ◌<◌}
 use lib.ListN.{length}
 use Rattle.numbers.specs.Signal.{at}
 use Rattle.wavelet.specs.Bands.{Grid}
 use Rattle.map_levels.specs.Passes.{Rows}
-use Rattle.map_levels.proofs.GridSweep.{RowSwept, rows-kept, few, start as start-rows, finish}
+use Rattle.map_levels.proofs.GridSweep.{RowSwept}
 use Rattle.strokes.specs.Local.{columns_done}
-use Rattle.strokes.proofs.ColumnTurns.{rows_done, turn, rows_before, rows-after, one-row, done-past}
+use Rattle.strokes.proofs.ColumnTurns.{rows_done}
 use Rattle.strokes.proofs.window.lift_columns.Given as goal
 
 abbrev pub invariant-loop-n : goal.invariant-loop-n

@@ -3,7 +3,6 @@ use lib.ListN.{length}
 use Rattle.numbers.specs.Signal.{at}
 use native.Mathlib.Omega.{arith}
 use Rattle.strokes.proofs.CallLaws.{last-yes, last-no}
-use borrow.Author.Rules.{rules}
 use Rattle.strokes.proofs.window.lift_last.Goals as goal
 
 pub returns-then-n-height : goal.returns-then-n-height

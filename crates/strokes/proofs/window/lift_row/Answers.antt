@@ -7,7 +7,6 @@ use borrow.Author.Tests.{le-leb}
 use Rattle.numbers.specs.Signal.{at}
 use Rattle.areas.proofs.AreaLaws.{did}
 use Rattle.strokes.proofs.RowCalls.{forward-through, row-left, row-used}
-use borrow.Author.Rules.{rules}
 use Rattle.strokes.proofs.window.lift_row.Goals as goal
 
 pub returns-then-not-used : goal.returns-then-not-used

@@ -1,12 +1,9 @@
-use mathlib.Core.Path.{◌≡◌, refl, sym, ◌∙◌}
-use Prim.Native.Nat.{◌+◌, ◌-◌, ◌*◌, ◌^◌, ◌≤◌}
+use mathlib.Core.Path.{refl, sym, ◌∙◌}
+use Prim.Native.Nat.{◌+◌, ◌-◌, ◌*◌, ◌≤◌}
 use native.Mathlib.Omega.{arith}
 use lib.ListN.{length}
-use Rattle.numbers.specs.Signal.{at}
 use Rattle.wavelet.specs.Limits.{max_width}
-use Rattle.wavelet.specs.Plane.{cells}
-use Rattle.map_levels.proofs.GridSweep.{Passed, pass-start, pass-room, pass-end, row-length}
-use Rattle.strokes.specs.Local.{rows_done}
+use Rattle.map_levels.proofs.GridSweep.{pass-start, pass-room, pass-end, row-length}
 use Rattle.strokes.proofs.RowCalls.{used_turn, rows-past}
 use Rattle.strokes.proofs.window.lift_rows.Goals as goal
 

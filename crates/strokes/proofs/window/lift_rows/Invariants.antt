@@ -1,14 +1,12 @@
 -- `window::lift_rows` meets its contract: a pass over the rows, each lent as a part. Assumes nothing.
-use mathlib.Core.Path.{◌≡◌, refl, sym, ◌∙◌}
-use Prim.Native.Nat.{◌+◌, ◌-◌, ◌*◌, ◌^◌, ◌≤◌}
-use native.Mathlib.Omega.{arith}
+use mathlib.Core.Path.{◌≡◌}
+use Prim.Native.Nat.{◌+◌, ◌-◌, ◌^◌, ◌≤◌}
 use lib.ListN.{length}
 use Rattle.numbers.specs.Signal.{at}
 use Rattle.wavelet.specs.Limits.{max_width}
 use Rattle.wavelet.specs.Plane.{cells}
-use Rattle.map_levels.proofs.GridSweep.{Passed, pass-start, pass-room, pass-end, row-length}
+use Rattle.map_levels.proofs.GridSweep.{Passed}
 use Rattle.strokes.specs.Local.{rows_done}
-use Rattle.strokes.proofs.RowCalls.{used_turn, rows-past}
 use Rattle.strokes.proofs.window.lift_rows.Given as goal
 
 abbrev pub invariant-loop-r : goal.invariant-loop-r

@@ -2,7 +2,6 @@
 use mathlib.Core.Path.{◌∙◌}
 use lib.ListN.{length}
 use Rattle.strokes.proofs.CallLaws.{turn-lifted}
-use borrow.Author.Rules.{rules}
 use Rattle.strokes.proofs.window.lift_turn.Goals as goal
 
 pub returns : goal.returns

@@ -1,5 +1,5 @@
 -- `window::load` meets its contract: the patch of the window that is read. Assumes nothing.
-use mathlib.Core.Path.{◌≡◌, refl, ap₂}
+use mathlib.Core.Path.{refl, ap₂}
 use Prim.Native.Nat.{ℕ, ◌+◌, ◌-◌}
 use native.Mathlib.Omega.{arith}
 use Rattle.areas.specs.Areas.{heights_at}

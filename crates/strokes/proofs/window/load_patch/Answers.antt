@@ -1,12 +1,10 @@
-use mathlib.Core.Path.{◌≡◌, refl, ◌∙◌}
-use Prim.Native.Nat.{ℕ, ◌+◌, ◌-◌, ◌*◌, ◌≤◌, ◌<◌}
+use mathlib.Core.Path.{refl, ◌∙◌}
+use Prim.Native.Nat.{◌+◌, ◌*◌, ◌≤◌}
 use native.Mathlib.Nat.{mul-le-mul_left}
 use lib.ListN.{length}
 use Rattle.numbers.specs.Signal.{at}
 use Rattle.areas.specs.Areas.{heights_at}
-use Rattle.wavelet.specs.Plane.{cells}
-use Rattle.map_levels.proofs.GridSweep.{RowSwept, start, finish}
-use Rattle.strokes.specs.Local.{patch_copied, patch}
+use Rattle.map_levels.proofs.GridSweep.{start, finish}
 use Rattle.strokes.proofs.PatchLaws.{patch-above, patch-below, patch-turn}
 use native.Mathlib.Omega.{arith}
 use Rattle.strokes.proofs.window.load_patch.Goals as goal

@@ -1,8 +1,7 @@
-use Prim.Native.Nat.{◌+◌, ◌-◌, ◌≤◌}
+use Prim.Native.Nat.{◌+◌}
 use native.Mathlib.Omega.{arith}
-use lib.ListN.{length, get_or}
-use Rattle.numbers.specs.Signal.{at, spliced}
-use Rattle.numbers.proofs.Sweep.{Swept, start, finish}
+use lib.ListN.{get_or}
+use Rattle.numbers.proofs.Sweep.{start, finish}
 use Rattle.numbers.proofs.Parts.{splice-below, splice-past}
 use Rattle.areas.proofs.PartLaws.{splice-turn}
 use Rattle.areas.specs.Areas.{heights_at}

@@ -1,13 +1,9 @@
 -- `window::load_to` meets its contract: a sweep over the places written. Assumes nothing.
 use Prim.Native.Nat.{◌+◌, ◌-◌, ◌≤◌}
-use native.Mathlib.Omega.{arith}
-use lib.ListN.{length, get_or}
+use lib.ListN.{length}
 use Rattle.numbers.specs.Signal.{at, spliced}
-use Rattle.numbers.proofs.Sweep.{Swept, start, finish}
-use Rattle.numbers.proofs.Parts.{splice-below, splice-past}
-use Rattle.areas.proofs.PartLaws.{splice-turn}
+use Rattle.numbers.proofs.Sweep.{Swept}
 use Rattle.areas.specs.Areas.{heights_at}
-use Rattle.areas.proofs.HeightLaws.{height-fits, height-read}
 use Rattle.strokes.proofs.window.load_to.Given as goal
 
 abbrev pub invariant-loop-i : goal.invariant-loop-i

@@ -1,7 +1,6 @@
 -- `window::row_after` meets its contract. Assumes nothing.
 use native.Mathlib.Omega.{arith}
 use Rattle.strokes.proofs.CallLaws.{after-in, after-end}
-use borrow.Author.Rules.{rules}
 use Rattle.strokes.proofs.window.row_after.Goals as goal
 
 pub overflow_add-n : goal.overflow_add-n
