@@ -39,7 +39,6 @@ use Rattle.listing.specs.Parts.{no_line}
 use Rattle.listing.specs.declared.line.Line.{Line}
 use Rattle.listing.specs.Moves.{Idle, Move, partly, wholly, read_byte, takes, busy_on}
 use Rattle.listing.proofs.ListingTheorem.{moves-prefix, moves-whole, moves-partly}
-use Rattle.rounds.specs.Machine.{Machine}
 use Rattle.rounds.specs.Rounds.{most_rounds, over, failed, ends, Rounds, Ran, Run, before, after}
 use Rattle.rounds.specs.declared.round.Outcome.{Outcome}
 use Rattle.rounds.proofs.RoundLaws.{over-at}

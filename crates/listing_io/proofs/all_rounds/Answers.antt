@@ -1,10 +1,6 @@
 use native.Mathlib.Omega.{arith}
-use mathlib.Core.Path.{◌≡◌, refl, sym, ap₂, ◌∙◌}
-use lib.ListN.{length}
-use borrow.Author.Rules.{rules}
-use Rattle.numbers.specs.Signal.{at}
-use Rattle.listing.specs.States.{state_of}
-use Rattle.rounds.proofs.RoundLaws.{Looped, looped-start, looped-on, looped-stop, false-true}
+use mathlib.Core.Path.{refl, sym, ap₂, ◌∙◌}
+use Rattle.rounds.proofs.RoundLaws.{looped-start, looped-on, looped-stop, false-true}
 use Rattle.listing_io.specs.Listed.{listing_machine}
 use Rattle.listing_io.proofs.all_rounds.Goals as goal
 

@@ -1,11 +1,9 @@
 -- `listing_io::all_rounds`: each turn of the loop is a round, and the measure is the number of turns left. Assumes nothing.
-use native.Mathlib.Omega.{arith}
-use mathlib.Core.Path.{◌≡◌, refl, sym, ap₂, ◌∙◌}
+use mathlib.Core.Path.{◌≡◌}
 use lib.ListN.{length}
-use borrow.Author.Rules.{rules}
 use Rattle.numbers.specs.Signal.{at}
 use Rattle.listing.specs.States.{state_of}
-use Rattle.rounds.proofs.RoundLaws.{Looped, looped-start, looped-on, looped-stop, false-true}
+use Rattle.rounds.proofs.RoundLaws.{Looped}
 use Rattle.listing_io.specs.Listed.{listing_machine}
 use Rattle.listing_io.proofs.all_rounds.Given as goal
 

@@ -8,7 +8,6 @@ use Rattle.wavelet.specs.Store.{widths, store_length}
 use Rattle.filters.specs.Filters.{filter_of}
 use Rattle.pgm.specs.Limits.{max_picture_width}
 use Rattle.listing_io.proofs.RunLaws.{listed-is}
-use borrow.Author.Rules.{rules}
 use Rattle.listing_io.proofs.list.Goals as goal
 
 pub returns : goal.returns

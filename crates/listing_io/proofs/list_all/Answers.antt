@@ -1,5 +1,5 @@
 -- `listing_io::list_all`: the rounds, and those after the end, as the definition has them. Assumes nothing.
-use mathlib.Core.Path.{refl, sym, ap₂, ◌∙◌}
+use mathlib.Core.Path.{sym, ap₂, ◌∙◌}
 use Rattle.rounds.proofs.RoundLaws.{run-before, run-after}
 use Rattle.listing_io.specs.Listed.{listing_machine}
 use Rattle.listing_io.proofs.RunLaws.{same-areas, ended_is}

@@ -1,6 +1,5 @@
 -- `listing_io::turn` is `feed` on what is left. Assumes nothing.
 use Rattle.descriptors.specs.Left.{left_in}
-use borrow.Author.Rules.{rules}
 use Rattle.listing_io.proofs.turn.Goals as goal
 
 pub slice_bounds-feed-count : goal.slice_bounds-feed-count
