@@ -1,6 +1,5 @@
 -- `loader_state::is_loader` meets its contract: its tests in turn. Assumes nothing.
 use mathlib.Core.Path.{◌∙◌}
-use borrow.Author.Rules.{rules}
 use Rattle.states.proofs.StateLaws.{loader-kind, loader-flag, loader-rest}
 use Rattle.states.proofs.loader_state.is_loader.Goals as goal
 

@@ -1,6 +1,5 @@
 -- `loader_state::pack_loaded` meets its contract: what the answer says, in its three cases. Assumes nothing.
 use mathlib.Core.Path.{sym, ap, ◌∙◌}
-use borrow.Author.Rules.{rules}
 use Rattle.ground_loader.specs.declared.loader.Loaded.{Loaded}
 use Rattle.ground_loader.specs.LoaderAnswers.{of_loaded}
 use Rattle.states.specs.LoaderAnswers.{taken_number, loaded_words, taken_of}

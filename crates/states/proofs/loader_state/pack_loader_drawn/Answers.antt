@@ -1,6 +1,5 @@
 -- `loader_state::pack_loader_drawn` meets its contract: what the answer says, in its four cases. Assumes nothing.
 use mathlib.Core.Path.{sym, ap, ◌∙◌}
-use borrow.Author.Rules.{rules}
 use Rattle.ground_loader.specs.declared.loader.LoaderDrawn.{LoaderDrawn}
 use Rattle.ground_loader.specs.LoaderAnswers.{of_drawn}
 use Rattle.states.specs.LoaderAnswers.{drawn_number, drawn_words, drawn_of}

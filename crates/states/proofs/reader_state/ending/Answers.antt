@@ -1,6 +1,4 @@
 -- `reader_state::ending` meets its contract: the two cases. Assumes nothing.
-use mathlib.Core.Path.{sym, ap}
-use Rattle.numbers.specs.Signal.{pick}
 use Rattle.states.proofs.reader_state.ending.Goals as goal
 
 pub returns-then-ended : goal.returns-then-ended

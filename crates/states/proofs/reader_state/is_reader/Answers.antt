@@ -1,6 +1,5 @@
 -- `reader_state::is_reader` meets its contract: its tests in turn. Assumes nothing.
 use mathlib.Core.Path.{sym, ◌∙◌}
-use borrow.Author.Rules.{rules}
 use Rattle.states.proofs.StateLaws.{no_kind, no_flag, rest-left}
 use Rattle.states.proofs.reader_state.is_reader.Goals as goal
 

@@ -1,6 +1,5 @@
 -- `reader_state::pack_drawn` meets its contract: what the answer says, in its four cases. Assumes nothing.
 use mathlib.Core.Path.{sym, ap, ◌∙◌}
-use borrow.Author.Rules.{rules}
 use Rattle.reader.specs.declared.Drawn.{Drawn}
 use Rattle.reader.specs.Answers.{number, of_drawn}
 use Rattle.states.specs.ReaderAnswers.{handed_words, count_of}

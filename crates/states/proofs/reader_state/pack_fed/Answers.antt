@@ -1,6 +1,5 @@
 -- `reader_state::pack_fed` meets its contract: what the answer says, in its three cases. Assumes nothing.
 use mathlib.Core.Path.{sym, ap, ◌∙◌}
-use borrow.Author.Rules.{rules}
 use Rattle.reader.specs.declared.Fed.{Fed}
 use Rattle.reader.specs.Answers.{number, of_fed}
 use Rattle.states.specs.ReaderAnswers.{fed_words}

@@ -1,6 +1,5 @@
 -- `reader_state::pack_ran` meets its contract: what the answer says, in its two cases. Assumes nothing.
 use mathlib.Core.Path.{sym, ap, ◌∙◌}
-use borrow.Author.Rules.{rules}
 use Rattle.reader.specs.declared.runs.Ran.{Ran}
 use Rattle.reader.specs.Runs.{of_ran}
 use Rattle.states.specs.ReaderAnswers.{ran_number, ran_words, counts_of}

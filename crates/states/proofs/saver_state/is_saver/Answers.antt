@@ -1,6 +1,5 @@
 -- `saver_state::is_saver` meets its contract: its tests in turn. Assumes nothing.
 use mathlib.Core.Path.{◌∙◌}
-use borrow.Author.Rules.{rules}
 use Rattle.states.proofs.StateLaws.{saver-kind, saver-across, saver-down, saver-filter, saver-rest}
 use Rattle.states.proofs.saver_state.is_saver.Goals as goal
 

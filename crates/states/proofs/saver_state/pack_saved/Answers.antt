@@ -1,6 +1,5 @@
 -- `saver_state::pack_saved` meets its contract: what the answer says, in its two cases. Assumes nothing.
 use mathlib.Core.Path.{refl, sym, ◌∙◌}
-use borrow.Author.Rules.{rules}
 use Rattle.states.proofs.StateLaws.{saved-no, saved-yes}
 use Rattle.states.proofs.saver_state.pack_saved.Goals as goal
 

@@ -1,6 +1,5 @@
 -- `turns_state::is_turns` meets its contract: its tests in turn. Assumes nothing.
 use mathlib.Core.Path.{refl}
-use borrow.Author.Rules.{rules}
 use borrow.Author.Tests.{eq-eqb, ne_eqb}
 use lib.ListN.{get_or}
 use Rattle.states.specs.TurnsState.{is_turns}

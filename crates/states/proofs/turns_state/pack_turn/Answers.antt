@@ -1,6 +1,5 @@
 -- `turns_state::pack_turn` meets its contract: what the answer says, in its three cases. Assumes nothing.
 use mathlib.Core.Path.{sym, ap, ◌∙◌}
-use borrow.Author.Rules.{rules}
 use Rattle.turns.specs.declared.Turn.{Turn}
 use Rattle.turns.specs.Answers.{of_turn}
 use Rattle.states.specs.WriterAnswers.{number}

@@ -1,6 +1,5 @@
 -- `writer_state::is_writer` meets its contract: its tests in turn. Assumes nothing.
 use mathlib.Core.Path.{sym, ◌∙◌}
-use borrow.Author.Rules.{rules}
 use Rattle.states.proofs.StateLaws.{no_kind, no_flag, rest-left}
 use Rattle.states.proofs.writer_state.is_writer.Goals as goal
 

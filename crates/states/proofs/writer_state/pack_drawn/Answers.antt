@@ -1,6 +1,5 @@
 -- `writer_state::pack_drawn` meets its contract: what the answer says, in its three cases. Assumes nothing.
 use mathlib.Core.Path.{sym, ap}
-use borrow.Author.Rules.{rules}
 use Rattle.writer.specs.declared.Drawn.{Drawn}
 use Rattle.writer.specs.Answers.{of_drawn}
 use Rattle.states.specs.WriterAnswers.{number, handed_words, row_of}

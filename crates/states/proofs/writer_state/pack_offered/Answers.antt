@@ -1,6 +1,5 @@
 -- `writer_state::pack_offered` meets its contract: what the answer says, in its two cases. Assumes nothing.
 use mathlib.Core.Path.{sym, ap}
-use borrow.Author.Rules.{rules}
 use Rattle.writer.specs.declared.Offered.{Offered}
 use Rattle.writer.specs.Answers.{of_offered}
 use Rattle.states.specs.WriterAnswers.{number, took_words, taken_of}

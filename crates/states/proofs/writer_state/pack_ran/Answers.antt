@@ -1,6 +1,5 @@
 -- `writer_state::pack_ran` meets its contract: what the answer says, in its two cases. Assumes nothing.
 use mathlib.Core.Path.{sym, ap, ◌∙◌}
-use borrow.Author.Rules.{rules}
 use Rattle.writer.specs.declared.runs.Ran.{Ran}
 use Rattle.writer.specs.Runs.{of_ran}
 use Rattle.states.specs.WriterAnswers.{number, ran_words, counts_of}
