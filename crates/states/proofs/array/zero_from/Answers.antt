@@ -1,10 +1,5 @@
-use mathlib.Core.Path.{◌≡◌, refl, sym, ◌∙◌}
-use mathlib.Core.Logic.{⊎_elim}
-use Prim.Native.Nat.{◌-◌}
+use mathlib.Core.Path.{refl, sym, ◌∙◌}
 use native.Mathlib.Omega.{arith}
-use borrow.Author.Rules.{rules}
-use Rattle.numbers.specs.Signal.{both}
-use Rattle.states.specs.States.{zero_from}
 use Rattle.states.proofs.StateLaws.{zero_same, zero-lost, zero-end}
 use Rattle.states.proofs.array.zero_from.Goals as goal
 use Rattle.states.proofs.array.zero_from.Goals.{then-s-i-ne0, else-s-i-ne0}
