@@ -25,10 +25,6 @@ whole q a d g h x y z =
     let w = z.whole (omega (arith, u.place, v.place, wrote-size u, wrote-size v)) in
     wrote_on u (wrote_on v w)
 
--- NO GOAL slice-aggregate-put-bytes
--- slice-aggregate-put-bytes : tie.Need-slice-aggregate-put-bytes
--- slice-aggregate-put-bytes c = search rules
-
 pub overflow_add-digits : goal.overflow_add-digits
 overflow_add-digits c = omega (arith, c.digits.ensures, twenty c.args.number c.ranges.number.fits)
 
