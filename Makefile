@@ -1,6 +1,6 @@
 # Builds and installs the library for programs and the command `terrain` for people. It needs no network.
 #   make                             compiles library and command in a minute or two, into target/quick; the proofs are not repeated
-#   make prove                       repeats the proofs, about 10 minutes on two cores, and compiles what they prove
+#   make prove                       repeats the proofs, and compiles what they prove
 #   make install PREFIX=/usr/local   from proved code only: header, archive, pkg-config file, CMake package, command, man page and shell completion;
 #                                    below DESTDIR, if that is set
 #   make install-library PREFIX=..   the same without command, man page and completion: no compiler and no listing program is needed for it
@@ -60,7 +60,7 @@ target/quick/libterrain.a: $(SOURCES) crates.txt $(wildcard tools/quick/*)
 	@printf 'terrain: compiling, once .. ' >&2
 	@tools/quick/compile target/quick terrain_c list rewrite
 	@touch $@
-	@echo "compiled; \`make prove\` repeats the proofs, about 10 minutes" >&2
+	@echo "compiled; \`make prove\` repeats the proofs" >&2
 
 $(BUILT)/terrain: $(QUICK)/libterrain.a $(COMMAND) $(COMMAND_PARTS) $(if $(TERRAIN_LIB),always)
 	@mkdir -p $(BUILT)
