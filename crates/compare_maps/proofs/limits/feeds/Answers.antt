@@ -1,4 +1,4 @@
-use Rattle.std.proofs.Common.{◌≡◌, ◌-◌, length, arith, rules}
+use Rattle.std.proofs.Common.{arith}
 use Rattle.compare_maps.proofs.limits.feeds.Goals as goal
 
 pub overflow_add-i : goal.overflow_add-i

@@ -1,5 +1,5 @@
 -- `compare_maps::limits::feeds` is safe and ends. In the loop the area keeps its length. Assumes nothing.
-use Rattle.std.proofs.Common.{◌≡◌, ◌-◌, length, arith, rules}
+use Rattle.std.proofs.Common.{◌≡◌, ◌-◌, length}
 use Rattle.compare_maps.proofs.limits.feeds.Given as goal
 
 abbrev pub invariant-loop-i : goal.invariant-loop-i

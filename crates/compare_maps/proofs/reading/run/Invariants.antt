@@ -1,5 +1,5 @@
 -- `compare_maps::reading::run` is safe and ends: the maps are counted up. Assumes nothing.
-use Rattle.std.proofs.Common.{◌-◌, arith}
+use Rattle.std.proofs.Common.{◌-◌}
 use Rattle.compare_maps.proofs.reading.run.Given as goal
 
 abbrev pub invariant-loop-i : goal.invariant-loop-i

@@ -1,4 +1,4 @@
-use Rattle.std.proofs.Common.{◌≡◌, ◌-◌, length, arith, rules}
+use Rattle.std.proofs.Common.{arith}
 use Rattle.compare_writer.proofs.writing.cuts.Goals as goal
 
 pub overflow_add-cut : goal.overflow_add-cut

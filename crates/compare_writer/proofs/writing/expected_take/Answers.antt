@@ -1,4 +1,4 @@
-use Rattle.std.proofs.Common.{◌-◌, arith, rules}
+use Rattle.std.proofs.Common.{arith}
 use Rattle.compare_writer.proofs.writing.expected_take.Goals as goal
 
 pub overflow_add-k : goal.overflow_add-k

@@ -1,5 +1,5 @@
 -- `compare_writer::writing::expected_take` is safe and ends. In the loop nothing is asked. Assumes nothing.
-use Rattle.std.proofs.Common.{◌-◌, arith, rules}
+use Rattle.std.proofs.Common.{◌-◌}
 use Rattle.compare_writer.proofs.writing.expected_take.Given as goal
 
 abbrev pub invariant-loop-k : goal.invariant-loop-k

@@ -1,4 +1,4 @@
-use Rattle.std.proofs.Common.{◌-◌, arith}
+use Rattle.std.proofs.Common.{arith}
 use Rattle.compare_writer.proofs.writing.run.Goals as goal
 
 pub overflow_add-i : goal.overflow_add-i

@@ -1,5 +1,5 @@
 -- `compare_writer::writing::run` is safe and ends: the maps are counted up. Assumes nothing.
-use Rattle.std.proofs.Common.{◌-◌, arith}
+use Rattle.std.proofs.Common.{◌-◌}
 use Rattle.compare_writer.proofs.writing.run.Given as goal
 
 abbrev pub invariant-loop-i : goal.invariant-loop-i

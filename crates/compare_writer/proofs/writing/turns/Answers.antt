@@ -1,4 +1,4 @@
-use Rattle.std.proofs.Common.{◌≡◌, length, arith, rules}
+use Rattle.std.proofs.Common.{arith}
 use Rattle.compare_writer.proofs.writing.turns.Goals as goal
 
 pub overflow_sub-left : goal.overflow_sub-left

@@ -1,5 +1,5 @@
 -- `compare_writer::writing::turns` is safe and ends. In the loop the areas keep their lengths. Assumes nothing.
-use Rattle.std.proofs.Common.{◌≡◌, length, arith, rules}
+use Rattle.std.proofs.Common.{◌≡◌, length}
 use Rattle.compare_writer.proofs.writing.turns.Given as goal
 
 abbrev pub invariant-loop-left : goal.invariant-loop-left
