@@ -28,13 +28,13 @@ PROGRAMS := $(or $(TERRAIN_LIB),target/bin)
 VERSION := $(shell sed -n 's/^\#define TERRAIN_VERSION_TEXT "\(.*\)"$$/\1/p' include/terrain.h)
 
 # The command; with TERRAIN_LIB its programs list and rewrite are taken from there too. PNG goes by libpng where it is installed (LIBPNG= builds without it):
-# the sources then differ in one file.
+# the sources then differ in two files. zlib's deflate comes with it.
 LIBPNG ?= $(shell pkg-config --exists libpng 2>/dev/null && echo yes)
-PNG := $(if $(LIBPNG),png_libpng,png_stored)
-COMMAND := $(filter-out command/png_%,$(wildcard command/*.c)) command/$(PNG).c
+PNG := $(if $(LIBPNG),png_libpng pack_deflate,png_stored pack_none)
+COMMAND := $(filter-out command/png_% command/pack_%,$(wildcard command/*.c)) $(PNG:%=command/%.c)
 COMMAND_PARTS := $(wildcard command/*.h examples/*.h) include/terrain.h Makefile
 COMMAND_FLAGS = -std=c11 -D_GNU_SOURCE -O2 -Wall -Wextra -Wshadow -I include $(if $(LIBPNG),$(shell pkg-config --cflags libpng))
-COMMAND_LIBS = $(if $(LIBPNG),$(shell pkg-config --libs libpng)) -lm
+COMMAND_LIBS = $(if $(LIBPNG),$(shell pkg-config --libs libpng) -lz) -lm
 # What the crates are compiled from, and what they are proved from.
 SOURCES := $(shell find crates -name '*.rt' -path '*/src/*')
 CRATES := crates.txt $(shell find crates \( -path '*/must-fail' -o -path '*/out' \) -prune -o -type f -print)

@@ -1,44 +1,35 @@
-// The ground file beside what people use for ground today, by hand, in one run: ns of processor time a height to write and to read back, bits a height, and the
-// memory that reading takes beside file and heights. One thread; every height is compared. Reads go in turn, so that they share the machine's noise:
-// believe the ratios. bench/codecs builds it with the libraries that are installed (WITH_..) and runs it.
+// The library beside what people use for ground today, by hand, in one run: ns a height to write and to read back, bits a height, and the memory that reading
+// takes beside file and heights. One thread; every height is compared. The reads go in turn, so that they share the machine's noise: believe the ratios.
+//     apt-get install libopenjp2-7-dev libopenjph-dev liblerc-dev libzstd-dev libpng-dev
+//     From the top of the repository: bench/codecs [FILE.pgm [ROUNDS]]
+#include <Lerc_c_api.h>
+#include <openjpeg.h>
 #include <malloc.h>
 #include <png.h>
-#ifdef WITH_ZSTD
-#include <zstd.h>
-#endif
-#ifdef WITH_LERC
-#include <Lerc_c_api.h>
-#endif
-#ifdef WITH_CHARLS
-#include <charls/charls.h>
-#endif
-#ifdef WITH_OPENJPEG
-#include <openjpeg.h>
-#endif
-#ifdef WITH_OPENJPH
 // in this order: they lean on each other
 #include <openjph/ojph_mem.h>
 #include <openjph/ojph_file.h>
 #include <openjph/ojph_codestream.h>
 #include <openjph/ojph_params.h>
-#endif
+#include <openjph/ojph_version.h>
 #include <sys/resource.h>
 #include <sys/wait.h>
 #include <unistd.h>
 
 #include <algorithm>
-#include <ctime>
+#include <chrono>
 #include <functional>
 #include <string>
 #include <vector>
 
-#include "../examples/ground.h"
+#include "../examples/compressed.h"
 #include "../examples/pgm.h"
 
 using Bytes = std::vector<uint8_t>;
 
 static Pgm map;                      // what is written
 static std::vector<uint16_t> again;  // what is read back
+static const char *const packed_file = "target/bench/codecs.zst";
 
 static size_t count() { return map.width * map.height; }
 
@@ -48,113 +39,76 @@ static size_t count() { return map.width * map.height; }
     exit(1);
 }
 
-// Bytes in memory, read from their front on.
-struct At {
-    const uint8_t *next, *end;
-    explicit At(const Bytes &bytes) : next(bytes.data()), end(bytes.data() + bytes.size()) {}
-};
+// ---- the library: its coefficients as they are, in the reader's order, and packed as examples/compressed.h does
 
-// ---- the ground file: map to plane, plane to bytes; bytes to heights
-
-static int put_bytes(void *to, const uint8_t *bytes, size_t n)
+static int put_bytes(void *to, const int32_t *row, size_t length)
 {
-    static_cast<Bytes *>(to)->insert(static_cast<Bytes *>(to)->end(), bytes, bytes + n);
+    const uint8_t *first = reinterpret_cast<const uint8_t *>(row);
+    static_cast<Bytes *>(to)->insert(static_cast<Bytes *>(to)->end(), first, first + 4 * length);
     return 1;
 }
 
-static Bytes ground_write()
+static Bytes terrain_write()
 {
+    std::vector<int32_t> plane(count());
     Bytes bytes;
-    bytes.reserve(2 * count());
-    if (save_map(put_bytes, &bytes, map.heights, terrain_shape_of(map.width, map.height, 5), 1)) failed("saving");
+    bytes.reserve(4 * count() + 64);
+    if (write_plane(map.heights, map.width, map.height, 5, plane.data())) failed("writing");
+    if (save_plane(put_bytes, &bytes, plane.data(), map.width, map.height, 5, 1)) failed("saving");
     return bytes;
 }
 
-// What a reader of files has at hand is lent whole; height rows go straight to where they are wanted.
-static void ground_read(const Bytes &bytes)
-{
-    uint64_t header[7], state[TERRAIN_LOADER_LENGTH];
-    if (terrain_file_header(bytes.data(), bytes.size(), header)) failed("the header");
-    terrain_shape shape = terrain_header_shape(header);
-    std::vector<int32_t> store(terrain_reader_store_length(shape)), row((shape.width + 1) / 2);
-    uint32_t no = terrain_load_set_up(state, shape, static_cast<size_t>(header[6]), store.data(), store.size()), want = TERRAIN_WANT_BYTES;
-    size_t at = 0, to = 0, done = 0;
-    while (!no && !(no = terrain_load_want(state, &want)) && want <= TERRAIN_WANT_DRAW) {
-        if (want == TERRAIN_WANT_BYTES) {
-            no = terrain_load_take(state, store.data(), store.size(), row.data(), row.size(), bytes.data() + at, bytes.size() - at, &done);
-            at += done;
-        } else {
-            no = terrain_load_draw(state, store.data(), store.size(), &again[to], shape.width, &done);
-            to += done;
-        }
-    }
-    if (no || want != TERRAIN_WANT_DONE) failed("loading");
-}
-
-// ---- zstd: over the ground file, and over each row's differences, their low bytes before their high ones
-
-#ifdef WITH_ZSTD
-static Bytes packed(const Bytes &bytes, int effort)
-{
-    Bytes out(ZSTD_compressBound(bytes.size()));
-    out.resize(ZSTD_compress(out.data(), out.size(), bytes.data(), bytes.size(), effort));
-    return out;
-}
-
-struct Unpacker {
-    ZSTD_DCtx *zstd;
-    ZSTD_inBuffer in;
+struct At {
+    const uint8_t *next;
 };
 
-static size_t get_packed(void *unpacker, uint8_t *bytes, size_t n)
+static int get_bytes(void *from, int32_t *row, size_t length)
 {
-    Unpacker *from = static_cast<Unpacker *>(unpacker);
-    ZSTD_outBuffer out = {bytes, n, 0};
-    while (out.pos < n && from->in.pos < from->in.size)
-        if (ZSTD_isError(ZSTD_decompressStream(from->zstd, &out, &from->in))) failed("zstd");
-    return out.pos;
+    memcpy(row, static_cast<At *>(from)->next, 4 * length);
+    static_cast<At *>(from)->next += 4 * length;
+    return 1;
 }
 
-static void ground_unpack(const Bytes &bytes)
+// The rows through a reader, straight to where the heights are wanted.
+static void read_rows(GetRow *get, void *from)
 {
-    Ground ground;
-    Unpacker from = {ZSTD_createDCtx(), {bytes.data(), bytes.size(), 0}};
-    if (load_map(get_packed, &from, 1 << 16, &ground)) failed("loading");
-    std::copy(ground.heights, ground.heights + count(), again.begin());
-    free(ground.heights);
-    ZSTD_freeDCtx(from.zstd);
+    uint64_t state[TERRAIN_STATE_LENGTH];
+    int32_t size[3];
+    if (!get(from, size, 3)) failed("loading");
+    terrain_shape shape = terrain_shape_of(static_cast<uint32_t>(size[0]), static_cast<uint32_t>(size[1]), static_cast<uint32_t>(size[2]));
+    std::vector<int32_t> store(terrain_store_length(shape)), run(shape.width);
+    if (terrain_reader_set_up(state, shape, store.data(), store.size())) failed("loading");
+    if (load_rows(get, from, shape.width, state, store.data(), store.size(), run.data(), again.data())) failed("loading");
 }
 
-static Bytes deltas_write(int effort)
+static void terrain_read(const Bytes &bytes)
 {
-    Bytes bytes(2 * count());
-    for (size_t y = 0; y < map.height; y++) {
-        const uint16_t *row = map.heights + y * map.width;
-        uint8_t *to = &bytes[2 * y * map.width];
-        for (size_t x = 0; x < map.width; x++) {
-            int16_t d = static_cast<int16_t>(row[x] - (x ? row[x - 1] : 0));
-            uint16_t z = static_cast<uint16_t>((d << 1) ^ (d >> 15));
-            to[x] = static_cast<uint8_t>(z), to[map.width + x] = static_cast<uint8_t>(z >> 8);
-        }
-    }
-    return packed(bytes, effort);
+    At from = {bytes.data()};
+    read_rows(get_bytes, &from);
 }
 
-static void deltas_read(const Bytes &bytes)
+static Bytes packed_write(int effort)
 {
-    Unpacker from = {ZSTD_createDCtx(), {bytes.data(), bytes.size(), 0}};
-    Bytes row(2 * map.width);
-    for (size_t y = 0; y < map.height; y++) {
-        uint16_t height = 0;
-        if (get_packed(&from, row.data(), row.size()) < row.size()) failed("zstd");
-        for (size_t x = 0; x < map.width; x++) {
-            uint16_t z = static_cast<uint16_t>(row[x] | row[map.width + x] << 8);
-            again[y * map.width + x] = height = static_cast<uint16_t>(height + ((z >> 1) ^ -(z & 1)));
-        }
-    }
-    ZSTD_freeDCtx(from.zstd);
+    if (write_compressed(packed_file, map.heights, map.width, map.height, 5, 1, effort)) failed("packing");
+    FILE *file = fopen(packed_file, "rb");
+    if (!file || fseek(file, 0, SEEK_END) != 0) failed("packing");
+    Bytes bytes(static_cast<size_t>(ftell(file))); // its length; it is read from the file
+    fclose(file);
+    return bytes;
 }
-#endif
+
+static void packed_read(const Bytes &)
+{
+    Unpacker *from = static_cast<Unpacker *>(calloc(1, sizeof *from));
+    from->zstd = ZSTD_createDCtx();
+    from->file = fopen(packed_file, "rb");
+    from->left = 1;
+    if (!from->file) failed("loading");
+    read_rows(get_packed, from);
+    fclose(from->file);
+    ZSTD_freeDCtx(from->zstd);
+    free(from);
+}
 
 // ---- PNG, 16 bits, by libpng
 
@@ -182,14 +136,13 @@ static Bytes png_write_map()
 static void png_get(png_structp png, png_bytep to, png_size_t length)
 {
     At *from = static_cast<At *>(png_get_io_ptr(png));
-    if (static_cast<size_t>(from->end - from->next) < length) png_error(png, "the end");
     memcpy(to, from->next, length);
     from->next += length;
 }
 
 static void png_read_map(const Bytes &bytes)
 {
-    At from(bytes);
+    At from = {bytes.data()};
     png_structp png = png_create_read_struct(PNG_LIBPNG_VER_STRING, nullptr, nullptr, nullptr);
     png_infop info = png_create_info_struct(png);
     png_set_read_fn(png, &from, png_get);
@@ -202,7 +155,6 @@ static void png_read_map(const Bytes &bytes)
 
 // ---- LERC, no error allowed
 
-#ifdef WITH_LERC
 static Bytes lerc_write()
 {
     Bytes bytes(4 * count() + 1024);
@@ -218,27 +170,9 @@ static void lerc_read(const Bytes &bytes)
     const int width = static_cast<int>(map.width), height = static_cast<int>(map.height);
     if (lerc_decode(bytes.data(), static_cast<unsigned>(bytes.size()), 0, nullptr, 1, width, height, 1, 3, again.data())) failed("LERC");
 }
-#endif
-
-// ---- JPEG-LS, lossless, by CharLS
-
-#ifdef WITH_CHARLS
-static Bytes jpegls_write()
-{
-    charls::jpegls_encoder encoder;
-    encoder.frame_info({static_cast<uint32_t>(map.width), static_cast<uint32_t>(map.height), 16, 1});
-    Bytes bytes(encoder.estimated_destination_size());
-    encoder.destination(bytes);
-    bytes.resize(encoder.encode(map.heights, 2 * count()));
-    return bytes;
-}
-
-static void jpegls_read(const Bytes &bytes) { charls::jpegls_decoder(bytes, true).decode(again); }
-#endif
 
 // ---- OpenJPEG: JPEG 2000, reversible 5/3, 5 levels
 
-#ifdef WITH_OPENJPEG
 struct Memory {
     Bytes *bytes;
     size_t at;
@@ -335,11 +269,9 @@ static void openjpeg_read(const Bytes &bytes)
     opj_destroy_codec(codec);
     opj_image_destroy(image);
 }
-#endif
 
 // ---- OpenJPH: high-throughput JPEG 2000, reversible 5/3, 5 levels, row by row
 
-#ifdef WITH_OPENJPH
 static Bytes openjph_write()
 {
     using namespace ojph;
@@ -386,7 +318,6 @@ static void openjph_read(const Bytes &bytes)
     }
     code.close();
 }
-#endif
 
 // ---- the run
 
@@ -395,15 +326,13 @@ struct Codec {
     std::function<Bytes()> write;
     std::function<void(const Bytes &)> read;
     Bytes bytes = {};
-    std::vector<double> write_times = {}, read_times = {};
+    double write_time = 0;
+    std::vector<double> read_times = {};
 };
 
-// of this thread, so that other work on the machine counts less
 static double seconds()
 {
-    timespec t;
-    clock_gettime(CLOCK_THREAD_CPUTIME_ID, &t);
-    return static_cast<double>(t.tv_sec) + 1e-9 * static_cast<double>(t.tv_nsec);
+    return std::chrono::duration<double>(std::chrono::steady_clock::now().time_since_epoch()).count();
 }
 
 // Thousands of bytes that reading takes beside file and heights: what a fresh process has at most in its memory, less what it had before.
@@ -429,13 +358,6 @@ static long memory_of(const Codec &codec)
     return kilobytes;
 }
 
-static void write_once(Codec &codec)
-{
-    double began = seconds();
-    codec.bytes = codec.write();
-    codec.write_times.push_back(seconds() - began);
-}
-
 static void read_once(Codec &codec)
 {
     std::fill(again.begin(), again.end(), 0);
@@ -445,36 +367,12 @@ static void read_once(Codec &codec)
     if (!std::equal(again.begin(), again.end(), map.heights)) failed(codec.name);
 }
 
-static double best(const std::vector<double> &times) { return 1e9 * *std::min_element(times.begin(), times.end()) / static_cast<double>(count()); }
-
-static void tell(const Codec &codec)
+static void tell(Codec &codec)
 {
-    double bits = 8 * static_cast<double>(codec.bytes.size()) / static_cast<double>(count());
-    printf("%-34s %9.2f %9.2f %9.2f %12ld\n", codec.name, best(codec.write_times), best(codec.read_times), bits, memory_of(codec));
-}
-
-static std::vector<Codec> codecs()
-{
-    return {
-        {"ground file", ground_write, ground_read},
-#ifdef WITH_ZSTD
-        {"ground file and zstd -3", [] { return packed(ground_write(), 3); }, ground_unpack},
-        {"zstd -1 over differences", [] { return deltas_write(1); }, deltas_read},
-#endif
-        {"PNG, 16 bits", png_write_map, png_read_map},
-#ifdef WITH_LERC
-        {"LERC, no error", lerc_write, lerc_read},
-#endif
-#ifdef WITH_CHARLS
-        {"JPEG-LS (CharLS), lossless", jpegls_write, jpegls_read},
-#endif
-#ifdef WITH_OPENJPH
-        {"OpenJPH, lossless 5/3", openjph_write, openjph_read},
-#endif
-#ifdef WITH_OPENJPEG
-        {"OpenJPEG, lossless 5/3", openjpeg_write, openjpeg_read},
-#endif
-    };
+    double n = static_cast<double>(count());
+    std::sort(codec.read_times.begin(), codec.read_times.end());
+    double bits = 8 * static_cast<double>(codec.bytes.size()) / n;
+    printf("%-34s %9.2f %9.2f %9.2f %12ld\n", codec.name, 1e9 * codec.write_time / n, 1e9 * codec.read_times[0] / n, bits, memory_of(codec));
 }
 
 int main(int argc, char **argv)
@@ -486,14 +384,24 @@ int main(int argc, char **argv)
         return 1;
     }
     again.resize(count());
-    std::vector<Codec> all = codecs();
-    printf("%s: %zu x %zu, %d rounds, the best of each\n", path, map.width, map.height, rounds);
+    std::vector<Codec> codecs = {
+        {"terrain, coefficients as they are", terrain_write, terrain_read},
+        {"terrain and zstd -3", [] { return packed_write(3); }, packed_read},
+        {"PNG, 16 bits", png_write_map, png_read_map},
+        {"LERC, no error", lerc_write, lerc_read},
+        {"OpenJPH, lossless", openjph_write, openjph_read},
+        {"OpenJPEG, lossless", openjpeg_write, openjpeg_read},
+    };
+    printf("%s: %zu x %zu; libpng %s, openjpeg %s, openjph %d.%d.%d, zstd %s; %d rounds\n", path, map.width, map.height, PNG_LIBPNG_VER_STRING, opj_version(),
+           OPENJPH_VERSION_MAJOR, OPENJPH_VERSION_MINOR, OPENJPH_VERSION_PATCH, ZSTD_versionString(), rounds);
     printf("%-34s %9s %9s %9s %12s\n", "every height the same again", "write ns", "read ns", "bits", "memory, KiB");
+    for (Codec &codec : codecs) {
+        double began = seconds();
+        codec.bytes = codec.write();
+        codec.write_time = seconds() - began;
+    }
     for (int round = 0; round < rounds; round++)
-        for (Codec &codec : all)
-            if (round == 0 || codec.write_times[0] < 0.5) write_once(codec); // a slow writer once
-    for (int round = 0; round < rounds; round++)
-        for (Codec &codec : all) read_once(codec);
-    for (const Codec &codec : all) tell(codec);
+        for (Codec &codec : codecs) read_once(codec);
+    for (Codec &codec : codecs) tell(codec);
     return 0;
 }

@@ -2,10 +2,9 @@
  * same seed, the same cuts. */
 #include <inttypes.h>
 #include <stdio.h>
-#include <string.h>
-#include <terrain.h>
 #include <time.h>
 
+#include "../examples/coefficients.h"
 #include "commands.h"
 #include "end.h"
 #include "map.h"
@@ -40,20 +39,6 @@ static void so_far(Check *c, size_t levels, int reading, size_t row)
     progress(done, 2 * TERRAIN_MAX_LEVELS * (uint64_t)height);
 }
 
-/* Every row that waits goes to its place in the plane. */
-static uint32_t draw_rows(const Map *map, size_t levels, uint64_t *state, int32_t *store, size_t store_len, int32_t *line, int32_t *plane)
-{
-    for (;;) {
-        uint64_t row[TERRAIN_ROW_LENGTH];
-        size_t start, length;
-        uint32_t no = terrain_writer_draw(state, store, store_len, line, map->width, row);
-        if (no || row[0] == 0) return no;
-        no = terrain_band_row(map->width * map->height, terrain_shape_of(map->width, map->height, levels), row[0], row[1], row[2], &start, &length);
-        if (no) return no;
-        memcpy(plane + start, line, length * sizeof *line);
-    }
-}
-
 /* The heights in runs of random lengths through a writer, into the plane. */
 static uint32_t write_cut(Check *c, size_t levels, int32_t *plane, int32_t *store, size_t store_len, int32_t *line)
 {
@@ -67,11 +52,11 @@ static uint32_t write_cut(Check *c, size_t levels, int32_t *plane, int32_t *stor
         no = terrain_writer_offer(state, store, store_len, map->heights + offered, run, &taken);
         offered += taken;
         c->runs++;
-        if (!no) no = draw_rows(map, levels, state, store, store_len, line, plane);
+        if (!no) no = draw_rows(state, store, store_len, line, plane, map->width, map->height, levels);
         so_far(c, levels, 0, offered / map->width);
     }
     if (!no) no = terrain_writer_finish(state, store, store_len);
-    return no ? no : draw_rows(map, levels, state, store, store_len, line, plane);
+    return no ? no : draw_rows(state, store, store_len, line, plane, map->width, map->height, levels);
 }
 
 /* The plane's rows through a reader: *row is the first height row that comes back different, or the height. */
@@ -90,7 +75,7 @@ static uint32_t read_back(Check *c, size_t levels, const int32_t *plane, int32_t
             if (!no && memcmp(line, map->heights + *row * map->width, map->width * sizeof *line) != 0) break;
             if (!no) so_far(c, levels, 1, ++*row);
         } else {
-            no = terrain_band_row(n, terrain_shape_of(map->width, map->height, levels), want[1], want[2], want[3], &start, &length);
+            no = terrain_band_row(n, terrain_shape_of(map->width, map->height, levels), want[LEVEL], want[BAND], want[ROW], &start, &length);
             if (!no) no = terrain_reader_feed(state, store, store_len, plane + start, length);
         }
     }

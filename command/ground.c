@@ -9,9 +9,28 @@
 #include "loading.h"
 #include "output.h"
 #include "plane.h"
-#include "saving.h"
+#include "progress.h"
 
-static void put_file(void *to, const uint8_t *bytes, size_t count) { output_write((Output *)to, bytes, count); }
+enum { AREA = 1 << 16 };
+
+/* The plane's file, area by area; how many bytes. */
+static uint64_t write_file(Output *out, const Plane *p, size_t step)
+{
+    uint64_t saver[TERRAIN_SAVER_LENGTH], total = 0;
+    uint8_t *area = (uint8_t *)lent(AREA, 1, p->name);
+    size_t written = 0;
+    passed(p->name, terrain_save_set_up(saver, p->shape, step));
+    progress_begin("packing");
+    do {
+        passed(p->name, terrain_save(saver, p->numbers, p->count, area, AREA, &written));
+        output_write(out, area, written);
+        total += written;
+        progress(saver[8], p->shape.height); /* the height row that a reader would wait for: docs/STATE.md */
+    } while (written > 0);
+    progress_end();
+    free(area);
+    return total;
+}
 
 int pack(const Words *words)
 {
@@ -26,7 +45,7 @@ int pack(const Words *words)
     if (was_input(to)) fail(STATUS_USAGE, "%s: the ground file would be written over the map", to);
     Output out = output_open(to);
     FILE *report = output_report(&out);
-    bytes = saving(&plane, step, put_file, &out);
+    bytes = write_file(&out, &plane, step);
     output_keep(&out);
     fprintf(report, "%zu x %zu heights, %zu level%s: %llu bytes, %.2f bits a height\n", map.width, map.height, levels, levels == 1 ? "" : "s",
             (unsigned long long)bytes, 8.0 * (double)bytes / (double)plane.count);

@@ -1,4 +1,4 @@
-/* terrain round: what rounding a map's coefficients by a step saves, and what it costs: the bytes of its ground file, the error that is promised, the
+/* terrain round: what rounding a map's coefficients by a step saves, and what it costs: the bytes that they take packed, the error that is promised, the
  * largest one and the mean one seen, and a picture of where, as a PNG; or the ground as it comes back, as a PGM. */
 #include <stdio.h>
 
@@ -6,20 +6,23 @@
 #include "differences.h"
 #include "end.h"
 #include "form.h"
+#include "pack.h"
 #include "picture.h"
 #include "plane.h"
-#include "saving.h"
 
-static void no_look(void *to, const int32_t *row, size_t length) { (void)to, (void)row, (void)length; }
+static void look(void *packing, const int32_t *row, size_t length)
+{
+    if (packing) pack_row((Packing *)packing, row, length);
+}
 
-/* Bytes that are counted and not kept. */
-static void count_bytes(void *to, const uint8_t *bytes, size_t count) { (void)to, (void)bytes, (void)count; }
-
-static void read_tolerant(const Plane *p, Map *ground)
+/* The plane through a tolerant reader, packed in the order of its wants: the bytes of that, or 0. */
+static uint64_t read_tolerant(const Plane *p, Map *ground)
 {
     Reading reading = reading_of(p);
+    Packing *packing = pack_begin(p->name);
     passed(p->name, terrain_tolerant_set_up(reading.state, p->shape.width, p->shape.height, p->shape.levels, reading.store, reading.store_len));
-    plane_read(p, &reading, ground, no_look, NULL);
+    plane_read(p, &reading, ground, look, packing);
+    return packing ? pack_end(packing) : 0;
 }
 
 static void write_result(Output *out, const Map *map, const Map *ground, const Differences *d)
@@ -31,6 +34,15 @@ static void write_result(Output *out, const Map *map, const Map *ground, const D
         picture_write(out, &picture);
     }
     output_keep(out);
+}
+
+static void tell_bytes(FILE *report, const Map *map, uint64_t exact, uint64_t rounded)
+{
+    if (exact == 0)
+        fprintf(report, "packed: not measured, since this terrain was built without libpng and its zlib (apt-get install libpng-dev)\n");
+    else
+        fprintf(report, "packed: %llu bytes, without rounding %llu, as heights %llu\n", (unsigned long long)rounded, (unsigned long long)exact,
+                2 * (unsigned long long)(map->width * map->height));
 }
 
 static void tell_errors(FILE *report, const Map *map, const Differences *d, size_t promised)
@@ -54,16 +66,14 @@ int rounding(const Words *words)
     Plane plane = plane_of(path, &map, levels);
     Output out = picture_open(to);
     FILE *report = output_report(&out);
-    uint64_t exact = saving(&plane, 1, count_bytes, NULL), rounded;
+    uint64_t exact = read_tolerant(&plane, &ground), rounded;
     passed(path, terrain_round(plane.numbers, plane.count, map.width, map.height, levels, step));
     passed(path, terrain_error_bound(levels, step, &promised));
-    rounded = saving(&plane, step, count_bytes, NULL);
-    read_tolerant(&plane, &ground);
+    rounded = read_tolerant(&plane, &ground);
     Differences d = differences_of(&map, &ground);
     write_result(&out, &map, &ground, &d);
     fprintf(report, "step %zu, %zu level%s, %zu x %zu heights\n", step, levels, levels == 1 ? "" : "s", map.width, map.height);
-    fprintf(report, "as a ground file: %llu bytes, without rounding %llu, as heights %llu\n", (unsigned long long)rounded, (unsigned long long)exact,
-            2 * (unsigned long long)plane.count);
+    tell_bytes(report, &map, exact, rounded);
     tell_errors(report, &map, &d, promised);
     return STATUS_DONE;
 }

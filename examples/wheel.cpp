@@ -1,9 +1,9 @@
 // The same ground on three machines: a physics engine (Bullet) rolls the same wheel over it.
-// Two machines load the ground from one ground file, in reads of different sizes: after every step their wheels agree bit for bit.
+// Two machines load the ground from one file of coefficients, in reads of different sizes: after every step their wheels agree bit for bit.
 // On the third one height on the wheel's way is off by one: its wheel goes another way from there on.
 //
 // apt-get install libbullet-dev pkg-config, then from the top of the repository:
-// c++ -O2 -I include examples/wheel.cpp target/staticlib/libterrain.a $(pkg-config --cflags --libs bullet) -o target/wheel && target/wheel examples/hill.pgm 3 target/hill.ground
+// c++ -O2 -I include examples/wheel.cpp target/staticlib/libterrain.a $(pkg-config --cflags --libs bullet) -o target/wheel && target/wheel examples/hill.pgm 3 target/hill.coefficients
 #include <btBulletDynamicsCommon.h>
 #include <BulletCollision/CollisionShapes/btHeightfieldTerrainShape.h>
 
@@ -11,7 +11,7 @@
 #include <cstring>
 #include <vector>
 
-#include "ground.h"
+#include "coefficients.h"
 #include "pgm.h"
 
 namespace {
@@ -21,7 +21,7 @@ constexpr btScalar seconds_a_step = btScalar(1) / 240;
 constexpr float metres_a_height = 1.0f / 4096; // heights 0 to 65,535 are 0 to 16 m, a column or row is 1 m
 constexpr int start_column = 95, start_row = 64; // in the lake, whose shore keeps it on the map
 
-struct Field {
+struct Ground {
     size_t width = 0, height = 0;
     std::vector<uint16_t> heights;
 };
@@ -31,15 +31,13 @@ struct Moment {
     btScalar numbers[13];
 };
 
-uint32_t load(const char *path, size_t read_size, Field &field)
+uint32_t load(const char *path, size_t read_size, Ground &ground)
 {
-    Ground ground;
-    const uint32_t no = load_ground(path, read_size, &ground);
+    uint16_t *heights;
+    const uint32_t no = load_coefficients(path, read_size, &ground.width, &ground.height, &heights);
     if (no) return no;
-    field.width = ground.shape.width;
-    field.height = ground.shape.height;
-    field.heights.assign(ground.heights, ground.heights + field.width * field.height);
-    free(ground.heights);
+    ground.heights.assign(heights, heights + ground.width * ground.height);
+    free(heights);
     return 0;
 }
 
@@ -51,13 +49,13 @@ Moment moment_of(const btRigidBody &wheel)
 }
 
 // One machine: its own world, its own ground, the wheel after each step. The wheel is dropped from `from` metres.
-std::vector<Moment> roll(const Field &ground, btScalar from)
+std::vector<Moment> roll(const Ground &ground, btScalar from)
 {
     // The engine keeps a pointer to heights in metres; those of ours are floats exactly.
     std::vector<float> metres;
     for (const uint16_t height : ground.heights) metres.push_back(height * metres_a_height);
     const int columns = int(ground.width), rows = int(ground.height);
-    btHeightfieldTerrainShape terrain(columns, rows, metres.data(), 0, 65535 * metres_a_height, 1, false);
+    btHeightfieldTerrainShape field(columns, rows, metres.data(), 0, 65535 * metres_a_height, 1, false);
     btCylinderShapeX round(btVector3(btScalar(0.15), btScalar(0.5), btScalar(0.5)));
 
     btDefaultCollisionConfiguration configuration;
@@ -68,7 +66,7 @@ std::vector<Moment> roll(const Field &ground, btScalar from)
     world.setGravity(btVector3(0, btScalar(-9.8), 0));
 
     // The engine centres the field: place (column, row) of the map is at (column - (columns - 1) / 2, row - (rows - 1) / 2).
-    btRigidBody floor(btRigidBody::btRigidBodyConstructionInfo(0, nullptr, &terrain));
+    btRigidBody floor(btRigidBody::btRigidBodyConstructionInfo(0, nullptr, &field));
     floor.getWorldTransform().setOrigin(btVector3(0, 65535 * metres_a_height / 2, 0));
     floor.setFriction(1);
     world.addRigidBody(&floor);
@@ -95,7 +93,7 @@ std::vector<Moment> roll(const Field &ground, btScalar from)
 }
 
 // The place of the height nearest to the wheel.
-size_t nearest(const Field &ground, const Moment &moment)
+size_t nearest(const Ground &ground, const Moment &moment)
 {
     const btScalar column = moment.numbers[0] + btScalar(ground.width - 1) / 2, row = moment.numbers[2] + btScalar(ground.height - 1) / 2;
     const auto within = [](btScalar x, size_t n) { return x < 0 ? 0 : x > btScalar(n - 1) ? n - 1 : size_t(x + btScalar(0.5)); };
@@ -127,7 +125,7 @@ bool compare(const std::vector<Moment> &a, const std::vector<Moment> &b, const s
     return ab == steps && ac < steps;
 }
 
-bool race(const Field &first, const Field &second, Field third)
+bool race(const Ground &first, const Ground &second, Ground third)
 {
     const btScalar from = first.heights[start_row * first.width + start_column] * metres_a_height + 1;
     const std::vector<Moment> a = roll(first, from), b = roll(second, from);
@@ -146,16 +144,16 @@ bool race(const Field &first, const Field &second, Field third)
 int main(int argc, char **argv)
 {
     Pgm map;
-    Field first, second;
+    Ground first, second;
     if (argc != 4) {
-        std::fprintf(stderr, "usage: wheel MAP.pgm LEVELS GROUND_FILE\n");
+        std::fprintf(stderr, "usage: wheel MAP.pgm LEVELS COEFFICIENTS\n");
         return 2;
     }
     if (const char *wrong = pgm_read(argv[1], &map)) {
         std::fprintf(stderr, "%s: %s\n", argv[1], wrong);
         return 1;
     }
-    uint32_t no = save_ground(argv[3], map.heights, terrain_shape_of(map.width, map.height, size_t(std::atol(argv[2]))), 1);
+    uint32_t no = write_coefficients(argv[3], map.heights, map.width, map.height, size_t(std::atol(argv[2])));
     free(map.heights);
     if (!no) no = load(argv[3], 7, first);
     if (!no) no = load(argv[3], 4096, second);

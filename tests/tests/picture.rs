@@ -82,7 +82,7 @@ fn program(name: &str) -> PathBuf {
     let compiled = Command::new("cc")
         .args(["-std=c11", "-D_GNU_SOURCE", "-O2", "-Wall", "-Wextra", "-Wshadow", "-Werror", "-I"])
         .arg(root().join("include"))
-        .args(sources.filter(|f| f.extension().is_some_and(|e| e == "c") && !f.ends_with("png_libpng.c")))
+        .args(sources.filter(|f| f.extension().is_some_and(|e| e == "c") && !f.ends_with("png_libpng.c") && !f.ends_with("pack_deflate.c")))
         .arg(archive("terrain"))
         .args(["-lm", "-o"])
         .arg(&program)
