@@ -5,3 +5,5 @@ pub mod HeightLaws
 pub mod Splices
 pub mod HalfLaws
 pub mod ApartLaws
+
+mod Clauses

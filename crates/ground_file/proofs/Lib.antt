@@ -17,3 +17,5 @@ pub mod HeaderLaws
 pub mod HeaderTheorems
 pub mod SumLaws
 pub mod MapSaved
+
+mod Clauses

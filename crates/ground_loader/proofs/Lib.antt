@@ -25,3 +25,5 @@ pub mod StepLaws
 pub mod CallLaws
 pub mod RunLaws
 pub mod RangeLaws
+
+mod Clauses

@@ -27,3 +27,5 @@ pub mod SweepBackGrid
 pub mod BackLineLaws
 pub mod BackRowLaws
 pub mod BackSets
+
+mod Clauses

@@ -5,3 +5,5 @@ pub mod CallLaws
 pub mod ShortColumns
 pub mod SingleLaws
 pub mod LoopLaws
+
+mod Clauses

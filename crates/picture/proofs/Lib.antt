@@ -7,3 +7,5 @@ pub mod PartLaws
 pub mod RunLaws
 pub mod GoneLaws
 pub mod RewritingTheorem
+
+mod Clauses

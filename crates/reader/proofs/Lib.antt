@@ -35,3 +35,5 @@ pub mod RunLaws
 pub mod RunLast
 pub mod RunOver
 pub mod RunList
+
+mod Clauses

@@ -17,3 +17,5 @@ pub mod CallLaws
 pub mod PairMade
 pub mod TolerantColumns
 pub mod TolerantCalls
+
+mod Clauses

@@ -1,0 +1,12 @@
+-- `near::beside_low` meets its contract. Assumes nothing.
+use native.Mathlib.Omega.{arith}
+use Rattle.nine_seven.proofs.NearLaws.{beside-few}
+use Rattle.filters.specs.Filters.{filter_of}
+use Rattle.analysis.proofs.NearRows.{beside-low-slots}
+use Rattle.analysis.proofs.near.beside_low.Goals as goal
+
+pub returns : goal.returns
+returns c =
+    let a = c.args in
+    beside-low-slots (filter_of a.filter).rows a.y a.m a.n c.requires.0 c.requires.1 c.requires.2 _ _ _ _ _ c.high_count.ensures
+    (beside-few _ c.beside-by.ensures (omega arith)) c.high_slot-left.ensures.0 c.high_slot.ensures.0

@@ -1,0 +1,11 @@
+-- `pieces::put_header` meets its contract: 24 bytes, and there is room for them. Assumes nothing.
+use native.Mathlib.Omega.{arith}
+use borrow.Author.Rules.{rules}
+use Rattle.ground_file.specs.Groups.{bytes_of}
+use Rattle.ground_file.specs.File.{header_of}
+use Rattle.ground_file.proofs.pieces.put_header.Goals as goal
+
+pub returns : goal.returns
+unfolding header_of bytes_of
+returns c =
+    c.put_bytes.ensures.whole (omega (arith, c.requires.0))

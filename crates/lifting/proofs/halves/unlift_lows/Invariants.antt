@@ -1,0 +1,17 @@
+-- `lifting::halves::unlift_lows` meets its contract: a sweep over the low numbers of `out`, the first before the loop and the last after it.
+-- Assumes nothing.
+use mathlib.Core.Path.{refl, sym, ◌∙◌}
+use Prim.Native.Nat.{◌-◌}
+use Rattle.numbers.specs.Word.{wrap32}
+use Rattle.lifting.specs.Line.{unupdated}
+use Rattle.lifting.proofs.RowLaws.{falls}
+use Rattle.lifting.proofs.PassLaws.{low-begins, low-first-in, lows-at, low_sums, low-in, low-ends, low-last-in, below}
+use Rattle.lifting.proofs.LiftLaws.{LowsBy, low_again, low-last, low-done}
+use Rattle.lifting.proofs.halves.unlift_lows.Given as goal
+
+-- `out₀` is `out` after the first store
+abbrev pub invariant-loop-n : goal.invariant-loop-n
+invariant-loop-n l = LowsBy (unupdated wrap32) l.row l.initial.out l.low l.o l.high l.end l.n l.out
+
+abbrev pub decreases-loop-n : goal.decreases-loop-n
+decreases-loop-n l = l.end - l.n

@@ -1,0 +1,19 @@
+-- `lifting::pairs::lift_pair` meets its contract: before turn i the first i columns are lifted. Assumes nothing.
+use mathlib.Core.Path.{◌≡◌, sym, ◌∙◌}
+use mathlib.Core.Bool.{true}
+use Prim.Native.Nat.{ℕ, ◌+◌, ◌-◌, ◌*◌, ◌^◌, ◌<◌}
+use lib.IntN.{ℤ}
+use lib.ListN.{length}
+use Rattle.lifting.specs.Pairs.{pair_fits, pair_lifted, lifted_at}
+use Rattle.lifting.proofs.RowLaws.{row_within, row_first, row-sum, row_next, falls}
+use Rattle.lifting.proofs.ColumnLaws.{Passed, pair-in, pair-places, pass-start, pass-turn, pass-end, lifted-none, lifted-more}
+use Rattle.lifting.proofs.pairs.lift_pair.Given as goal
+
+abbrev pub F : ℕ → ℕ → ℕ → ℕ → ℕ → ℕ → (ℕ → ℤ) → ℕ → ℤ
+F s h l r b k x = pair_lifted s k h l r b x
+
+abbrev pub invariant-loop-i : goal.invariant-loop-i
+invariant-loop-i l = Passed (F l.stride l.high l.low l.right l.before) l.stride l.width l.high l.low l.right l.before l.initial.area l.i l.area
+
+abbrev pub decreases-loop-i : goal.decreases-loop-i
+decreases-loop-i l = l.width - l.i

@@ -1,0 +1,17 @@
+-- `lifting::single::double_all` meets its contract: a sweep over the row. Assumes nothing.
+use mathlib.Core.Path.{◌∙◌, ap}
+use Prim.Native.Nat.{◌-◌}
+use native.Mathlib.Omega.{arith}
+use lib.IntN.{pos, ◌*ℤ◌}
+use lib.ListN.{length}
+use Rattle.numbers.specs.Signal.{at}
+use Rattle.numbers.specs.Word.{wrap32}
+use Rattle.numbers.proofs.Words.{read_back}
+use Rattle.lifting.proofs.EachLaws.{Each, each_start, each_turn, each-end}
+use Rattle.lifting.proofs.single.double_all.Given as goal
+
+abbrev pub invariant-loop-i : goal.invariant-loop-i
+invariant-loop-i l = Each (λ v. wrap32 (pos 2 *ℤ v)) l.initial.row l.i l.row
+
+abbrev pub decreases-loop-i : goal.decreases-loop-i
+decreases-loop-i l = length l.initial.row - l.i

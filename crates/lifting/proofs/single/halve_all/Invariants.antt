@@ -1,0 +1,19 @@
+-- `lifting::single::halve_all` meets its contract: a sweep over the row, and the answer so far is that of the numbers passed. Assumes nothing.
+use mathlib.Core.Path.{◌≡◌, ◌∙◌, ap}
+use Prim.Native.Nat.{◌-◌}
+use native.Mathlib.Omega.{arith}
+use lib.Signed.{shr_z}
+use lib.ListN.{length}
+use Rattle.numbers.specs.Signal.{at}
+use Rattle.numbers.specs.Tests.{every}
+use Rattle.numbers.proofs.Words.{read_back}
+use Rattle.lifting.specs.Grid.{is_even}
+use Rattle.lifting.proofs.SingleTests.{even-start, even-turn, even-end}
+use Rattle.lifting.proofs.EachLaws.{Each, each_start, each_turn, each-end}
+use Rattle.lifting.proofs.single.halve_all.Given as goal
+
+abbrev pub invariant-loop-i : goal.invariant-loop-i
+invariant-loop-i l = (l.ok ≡ every l.i (λ j. is_even (at l.initial.row j))) × Each (λ v. shr_z v 2) l.initial.row l.i l.row
+
+abbrev pub decreases-loop-i : goal.decreases-loop-i
+decreases-loop-i l = length l.initial.row - l.i

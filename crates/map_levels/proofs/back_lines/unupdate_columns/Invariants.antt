@@ -1,0 +1,14 @@
+-- `back_lines::unupdate_columns` meets its contract: a column a turn. Assumes nothing.
+use mathlib.Core.Path.{◌≡◌, refl, ◌∙◌}
+use Prim.Native.Nat.{◌-◌, ◌≤◌}
+use native.Mathlib.Omega.{arith}
+use lib.ListN.{length}
+use Rattle.numbers.specs.Signal.{at}
+use Rattle.map_levels.proofs.BackLineLaws.{EvenRun, even-none, even-more}
+use Rattle.map_levels.proofs.back_lines.unupdate_columns.Given as goal
+
+abbrev pub invariant-loop-k : goal.invariant-loop-k
+invariant-loop-k l = (l.k ≤ l.width) × (length l.lines ≡ length l.initial.lines) × EvenRun l.k (at l.initial.lines) (at l.lines)
+
+abbrev pub decreases-loop-k : goal.decreases-loop-k
+decreases-loop-k l = l.width - l.k

@@ -1,0 +1,26 @@
+-- `map_levels::heights::load_rows` meets its contract: two rows a turn, and the last of an odd number. Assumes nothing.
+use mathlib.Core.Path.{◌≡◌, refl, ◌∙◌}
+use Prim.Native.Nat.{◌-◌, ◌≤◌}
+use native.Mathlib.Omega.{arith}
+use lib.ListN.{length}
+use Rattle.numbers.specs.Signal.{at}
+use Rattle.lifting.specs.Grid.{side}
+use Rattle.wavelet.specs.Plane.{cells}
+use Rattle.map_levels.specs.Rowwise.{heights_at}
+use Rattle.map_levels.specs.Passes.{Rows}
+use Rattle.map_levels.proofs.GridSweep.{fronts-start}
+use Rattle.map_levels.proofs.ForwardCalls.{Pairs, pairs-of, pair-sums, last-sums, odd-sums, first_load, second-load, odd-load, pairs-on, pairs_end}
+use Rattle.map_levels.proofs.ForwardCalls.{Laid, laid-turn, laid-even, laid-odd}
+use Rattle.map_levels.proofs.heights.load_rows.Given as goal
+
+abbrev pub invariant-loop-n : goal.invariant-loop-n
+invariant-loop-n l =
+    (l.n ≤ l.pairs)
+    × Pairs (length l.initial.plane) l.y l.height l.b l.low l.pairs
+    × (length l.plane ≡ length l.initial.plane)
+    × Rows (length l.heights) l.width l.width l.height
+    × Rows (length l.initial.plane) l.width l.width l.height
+    × Laid (side l.x l.width) (side l.y l.height) (cells l.width (heights_at l.heights)) (at l.initial.plane) l.n (at l.plane)
+
+abbrev pub decreases-loop-n : goal.decreases-loop-n
+decreases-loop-n l = l.pairs - l.n

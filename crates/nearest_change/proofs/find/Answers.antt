@@ -1,0 +1,64 @@
+-- `find`: the questions, and then the first trial that works. Assumes nothing.
+use mathlib.Core.Path.{◌≡◌, sym, ◌∙◌}
+use Prim.Native.Nat.{ℕ}
+use native.Mathlib.Omega.{arith}
+use lib.ListN.{length}
+use Rattle.nearest_change.proofs.QuestionLaws.{Passes, passes}
+use Rattle.nearest_change.proofs.FindLaws.{height-fits, width_fits, window-within, cell-ready, makes, nearest, refused, answered}
+use Rattle.nearest_change.proofs.find.Goals as goal
+
+pub returns-then-no-ne0 : goal.returns-then-no-ne0
+returns-then-no-ne0 c =
+    let a = c.args in
+    refused _ a.width a.height a.heights.now a.row a.column _ c.question-no.ensures c.if-no-ne0.true
+
+pub places-requires : goal.places-requires
+places-requires c =
+    let a = c.args in
+    height-fits (length a.heights.now) a.width a.height a.row a.column
+    (passes (length a.heights.now) a.width a.height a.row a.column (sym c.question-no.ensures ∙ c.if-no-ne0.false))
+
+pub places-requires-2 : goal.places-requires-2
+places-requires-2 c =
+    let a = c.args in
+    width_fits (length a.heights.now) a.width a.height a.row a.column
+    (passes (length a.heights.now) a.width a.height a.row a.column (sym c.question-no.ensures ∙ c.if-no-ne0.false))
+
+pub window-w-requires : goal.window-w-requires
+window-w-requires c =
+    let a = c.args in
+    window-within (length a.heights.now) a.width a.height a.row a.column
+    (passes (length a.heights.now) a.width a.height a.row a.column (sym c.question-no.ensures ∙ c.if-no-ne0.false))
+    c.places.result c.places-2.result c.places.ensures c.places-2.ensures
+
+pub cell-requires : goal.cell-requires
+cell-requires c =
+    let a = c.args in
+    let p = passes (length a.heights.now) a.width a.height a.row a.column (sym c.question-no.ensures ∙ c.if-no-ne0.false) in
+    let h = height-fits (length a.heights.now) a.width a.height a.row a.column p in
+    let w = width_fits (length a.heights.now) a.width a.height a.row a.column p in
+    record { by_index = c.window-w.ensures.1; row_lt_height = (h.2, w.2, h.1, w.1) }
+
+pub first-t-requires : goal.first-t-requires
+first-t-requires c =
+    let a = c.args in
+    let p = passes (length a.heights.now) a.width a.height a.row a.column (sym c.question-no.ensures ∙ c.if-no-ne0.false) in
+    cell-ready (length a.heights.now) a.width a.height a.row a.column p c.window-w.result c.cell.result c.window-w.ensures.1
+    c.cell.ensures
+
+pub made-requires : goal.made-requires
+made-requires c =
+    let a = c.args in
+    let p = passes (length a.heights.now) a.width a.height a.row a.column (sym c.question-no.ensures ∙ c.if-no-ne0.false) in
+    makes (length a.heights.now) a.width a.height a.row a.column p a.heights.now (λ j. omega (arith, c.shared_slice_known-1.given j))
+    c.places.result c.places-2.result c.window-w.result c.places.ensures
+    c.places-2.ensures c.window-w.ensures.0 c.window-w.ensures.1 c.cell.result c.cell.ensures c.first-t.result c.first-t.ensures
+
+pub returns : goal.returns
+returns c =
+    let a = c.args in
+    let p = passes (length a.heights.now) a.width a.height a.row a.column (sym c.question-no.ensures ∙ c.if-no-ne0.false) in
+    answered _ a.width a.height a.heights.now a.row a.column _ _ (sym c.question-no.ensures ∙ c.if-no-ne0.false) c.made.ensures
+    (nearest (length a.heights.now) a.width a.height a.row a.column p a.heights.now (λ j. omega (arith, c.shared_slice_known-1.given j))
+    c.places.result c.places-2.result c.window-w.result c.places.ensures
+    c.places-2.ensures c.window-w.ensures.0 c.window-w.ensures.1 c.cell.result c.cell.ensures c.first-t.result c.first-t.ensures)

@@ -1,0 +1,31 @@
+-- `works`: its place, and then the trial. Assumes nothing.
+use mathlib.Core.Path.{sym, ◌∙◌}
+use native.Mathlib.Omega.{arith}
+use borrow.Author.Rules.{rules}
+use borrow.Author.Tests.{not-true, not-false, leb-true}
+use Rattle.numbers.proofs.Sweep.{both}
+use Rattle.nearest_change.proofs.StepLaws.{outside-rows, outside-columns, tried_of, inside-from}
+use Rattle.nearest_change.proofs.trial.works.Goals as goal
+
+pub returns-then-not-is_inside : goal.returns-then-not-is_inside
+returns-then-not-is_inside c =
+    let a = c.args in
+    outside-rows a.w.now a.cell a.t (sym c.is_inside.ensures ∙ not-true _ c.if-not-is_inside.true-raw)
+
+pub returns-then-not-is_inside-2 : goal.returns-then-not-is_inside-2
+returns-then-not-is_inside-2 c =
+    let a = c.args in
+    outside-columns a.w.now a.cell a.t (sym c.is_inside.ensures ∙ not-false _ c.if-not-is_inside.false-raw)
+    (sym c.is_inside-2.ensures ∙ not-true _ c.if-not-is_inside-2.true-raw)
+
+pub alters_by-requires : goal.alters_by-requires
+alters_by-requires c =
+    let f = inside-from _ _ (sym c.is_inside.ensures ∙ not-false _ c.if-not-is_inside.false-raw) in
+    let g = inside-from _ _ (sym c.is_inside-2.ensures ∙ not-false _ c.if-not-is_inside-2.false-raw) in
+    (c.requires.0, omega arith, omega arith, f, g, omega arith)
+
+pub returns : goal.returns
+returns c =
+    let a = c.args in
+    tried_of a.w.now a.cell a.t _ (sym c.is_inside.ensures ∙ not-false _ c.if-not-is_inside.false-raw)
+    (sym c.is_inside-2.ensures ∙ not-false _ c.if-not-is_inside-2.false-raw) c.alters_by.ensures

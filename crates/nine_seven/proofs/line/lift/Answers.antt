@@ -1,0 +1,49 @@
+-- `nine_seven::line::lift` meets its contract: the two passes come to it; a line of one number or none goes apart. Assumes nothing.
+use mathlib.Core.Path.{◌∙◌}
+use native.Mathlib.Omega.{arith}
+use lib.ListN.{length}
+use Rattle.numbers.specs.Signal.{at}
+use Rattle.lifting.specs.Grid.{side}
+use Rattle.lifting.proofs.GridLaws.{some, beside-lows, beside-highs}
+use Rattle.nine_seven.proofs.LiftLaws.{lifted-short, lifted-is}
+use Rattle.nine_seven.proofs.line.lift.Goals as goal
+
+pub shape_of-line-then-n-lt2 : goal.shape_of-line-then-n-lt2
+shape_of-line-then-n-lt2 c = c.lift.auto.line
+
+pub returns-then-n-lt2 : goal.returns-then-n-lt2
+returns-then-n-lt2 c =
+    let a = c.args in
+    c.lift.ensures ∙ lifted-short (side a.start (length a.line.now)) (omega arith) (at a.line.now)
+
+pub overflow_sub-b : goal.overflow_sub-b
+overflow_sub-b c = omega arith
+
+pub predict_highs-requires : goal.predict_highs-requires
+predict_highs-requires c =
+    let a = c.args in
+    let S = side a.start (length a.line.now) in
+    let s = some S (omega arith) in
+    let d = beside-lows S in
+    let e = c.lows-low.ensures in
+    (omega arith, omega arith, omega arith, omega arith, omega arith)
+
+pub update_lows-requires : goal.update_lows-requires
+update_lows-requires c =
+    let a = c.args in
+    let S = side a.start (length a.line.now) in
+    let s = some S (omega arith) in
+    let d = beside-highs S in
+    let e = c.lows-low.ensures in
+    let k = c.predict_highs.auto.line in
+    (omega arith, omega arith, omega arith, omega arith, omega arith)
+
+pub shape_of-line : goal.shape_of-line
+shape_of-line c = c.update_lows.auto.line ∙ c.predict_highs.auto.line
+
+pub returns : goal.returns
+returns c =
+    let a = c.args in
+    let x = a.line.now in
+    let S = side a.start (length x) in
+    cc (c.update_lows.ensures, c.predict_highs.ensures, c.predict_highs.auto.line, c.lows-low.ensures, lifted-is S (at x) (omega arith))

@@ -1,0 +1,64 @@
+-- `nine_seven::line::unlift` meets its contract: the two passes come to it; a line of one number or none goes apart. Assumes nothing.
+use mathlib.Core.Path.{ap, ◌∙◌}
+use Prim.Native.Nat.{ℕ}
+use lib.IntN.{ℤ}
+use native.Mathlib.Omega.{arith}
+use lib.ListN.{length}
+use Rattle.numbers.specs.Signal.{at, pick}
+use Rattle.lifting.specs.Grid.{side}
+use Rattle.lifting.specs.GridHalves.{has_line_in}
+use Rattle.lifting.proofs.GridLaws.{some, beside-lows, beside-highs}
+use Rattle.nine_seven.proofs.LiftLaws.{unlifted-short, unlifted-is}
+use Rattle.lifting.proofs.SingleLaws.{has_more}
+use Rattle.nine_seven.proofs.line.unlift.Goals as goal
+
+pub shape_of-line-then-n-lt2 : goal.shape_of-line-then-n-lt2
+shape_of-line-then-n-lt2 c = c.unlift.auto.line
+
+pub returns-then-n-lt2 : goal.returns-then-n-lt2
+returns-then-n-lt2 c =
+    let a = c.args in
+    let S = side a.start (length a.line.now) in
+    let y = at a.line.now in
+    record { value = c.unlift.ensures.value; line_after = c.unlift.ensures.line_after ∙ ap (λ (z : ℕ → ℤ). pick (has_line_in S y) z y) (unlifted-short S (omega arith) y) }
+
+pub unupdate_lows-requires : goal.unupdate_lows-requires
+unupdate_lows-requires c =
+    let a = c.args in
+    let S = side a.start (length a.line.now) in
+    let s = some S (omega arith) in
+    let d = beside-highs S in
+    let e = c.lows-low.ensures in
+    (omega arith, omega arith, omega arith, omega arith, omega arith)
+
+pub overflow_sub-b : goal.overflow_sub-b
+overflow_sub-b c = omega arith
+
+pub unpredict_highs-requires : goal.unpredict_highs-requires
+unpredict_highs-requires c =
+    let a = c.args in
+    let S = side a.start (length a.line.now) in
+    let s = some S (omega arith) in
+    let d = beside-lows S in
+    let e = c.lows-low.ensures in
+    let k = c.unupdate_lows.auto.line in
+    (omega arith, omega arith, omega arith, omega arith, omega arith)
+
+pub shape_of-line : goal.shape_of-line
+shape_of-line c = c.unpredict_highs.auto.line ∙ c.unupdate_lows.auto.line
+
+pub returns : goal.returns
+returns c =
+    let a = c.args in
+    let x = a.line.now in
+    let S = side a.start (length x) in
+    let has = has_more S (at x) (omega arith) in
+    record { value = simp has; line_after = simp has
+          (cc (
+            c.unpredict_highs.ensures,
+            c.unupdate_lows.ensures,
+            c.unupdate_lows.auto.line,
+            c.lows-low.ensures,
+            unlifted-is S (at x)
+                (omega arith),
+          )) }

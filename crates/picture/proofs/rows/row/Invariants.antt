@@ -1,0 +1,13 @@
+-- `rows::row` meets its contract: after i turns i bytes stand in the area. Assumes nothing.
+use mathlib.Core.Path.{sym, ◌∙◌}
+use Prim.Native.Nat.{◌-◌}
+use native.Mathlib.Omega.{arith}
+use Rattle.picture.specs.Form.{row_bytes}
+use Rattle.picture.proofs.RowLaws.{row-length, row-at, Bytes, start, next, finish}
+use Rattle.picture.proofs.rows.row.Given as goal
+
+abbrev pub invariant-loop-i : goal.invariant-loop-i
+invariant-loop-i l = Bytes (row_bytes l.heights) l.initial.out l.out l.from l.n l.i
+
+abbrev pub decreases-loop-i : goal.decreases-loop-i
+decreases-loop-i l = l.n - l.i

@@ -1,0 +1,11 @@
+-- `next_second`: in the row, or mirrored. Assumes nothing.
+use mathlib.Core.Path.{sym, ◌∙◌}
+use borrow.Author.Rules.{rules}
+use Rattle.profile.proofs.PassLaws.{below, not-below}
+use Rattle.profile.proofs.ends.next_second.Goals as goal
+
+pub returns-then-p-row : goal.returns-then-p-row
+returns-then-p-row c = c.lift_second.ensures ∙ sym (below _ _ _ _ c.if-p-row.true)
+
+pub returns-else-p-row : goal.returns-else-p-row
+returns-else-p-row c = sym (not-below _ _ _ _ c.if-p-row.false)

@@ -1,0 +1,8 @@
+-- `reader::Reader::max_origin` meets its contract: the definition's number. Assumes nothing.
+use mathlib.Core.Path.{refl}
+use Rattle.wavelet.specs.Limits.{max_origin}
+use Rattle.reader.proofs.Reader.max_origin.Goals as goal
+
+pub returns : goal.returns
+unfolding max_origin
+returns c = refl

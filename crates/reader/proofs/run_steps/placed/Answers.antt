@@ -1,0 +1,25 @@
+-- `reader::run_steps::placed` meets its contract: no level, or the walk to it. Assumes nothing.
+use native.Mathlib.Omega.{arith}
+use Prim.Native.Nat.{◌≤◌, ◌^◌}
+use Rattle.lifting.specs.Grid.{side}
+use Rattle.reader.proofs.RunPlaces.{kept-place, top-place}
+use mathlib.Core.Path.{refl}
+use Rattle.reader.proofs.run_steps.placed.Goals as goal
+
+pub returns-then-p-eq0 : goal.returns-then-p-eq0
+returns-then-p-eq0 c =
+    let a = c.args in
+    top-place a.filter (side a.x a.width) (side a.y a.height) a.drawn a.p _ c.if-p-eq0.true refl refl c.less.ensures refl refl
+
+pub overflow_sub-p : goal.overflow_sub-p
+overflow_sub-p c = omega arith
+
+pub level_at-m-requires : goal.level_at-m-requires
+level_at-m-requires c = (c.requires.0, omega (arith, c.requires.1))
+
+pub returns : goal.returns
+returns c =
+    let a = c.args in
+    let at = c.level_at-m.ensures in
+    kept-place a.filter (side a.x a.width) (side a.y a.height) a.drawn c.level_at-m.result a.p c.kept.result (omega arith)
+    at.level (omega (arith, at.now, at.level.last, at.level.set)) c.kept.ensures

@@ -1,0 +1,20 @@
+-- `rows::round_between` meets its contract: a sweep from the first place to the end. Assumes nothing.
+use mathlib.Core.Path.{◌≡◌, refl, sym, ap, ◌∙◌}
+use Prim.Native.Nat.{◌-◌, ◌≤◌, ◌<◌, ◌^◌}
+use native.Mathlib.Omega.{arith}
+use lib.ListN.{length}
+use Rattle.numbers.specs.Signal.{at}
+use Rattle.numbers.proofs.Sweep.{Swept, start, store, finish}
+use Rattle.numbers.proofs.Words.{read_back}
+use Rattle.rounding.specs.Rounding.{toward_zero}
+use Rattle.rounding.specs.Step.{Divides, rounded_from}
+use Rattle.rounding.proofs.RoundLaws.{from-before, from_at, from_past}
+use Rattle.rounding.proofs.rows.round_between.Given as goal
+
+abbrev pub invariant-loop-i : goal.invariant-loop-i
+invariant-loop-i l =
+    (l.first ≤ l.i) × (l.end ≤ length l.initial.plane) × Divides l.q
+    × Swept (length l.initial.plane) (rounded_from l.q.step l.first l.end (at l.initial.plane)) (at l.initial.plane) l.i l.plane
+
+abbrev pub decreases-loop-i : goal.decreases-loop-i
+decreases-loop-i l = l.end - l.i

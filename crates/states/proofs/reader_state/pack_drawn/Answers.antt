@@ -1,0 +1,27 @@
+-- `reader_state::pack_drawn` meets its contract: what the answer says, in its four cases. Assumes nothing.
+use mathlib.Core.Path.{sym, ap, ◌∙◌}
+use borrow.Author.Rules.{rules}
+use Rattle.reader.specs.declared.Drawn.{Drawn}
+use Rattle.reader.specs.Answers.{number, of_drawn}
+use Rattle.states.specs.ReaderAnswers.{handed_words, count_of}
+use Rattle.states.proofs.reader_state.pack_drawn.Goals as goal
+
+pub returns-in-Heights : goal.returns-in-Heights
+returns-in-Heights c =
+    let a = c.args in
+    record { value = sym (ap (λ (o : Drawn). number (of_drawn o)) c.in-Heights.is); s_after = (c.pack_moved.ensures ∙ sym (ap (λ (o : Drawn). handed_words (of_drawn o) a.s.now) c.in-Heights.is), c.sized.ensures); drawn_after = sym (ap (λ (o : Drawn). count_of (of_drawn o) a.drawn.now) c.in-Heights.is) }
+
+pub returns-in-Nothing : goal.returns-in-Nothing
+returns-in-Nothing c =
+    let a = c.args in
+    record { value = sym (ap (λ (o : Drawn). number (of_drawn o)) c.in-Nothing.is); s_after = (sym (ap (λ (o : Drawn). handed_words (of_drawn o) a.s.now) c.in-Nothing.is), c.sized.ensures); drawn_after = sym (ap (λ (o : Drawn). count_of (of_drawn o) a.drawn.now) c.in-Nothing.is) }
+
+pub returns-in-Impossible : goal.returns-in-Impossible
+returns-in-Impossible c =
+    let a = c.args in
+    record { value = sym (ap (λ (o : Drawn). number (of_drawn o)) c.in-Impossible.is); s_after = (c.pack_reader.ensures ∙ sym (ap (λ (o : Drawn). handed_words (of_drawn o) a.s.now) c.in-Impossible.is), c.sized.ensures); drawn_after = sym (ap (λ (o : Drawn). count_of (of_drawn o) a.drawn.now) c.in-Impossible.is) }
+
+pub returns-in-Refused : goal.returns-in-Refused
+returns-in-Refused c =
+    let a = c.args in
+    record { value = sym (ap (λ (o : Drawn). number (of_drawn o)) c.in-Refused.is); s_after = (sym (ap (λ (o : Drawn). handed_words (of_drawn o) a.s.now) c.in-Refused.is), c.sized.ensures); drawn_after = sym (ap (λ (o : Drawn). count_of (of_drawn o) a.drawn.now) c.in-Refused.is) }

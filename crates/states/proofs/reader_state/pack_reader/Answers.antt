@@ -1,0 +1,5 @@
+-- `reader_state::pack_reader` meets its contract: the numbers as they are, and the flag as one. Assumes nothing.
+use Rattle.states.proofs.reader_state.pack_reader.Goals as goal
+
+pub returns : goal.returns
+returns c = let e = c.flag_of-ended.ensures in cc

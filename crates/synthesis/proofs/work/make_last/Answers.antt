@@ -1,0 +1,73 @@
+-- `synthesis::work::make_last` meets its contract: no row, an only row, or the last row and its test. Assumes nothing.
+use mathlib.Core.Path.{◌∙◌, sym}
+use Prim.Native.Nat.{◌+◌, ◌*◌}
+use native.Mathlib.Omega.{arith}
+use Rattle.lifting.specs.Grid.{side}
+use Rattle.level.proofs.KeptLaws.{kept-none, kept-is}
+use Rattle.synthesis.proofs.WorkLaws.{last_none, last-single, last-made, others}
+use Rattle.synthesis.proofs.KeptLaws.{odd-kept}
+use Rattle.synthesis.specs.Columns.{columns_of}
+use Rattle.synthesis.proofs.FilterColumns.{columns-laws}
+use Rattle.synthesis.proofs.work.make_last.Goals as goal
+
+pub overflow_add-y : goal.overflow_add-y
+overflow_add-y c = omega arith
+
+pub overflow_mul-n : goal.overflow_mul-n
+overflow_mul-n c = omega arith
+
+pub overflow_add-n : goal.overflow_add-n
+overflow_add-n c = omega arith
+
+pub returns-then-y-h : goal.returns-then-y-h
+returns-then-y-h c = let a = c.args in
+    record { stretch_after = last_none (columns_of a.filter) a.k a.w (side a.y a.h) a.n _ c.if-y-h.true; kept = kept-none _ _ }
+
+pub overflow_mul-n-then-is_single : goal.overflow_mul-n-then-is_single
+overflow_mul-n-then-is_single c = omega arith
+
+pub overflow_add-n-then-is_single : goal.overflow_add-n-then-is_single
+overflow_add-n-then-is_single c = omega arith
+
+pub make_single-requires : goal.make_single-requires
+make_single-requires c = omega arith
+
+pub shape_of-stretch-then-is_single : goal.shape_of-stretch-then-is_single
+shape_of-stretch-then-is_single c = c.make_single.auto.stretch
+
+pub returns-then-is_single : goal.returns-then-is_single
+returns-then-is_single c =
+    let a = c.args in
+    record { stretch_after = c.make_single.ensures.stretch_after
+          ∙ last-single (columns_of a.filter) a.k a.w (side a.y a.h) a.n _ (omega arith) (sym c.is_single.ensures ∙ c.if-is_single.true); kept = c.make_single.ensures.kept }
+
+pub overflow_mul-n-2 : goal.overflow_mul-n-2
+overflow_mul-n-2 c = omega arith
+
+pub overflow_add-n-2 : goal.overflow_add-n-2
+overflow_add-n-2 c = omega arith
+
+pub undo_odd-requires : goal.undo_odd-requires
+undo_odd-requires c =
+    let a = c.args in
+    omega (arith, others (side a.y a.h) a.n (omega arith) (sym c.is_single.ensures ∙ c.if-is_single.false))
+
+pub overflow_mul-n-3 : goal.overflow_mul-n-3
+overflow_mul-n-3 c = omega arith
+
+pub overflow_add-n-3 : goal.overflow_add-n-3
+overflow_add-n-3 c = omega arith
+
+pub admit_row-requires : goal.admit_row-requires
+admit_row-requires c = omega arith
+
+pub shape_of-stretch : goal.shape_of-stretch
+shape_of-stretch c = c.undo_odd.auto.stretch
+
+pub returns : goal.returns
+returns c =
+    let a = c.args in
+    record { stretch_after = last-made (columns_of a.filter) a.k a.w (side a.y a.h) a.n _ _ _ (omega arith) (sym c.is_single.ensures ∙ c.if-is_single.false)
+          c.undo_odd.ensures
+          c.admit_row.ensures; kept = kept-is _ _ _ _ (odd-kept (columns_of a.filter) (columns-laws a.filter) a.k a.w (side a.y a.h) (2 * a.n + 1) _)
+          c.undo_odd.ensures }

@@ -1,0 +1,24 @@
+-- `bytes::copy_some` meets its contract: after i turns i bytes are copied. Assumes nothing.
+use mathlib.Core.Path.{◌≡◌, refl, sym, ap, ◌∙◌}
+use mathlib.Core.List.{List}
+use Prim.Native.Nat.{ℕ, ◌+◌, ◌-◌, ◌≤◌, ◌<◌}
+use native.Mathlib.Omega.{arith}
+use native.Mathlib.Numerals.{add-one}
+use borrow.Author.Rules.{rules}
+use lib.ListN.{length, drop, get_or, set, length-set, length-drop}
+use lib.Seq.{paste, paste-zero, paste-suc, get_or-drop}
+use Rattle.text.proofs.bytes.copy_some.Given as goal
+
+-- i bytes of t from place f on stand in o from place a on
+pub record Copied (t d o : List ℕ) (f a n i : ℕ) : Type 0 where
+  pub within : i ≤ n
+  pub from : f + n ≤ length t
+  pub room : a + n ≤ length d
+  pub size : length o ≡ length d
+  pub bytes : o ≡ paste d a (drop f t) i
+
+abbrev pub invariant-loop-i : goal.invariant-loop-i
+invariant-loop-i l = Copied l.text l.initial.out l.out l.from l.at l.n l.i
+
+abbrev pub decreases-loop-i : goal.decreases-loop-i
+decreases-loop-i l = l.n - l.i

@@ -1,0 +1,21 @@
+-- `without_mark` meets its contract: a bit that is set is part of the number. Assumes nothing.
+use mathlib.Core.Path.{refl, sym, ◌∙◌}
+use native.Mathlib.Omega.{arith}
+use Rattle.turns.proofs.MarkLaws.{bit-within, marked-on, marked-off}
+use Rattle.turns.proofs.order.without_mark.Goals as goal
+
+pub is_marked-requires : goal.is_marked-requires
+is_marked-requires c = c.requires.0
+
+pub bit-requires : goal.bit-requires
+bit-requires c = c.requires.0
+
+pub overflow_sub-result : goal.overflow_sub-result
+overflow_sub-result c =
+    omega (arith, bit-within _ _ (sym c.is_marked.ensures ∙ c.if-is_marked.true), c.bit.ensures.0)
+
+pub returns-then-is_marked : goal.returns-then-is_marked
+returns-then-is_marked c = (marked-on _ _ _ c.bit.ensures.0 (sym c.is_marked.ensures ∙ c.if-is_marked.true)).1
+
+pub returns : goal.returns
+returns c = (marked-off _ _ _ refl (sym c.is_marked.ensures ∙ c.if-is_marked.false)).1

@@ -1,0 +1,8 @@
+-- `Writer::max_height` meets its contract: the definition's number. Assumes nothing.
+use mathlib.Core.Path.{refl}
+use Rattle.wavelet.specs.Limits.{max_height}
+use Rattle.writer.proofs.Writer.max_height.Goals as goal
+
+pub returns : goal.returns
+unfolding max_height
+returns c = refl
