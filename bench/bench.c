@@ -9,12 +9,12 @@
 #include <time.h>
 
 /* crate `test_exports`: the row calls and the in-place line calls of the line library */
-uint32_t kernel_predict_row(int32_t *area, size_t len, size_t stride, size_t width, size_t target, size_t left, size_t right);
-uint32_t kernel_update_row(int32_t *area, size_t len, size_t stride, size_t width, size_t target, size_t left, size_t right);
-uint32_t kernel_unupdate_row(int32_t *area, size_t len, size_t stride, size_t width, size_t target, size_t left, size_t right);
-uint32_t kernel_unpredict_row(int32_t *area, size_t len, size_t stride, size_t width, size_t target, size_t left, size_t right);
-void kernel_lift(int32_t *line, size_t len, size_t start);
-uint32_t kernel_unlift(int32_t *line, size_t len, size_t start);
+uint32_t five_three_predict_row(int32_t *area, size_t len, size_t stride, size_t width, size_t target, size_t left, size_t right);
+uint32_t five_three_update_row(int32_t *area, size_t len, size_t stride, size_t width, size_t target, size_t left, size_t right);
+uint32_t five_three_unupdate_row(int32_t *area, size_t len, size_t stride, size_t width, size_t target, size_t left, size_t right);
+uint32_t five_three_unpredict_row(int32_t *area, size_t len, size_t stride, size_t width, size_t target, size_t left, size_t right);
+void five_three_lift(int32_t *line, size_t len, size_t start);
+uint32_t five_three_unlift(int32_t *line, size_t len, size_t start);
 
 /* and those of the integer 9/7 */
 uint32_t nine_seven_predict_row(int32_t *area, size_t len, size_t stride, size_t width, size_t target, size_t left, size_t right, size_t before, size_t after);
@@ -30,11 +30,11 @@ static int32_t start[ROWS * N], area[KINDS][ROWS * N], line[N], out[KINDS][N];
 
 /* rows 0 and 2 are the neighbours of row 1, rows 3 and 4 those beyond; a line call works on row 1 alone */
 #define ROW(name)                                                                                          \
-    static void proved_##name(int k) { kernel_##name(area[k], ROWS * N, N, N, 1, 0, 2); }                  \
+    static void proved_##name(int k) { five_three_##name(area[k], ROWS * N, N, N, 1, 0, 2); }                  \
     static void whole_run_##name(int k) { whole_##name(area[k] + N, area[k], area[k] + 2 * N, N); }        \
     static void short_run_##name(int k) { short_##name(area[k] + N, area[k], area[k] + 2 * N, N); }
 #define LINE(name)                                                                                         \
-    static void proved_##name(int k) { kernel_##name(area[k] + N, N, 0); }                                 \
+    static void proved_##name(int k) { five_three_##name(area[k] + N, N, 0); }                                 \
     static void whole_run_##name(int k) { whole_##name(area[k] + N, N); }                                  \
     static void short_run_##name(int k) { short_##name(area[k] + N, N); }
 #define COPY(name)                                                                                         \

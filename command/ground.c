@@ -13,16 +13,23 @@
 
 static void put_file(void *to, const uint8_t *bytes, size_t count) { output_write((Output *)to, bytes, count); }
 
+/* How far heights of a file with so many levels and that step can be off. */
+static size_t off_by(const char *name, size_t levels, size_t step)
+{
+    size_t off = 0;
+    passed(name, terrain_error_bound(levels, step, &off));
+    return off;
+}
+
 int pack(const Words *words)
 {
     size_t step = option(words, "--step") ? step_of(option(words, "--step")) : 1;
-    size_t levels = option(words, "--levels") ? levels_of(option(words, "--levels")) : TERRAIN_MAX_LEVELS, off = 0;
+    size_t levels = option(words, "--levels") ? levels_of(option(words, "--levels")) : TERRAIN_MAX_LEVELS;
     const char *path = words->word[0], *to = words->word[1];
     Map map = map_read(path, TERRAIN_MAX_WIDTH);
     Plane plane = plane_of(path, &map, levels);
     uint64_t bytes;
     passed(path, terrain_round(plane.numbers, plane.count, map.width, map.height, levels, step));
-    passed(path, terrain_error_bound(levels, step, &off));
     if (was_input(to)) fail(STATUS_USAGE, "%s: the ground file would be written over the map", to);
     Output out = output_open(to);
     FILE *report = output_report(&out);
@@ -30,7 +37,7 @@ int pack(const Words *words)
     output_keep(&out);
     fprintf(report, "%zu x %zu heights, %zu level%s: %llu bytes, %.2f bits a height\n", map.width, map.height, levels, levels == 1 ? "" : "s",
             (unsigned long long)bytes, 8.0 * (double)bytes / (double)plane.count);
-    if (step > 1) fprintf(report, "step %zu: no height is off by more than %zu\n", step, off);
+    if (step > 1) fprintf(report, "step %zu: no height is off by more than %zu\n", step, off_by(path, levels, step));
     return STATUS_DONE;
 }
 
@@ -60,6 +67,7 @@ int unpack(const Words *words)
     loading_rows(&l, put_heights, &u);
     output_keep(&u.out);
     fprintf(report, "%zu x %zu heights, %zu level%s: %llu bytes read\n", s.width, s.height, s.levels, s.levels == 1 ? "" : "s", (unsigned long long)in.at);
+    if (l.step > 1) fprintf(report, "step %zu: no height is off by more than %zu\n", l.step, off_by(in.name, s.levels, l.step));
     free(u.bytes);
     input_close(&in);
     return STATUS_DONE;
@@ -74,7 +82,7 @@ int info(const Words *words)
            (unsigned long long)header[1], (unsigned long long)header[3], (unsigned long long)header[4],
            header[5] == TERRAIN_NINE_SEVEN ? "the integer 9/7" : "the 5/3", (unsigned long long)header[2], header[2] == 1 ? "" : "s");
     if (header[6] == 1) printf("step: 1, every height as it was\n");
-    else printf("step: %llu, heights may be off\n", (unsigned long long)header[6]);
+    else printf("step: %llu, no height is off by more than %zu\n", (unsigned long long)header[6], off_by(in.name, (size_t)header[2], (size_t)header[6]));
     input_close(&in);
     return STATUS_DONE;
 }

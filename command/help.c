@@ -164,8 +164,7 @@ static const struct {
      "Saves the map as a ground file (docs/FORMAT.md): its coefficients at 5 levels,\n"
      "or N, packed, with the size in front and a checksum at the end. A step of 2 to\n"
      "64 rounds them (see round): the file is smaller, and how far a height can be\n"
-     "off is told. How many bytes the file has is told. A rounded file is not read\n"
-     "back yet, but for its header (see info): keep the map.\n"
+     "off is told. How many bytes the file has is told.\n"
      "\n"
      "  terrain pack map.pgm map.ground\n"
      "  terrain pack --step 8 map.png small.ground\n"},
@@ -173,10 +172,11 @@ static const struct {
      "usage: terrain unpack FILE OUT.pgm\n"
      "\n"
      "Writes the map of a ground file (see pack) as a PGM, in the fixed form of\n"
-     "rewrite: every height as it was packed. The file is read to its end; where a\n"
+     "rewrite: every height as it was packed, or, of a file that was rounded by a\n"
+     "step, no height off by more than is told. The file is read to its end; where a\n"
      "byte is damaged or missing, or one is too many, the place is told and an older\n"
      "OUT.pgm stays. (On a stream, `-`, the rows before that place are out: look at\n"
-     "the status.) A file that was rounded by a step is not read back yet.\n"
+     "the status.)\n"
      "\n"
      "  terrain unpack map.ground map.pgm\n"
      "  terrain unpack - - <map.ground | terrain sum -\n"},

@@ -16,15 +16,14 @@ Loading loading_of(Input *in)
     uint64_t header[7];
     Loading l = {.in = in};
     ground_header(in, header);
-    if (header[6] > 1)
-        fail(STATUS_REFUSED, "%s: it was rounded by a step of %u, and such ground files are not loaded yet", in->name, (unsigned)header[6]);
     l.shape = terrain_header_shape(header);
+    l.step = (size_t)header[6];
     l.store_len = terrain_reader_store_length(l.shape);
     l.row_len = (l.shape.width + 1) / 2;
     l.store = (int32_t *)lent(l.store_len, sizeof *l.store, in->name);
     l.row = (int32_t *)lent(l.row_len, sizeof *l.row, in->name);
     l.heights = (uint16_t *)lent(l.shape.width, sizeof *l.heights, in->name);
-    passed(in->name, terrain_load_set_up(l.state, l.shape, (size_t)header[6], l.store, l.store_len));
+    passed(in->name, terrain_load_set_up(l.state, l.shape, l.step, l.store, l.store_len));
     return l;
 }
 

@@ -9,6 +9,7 @@
 typedef struct {
     Input *in;
     terrain_shape shape;
+    size_t step;
     uint64_t state[TERRAIN_LOADER_LENGTH];
     int32_t *store, *row; /* the loader's areas */
     size_t store_len, row_len;

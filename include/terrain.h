@@ -416,8 +416,9 @@ uint32_t terrain_file_header(const uint8_t *bytes, size_t bytes_len, uint64_t he
  * Between calls both are the loader's: lend them as they were left. 1 as for the streams: the array is no loader. */
 
 /* A loader that has taken nothing, of a file with that shape and step, as `terrain_file_header` says them; the needed part of the line store is
- * zeroed. 2 (width), 3 (height), 18 (filter), 4 (levels), 20 (the step is not 1 to 64), 22 (a step above 1 is not loaded yet), 5 (the line
- * store is too short). Where a question says no, state and store stay. */
+ * zeroed. A step above 1 goes by a tolerant reader: 14 never comes. 2 (width), 3 (height), 18 (filter), 4 (levels), 20 (the step is not 1 to
+ * 64), 22 (a step above 1 of a map by the 9/7, or off the origin), 5 (the line store is too short). Where a question says no, state and store
+ * stay. */
 TERRAIN_CHECKED
 uint32_t terrain_load_set_up(uint64_t state[32], terrain_shape shape, size_t step, int32_t *store, size_t store_len);
 

@@ -86,6 +86,41 @@ pub fn file(plane: &[i32], s: Shape, step: usize) -> Vec<u8> {
     bytes
 }
 
+/// "2v, or −2v − 1 below 0", back.
+fn value(x: u64) -> i64 {
+    if x % 2 == 0 {
+        (x / 2) as i64
+    } else {
+        -(x as i64 / 2) - 1
+    }
+}
+
+/// So many numbers of one width from the front of the bytes, which go on after them.
+fn numbers(bytes: &mut &[u8], width: u32, count: usize) -> Option<Vec<u64>> {
+    let (front, rest) = bytes.split_at_checked((width as usize * count).div_ceil(8))?;
+    *bytes = rest;
+    let bit = |i: usize| u64::from(front[i / 8] >> (i % 8) & 1);
+    Some((0..count).map(|n| (0..width as usize).map(|i| bit(n * width as usize + i) << i).sum()).collect())
+}
+
+/// The plane whose numbers these bytes have in the places of rows, if they are as many: no other plane can have this file.
+pub fn plane(mut bytes: &[u8], s: Shape, step: usize) -> Option<Vec<i32>> {
+    let mut plane = vec![0; s.width * s.height];
+    bytes = bytes.get(24..bytes.len().checked_sub(4)?)?;
+    for r in rows(s) {
+        let by = if r.band == LL { 1 } else { step as i64 };
+        for group in plane[order::place(s, r)].chunks_mut(16) {
+            let (&first, rest) = bytes.split_first()?;
+            bytes = rest;
+            let few = group.len().min(8);
+            let mut got = numbers(&mut bytes, WIDTHS[usize::from(first % 16)], few)?;
+            got.extend(numbers(&mut bytes, WIDTHS[usize::from(first / 16)], group.len() - few)?);
+            group.iter_mut().zip(got).for_each(|(v, x)| *v = (by * value(x)).clamp(i32::MIN.into(), i32::MAX.into()) as i32);
+        }
+    }
+    bytes.is_empty().then_some(plane)
+}
+
 /// The worked cases of docs/FORMAT.md: a shape, a step, heights and the file's bytes.
 pub fn worked() -> Vec<(Shape, usize, Vec<u16>, Vec<u8>)> {
     let hex = |s: Shape, step: usize, text: &str| {
@@ -113,6 +148,7 @@ mod tests {
         for (s, step, heights, bytes) in worked() {
             let plane = tolerant::rounded(&maps::forward(&heights, s), s, step);
             assert_eq!(file(&plane, s, step), bytes);
+            assert_eq!(super::plane(&bytes, s, step), Some(plane));
         }
         let square = "89 47 4e 44 0d 0a 1a 0a 01 00 01 01 00 00 00 00 02 00 02 00 00 00 00 00";
         let bytes: Vec<String> = worked()[0].3[..24].iter().map(|b| format!("{b:02x}")).collect();

@@ -1,7 +1,7 @@
 //! The line calls with a start, against T.800's own extension procedure and document 02's formulas: lines that start at an even and at an odd
-//! coordinate, every length to 70 and some beyond, and the lone sample at an odd coordinate.
+//! coordinate, every length to 70 and some beyond, and the single sample at an odd coordinate.
 use terrain::{ccsds_line_backward, ccsds_line_forward, line_backward, line_forward, Question};
-use terrain_tests::areas::{lengths, lines, unset, Guarded};
+use terrain_tests::areas::{lengths, lines, Guarded};
 use terrain_tests::filter::FILTERS;
 use terrain_tests::{grid, test_exports};
 
@@ -60,31 +60,25 @@ fn from_area_to_area_it_is_the_extended_signal_filtered() {
 }
 
 #[test]
-fn in_place_too_and_with_the_high_half_elsewhere() {
+fn in_place_too() {
     each(|lent, start| {
         let (n, i0) = (lent.len(), parity(start));
         let mut area = Guarded::new(&grid::in_halves(lent, i0));
         test_exports::lift(area.lent(), start);
         assert_eq!(area.content(), grid::in_halves(&grid::forward(lent, i0), i0), "{n} numbers from {start}");
 
-        let low = grid::lows(n, i0);
-        let row: Vec<i32> = (0..n).map(|i| if i < low { unset(i) } else { lent[i] }).collect();
-        let (mut area, mut out) = (Guarded::new(lent), Guarded::unset(n + 2));
-        out.lent()[..low].copy_from_slice(&lent[..low]);
-        let answers = (test_exports::unlift(area.lent(), start), test_exports::unlift_by(&row, start, out.lent()));
+        let mut area = Guarded::new(lent);
+        let answer = test_exports::unlift(area.lent(), start);
         match grid::backward(&grid::interleaved(lent, i0), i0) {
             Some(line) => {
-                assert_eq!(answers, (0, 0));
+                assert_eq!(answer, 0);
                 assert_eq!(area.content(), grid::in_halves(&line, i0), "{n} numbers from {start}");
-                assert_eq!(out.content()[..n], grid::in_halves(&line, i0), "{n} numbers from {start}");
             }
             None => {
-                assert_eq!(answers, (14, 14));
+                assert_eq!(answer, 14);
                 assert_eq!(area.content(), lent);
-                assert!(out.is_unset_from(0), "14 and something changed");
             }
         }
-        assert!(out.is_unset_from(n), "the surplus is touched");
     });
 }
 
@@ -93,13 +87,13 @@ fn there_and_back_is_the_line_and_back_and_there_the_values() {
     each(|lent, start| {
         let n = lent.len();
         let (mut between, mut again) = (vec![0; n], vec![0; n]);
-        let lone = n == 1 && start % 2 == 1;
+        let single = n == 1 && start % 2 == 1;
         assert_eq!(test_exports::forward(lent, start, &mut between), 0);
         assert_eq!(test_exports::backward(&between, start, &mut again), 0);
-        if !lone || lent[0].checked_mul(2).is_some() {
+        if !single || lent[0].checked_mul(2).is_some() {
             assert_eq!(again, lent);
         }
-        if !lone || lent[0] % 2 == 0 {
+        if !single || lent[0] % 2 == 0 {
             assert_eq!(test_exports::backward(lent, start, &mut between), 0);
             assert_eq!(test_exports::forward(&between, start, &mut again), 0);
             assert_eq!(again, lent);
@@ -108,7 +102,7 @@ fn there_and_back_is_the_line_and_back_and_there_the_values() {
 }
 
 #[test]
-fn a_lone_sample_at_an_odd_coordinate() {
+fn a_single_sample_at_an_odd_coordinate() {
     for (sample, value) in [(0, 0), (7, 14), (-3, -6), (1 << 30, i32::MIN), (i32::MAX, -2), (i32::MIN, 0)] {
         for start in [1, 3, usize::MAX] {
             let mut out = [0];
@@ -124,9 +118,7 @@ fn a_lone_sample_at_an_odd_coordinate() {
         assert_eq!((test_exports::unlift(&mut area, 2), area), (0, [odd]));
         let mut out = [5];
         assert_eq!((test_exports::backward(&[odd], 1, &mut out), out), (14, [5]));
-        assert_eq!((test_exports::unlift_by(&[odd], 1, &mut out), out), (14, [5]));
         assert_eq!(test_exports::backward(&[odd], 1, &mut []), 5, "5 is asked first");
-        assert_eq!(test_exports::unlift_by(&[odd], 1, &mut []), 5, "5 is asked first");
     }
 }
 
@@ -140,7 +132,7 @@ fn an_area_too_short_gives_5_and_stays() {
                     assert_eq!(call(&vec![i32::MAX; n], start, out.lent()).map_err(|question| question.number), Err(5));
                     assert!(out.is_unset_from(0));
                 }
-                for call in [test_exports::forward, test_exports::backward, test_exports::unlift_by] {
+                for call in [test_exports::forward, test_exports::backward] {
                     let mut out = Guarded::unset(short);
                     assert_eq!(call(&vec![i32::MAX; n], start, out.lent()), 5);
                     assert!(out.is_unset_from(0));

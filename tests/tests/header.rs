@@ -238,7 +238,10 @@ fn the_c_sharp_wrapper_declares_such_calls() {
         for (words, argument) in arguments.iter().zip(call) {
             let of = words.trim_start_matches("ref ").split([' ', '[', '*']).next().expect("a type");
             let (wanted, points) = (argument.of.as_str(), words.contains(['[', '*']) || words.starts_with("ref "));
-            let known = [("UIntPtr", "usize"), ("ulong", "u64"), ("uint", "u32"), ("ushort", "u16"), ("byte", "u8"), ("int", "i32"), ("float", "f32"), ("Shape", "Shape")];
+            let known = [
+                ("UIntPtr", "usize"), ("ulong", "u64"), ("uint", "u32"), ("ushort", "u16"),
+                ("byte", "u8"), ("int", "i32"), ("float", "f32"), ("Shape", "Shape"),
+            ];
             assert!(known.contains(&(of, wanted)) && points == argument.pointer.is_some(), "{name}: {words}, {argument:?}");
         }
     }

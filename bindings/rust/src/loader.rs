@@ -47,7 +47,7 @@ pub struct Loader<'s> {
 }
 
 impl<'s> Loader<'s> {
-    /// One that has taken nothing, of a file with that shape and step ([`crate::file_header`]); a step above 1 is not loaded yet (22). The store has
+    /// One that has taken nothing, of a file with that shape and step ([`crate::file_header`]). The store has
     /// [`crate::reader_store_length`] numbers, the row area (width + 1) / 2.
     pub fn new(shape: Shape, step: usize, store: &'s mut [i32], row: &'s mut [i32]) -> Result<Self, Question> {
         let mut state = [0; 32];

@@ -423,6 +423,12 @@ fn a_ground_file() {
     assert_eq!(pack(&[], Shape::new(1, 4_294_967_295, 1), 1).unwrap_err().number, 5);
     assert_eq!(pack(&[0; 4], Shape::new(2, 2, 1).by(NINE_SEVEN), 2).unwrap_err().number, 22);
     assert!(pack(&map(19, 14), Shape::new(19, 14, 3), 8).unwrap().len() < pack(&map(19, 14), Shape::new(19, 14, 3), 1).unwrap().len());
+    for step in [2, 8, 64] {
+        let (s, heights) = (Shape::new(19, 14, 3), map(19, 14));
+        let ground = unpack(&pack(&heights, s, step).unwrap()).unwrap();
+        let most = ground.heights.iter().zip(&heights).map(|(a, b)| usize::from(a.abs_diff(*b))).max().unwrap();
+        assert!(ground.shape == s && ground.step == step && most > 0 && most <= error_bound(3, step).unwrap());
+    }
     let said = unpack(b"P5 2 2 65535 and no ground file").unwrap_err().to_string();
     assert_eq!(said, "no file has this here: these are not the first bytes of a ground file (question 22)");
     assert_eq!(unpack(b"short").unwrap_err().to_string(), "a file's header has 24 bytes (question 5)");

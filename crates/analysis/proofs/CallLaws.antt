@@ -12,7 +12,8 @@ use Rattle.numbers.specs.Word.{wrap32}
 use Rattle.lifting.specs.Line as five
 use Rattle.lifting.specs.Line.{lo, hi}
 use Rattle.lifting.specs.Grid.{Side}
-use Rattle.lifting.specs.GridHalves as five-halves
+use Rattle.short_lifting.specs.Sums as short
+use Rattle.short_lifting.specs.Line as short-line
 use Rattle.lifting.specs.Rows.{row_changed, rows_changed}
 use Rattle.lifting.specs.Pairs.{first}
 use Rattle.nine_seven.specs.NineSeven as nine
@@ -24,18 +25,18 @@ use Rattle.level.specs.Level.{Memory}
 use Rattle.level.specs.Stretch.{row_by}
 use Rattle.level.proofs.RowSteps.{row-doubled}
 use Rattle.level.proofs.SlotLaws.{slot-room, row-by}
-use Rattle.analysis.specs.Columns.{along_by, row_before, row_after, row_by_four, predicted_of, high_of, updated_of, low_of, columns_of}
+use Rattle.analysis.specs.Columns.{forward_of, short_of, along_by, row_before, row_after, row_by_four, predicted_of, high_of, updated_of, low_of, columns_of}
 use Rattle.analysis.specs.Sets.{has_row, waits_at, row_copied, high_made, low_made, high_copied, columns_made}
 use Rattle.analysis.proofs.FilterColumns.{rows-some}
 
 -- ---- along a row
-pub along-first : (f : ℕ) → f ≡ 0 → five-halves.lifted_in_place ≡ along_by (filter_of f)
-unfolding filter_of along_by five-halves.lifted_in_place
+pub along-first : (f : ℕ) → f ≡ 0 → short-line.lifted_in_place ≡ along_by (short_of f)
+unfolding forward_of along_by short-line.lifted_in_place
 along-first zero e = refl
 along-first (suc f) e = absurd (omega arith)
 
-pub along-second : (f : ℕ) → (f ≡ 0 → ⊥) → nine-halves.lifted_in_place ≡ along_by (filter_of f)
-unfolding filter_of along_by nine-halves.lifted_in_place
+pub along-second : (f : ℕ) → (f ≡ 0 → ⊥) → nine-halves.lifted_in_place ≡ along_by (short_of f)
+unfolding filter_of forward_of along_by nine-halves.lifted_in_place
 along-second zero d = absurd (d refl)
 along-second (suc f) d = refl
 
@@ -60,9 +61,9 @@ four-call n w t a b c e x f room =
 -- ---- a high row
 module _ (w k : ℕ) (H : Side) (q : ℕ) (x₀ x₁ : Memory) where
   pub predicted-first : (f : ℕ) → f ≡ 0 → (filter_of f).rows * w ≤ k → (t l r : ℕ) → t ≡ q % (filter_of 0).rows → l ≡ row_before H 1 q % (filter_of 0).rows
-      → r ≡ row_after H 1 q % (filter_of 0).rows → x₁ ≡ rows_changed (five.predicted wrap32) k w w t l r x₀ → x₁ ≡ predicted_of f w H q x₀
+      → r ≡ row_after H 1 q % (filter_of 0).rows → x₁ ≡ rows_changed (short.predicted wrap32) k w w t l r x₀ → x₁ ≡ predicted_of f w H q x₀
   unfolding predicted_of filter_of
-  predicted-first zero z room t l r et el er e = e ∙ row-call 0 k w room (five.predicted wrap32) t l r q (row_before H 1 q) (row_after H 1 q) x₀ et el er
+  predicted-first zero z room t l r et el er e = e ∙ row-call 0 k w room (short.predicted wrap32) t l r q (row_before H 1 q) (row_after H 1 q) x₀ et el er
   predicted-first (suc f) z room t l r et el er e = absurd (omega arith)
 
   pub predicted-second : (f : ℕ) → (f ≡ 0 → ⊥) → (filter_of f).rows * w ≤ k → (t l r b a : ℕ) → t ≡ q % (filter_of 1).rows → l ≡ row_before H 1 q % (filter_of 1).rows
@@ -94,7 +95,7 @@ module _ (w k : ℕ) (H : Side) (q : ℕ) (x₀ x₁ : Memory) where
       simp (lt-ltb 1 H.length g) (e ∙ row-call f k w room (updated_of f) t l r b (row_before H 1 q) (row_after H 1 q) x₀ et el er)
 
   pub low_first : (f : ℕ) → f ≡ 0 → (filter_of f).rows * w ≤ k → 1 < H.length → (n t l r : ℕ) → t ≡ waits_at (filter_of 0).ahead lo n % (filter_of 0).rows
-      → l ≡ row_before H 1 q % (filter_of 0).rows → r ≡ row_after H 1 q % (filter_of 0).rows → x₁ ≡ rows_changed (five.updated wrap32) k w w t l r x₀
+      → l ≡ row_before H 1 q % (filter_of 0).rows → r ≡ row_after H 1 q % (filter_of 0).rows → x₁ ≡ rows_changed (short.updated wrap32) k w w t l r x₀
       → x₁ ≡ low_of f w H (waits_at (filter_of f).ahead lo n) q x₀
   low_first zero z room g n t l r et el er e = low-by 0 room g (waits_at (filter_of 0).ahead lo n) t l r et el er (unfold updated_of in e)
   low_first (suc f) z room g n t l r et el er e = absurd (omega arith)

@@ -10,27 +10,26 @@ use lib.Dec.{ltb}
 use borrow.Author.Tests.{lt-ltb, le-ltb}
 use Rattle.numbers.specs.Signal.{pick}
 use Rattle.numbers.specs.Word.{wrap32}
-use Rattle.lifting.specs.Line as five
 use Rattle.lifting.specs.Line.{Half, lo, hi}
 use Rattle.lifting.specs.Grid.{Side, place, count, deinterleaved}
-use Rattle.lifting.proofs.GridLaws as five-laws
 use Rattle.lifting.proofs.Neighbours.{left, right, left-in, right-in}
 use Rattle.lifting.proofs.RowLaws.{row-order}
 use Rattle.nine_seven.specs.NineSeven as nine
 use Rattle.nine_seven.proofs.MirrorLaws.{far_before, far_after, far-before-in, far-after-in}
 use Rattle.nine_seven.proofs.NineSevenLaws as nine-laws
 use Rattle.nine_seven.proofs.FiveRows as rows
+use Rattle.short_lifting.specs.Sums as short
+use Rattle.short_lifting.proofs.LineLaws as short-laws
 use Rattle.filters.specs.Filters.{filter_of}
-use Rattle.filters.proofs.Filters.{filter-laws}
-use Rattle.filters.proofs.Liftings.{forward-local}
 use Rattle.wavelet.specs.Bands.{Grid, columns_lifted}
 use Rattle.wavelet.proofs.SideLaws.{count-lo}
 use Rattle.level.specs.Level.{Memory}
 use Rattle.level.specs.Moves.{doubled}
 use Rattle.level.specs.Stretch.{slot, row_place, half_place, RowStands, row_by}
 use Rattle.level.proofs.RowsIn.{Only, half-inside, only-by, by-is}
-use Rattle.analysis.specs.Columns.{row_before, row_after, row_by_four, predicted_of, high_of, updated_of, low_of, columns_of}
+use Rattle.analysis.specs.Columns.{forward_of, short_of, row_before, row_after, row_by_four, predicted_of, high_of, updated_of, low_of, columns_of}
 use Rattle.analysis.specs.Stands.{Row, row_of, high}
+use Rattle.analysis.proofs.ShortFilters.{laws-by, local}
 use Rattle.analysis.proofs.ColumnLaws.{ColumnLaws}
 use Rattle.analysis.proofs.Rows.{only_none}
 use Rattle.analysis.proofs.NearRows.{before-high, after-high, far-before-high, far-after-high, before-low, after-low}
@@ -73,7 +72,7 @@ only-either false o u = u
 
 predicted-only : (f w : ℕ) (H : Side) (q : ℕ) (x : Memory) → Only (filter_of f).rows w q x (predicted_of f w H q x)
 unfolding predicted_of filter_of
-predicted-only zero w H q x = only-by {m = 4} (omega arith) w q (five.predicted wrap32) _ _ x
+predicted-only zero w H q x = only-by {m = 4} (omega arith) w q (short.predicted wrap32) _ _ x
 predicted-only (suc f) w H q x = only-four {m = 8} (omega arith) w q (nine.predicted wrap32) _ _ _ _ x
 
 high-only : (f w : ℕ) (H : Side) (q : ℕ) (x : Memory) → Only (filter_of f).rows w q x (high_of f w H q x)
@@ -86,20 +85,20 @@ low-only f w H t q x = only-either (ltb 1 H.length) (only-by (rows-some f) w t (
 
 -- ---- a line's numbers, by the filter's number
 module _ (S : Side) (x : ℕ → ℤ) (n : ℕ) where
-  low_near : (f : ℕ) → 1 < S.length → n < count lo S → (filter_of f).forward wrap32 S x lo n
-      ≡ updated_of f (x (place S lo n)) ((filter_of f).forward wrap32 S x hi (left hi S n)) ((filter_of f).forward wrap32 S x hi (right hi S n))
-  unfolding filter_of updated_of
-  low_near zero g b = five-laws.low_near S g wrap32 x n b
+  low_near : (f : ℕ) → 1 < S.length → n < count lo S → forward_of f wrap32 S x lo n
+      ≡ updated_of f (x (place S lo n)) (forward_of f wrap32 S x hi (left hi S n)) (forward_of f wrap32 S x hi (right hi S n))
+  unfolding filter_of forward_of updated_of
+  low_near zero g b = short-laws.low_near S g wrap32 x n b
   low_near (suc f) g b = nine-laws.low_near S g wrap32 x n b
 
-  low-one : (f : ℕ) → S.length ≤ 1 → (filter_of f).forward wrap32 S x lo n ≡ x (place S lo n)
-  unfolding filter_of
-  low-one zero g = five-laws.low-one S g wrap32 x n
+  low-one : (f : ℕ) → S.length ≤ 1 → forward_of f wrap32 S x lo n ≡ x (place S lo n)
+  unfolding filter_of forward_of
+  low-one zero g = short-laws.low-one S g wrap32 x n
   low-one (suc f) g = nine-laws.low-one S g wrap32 x n
 
-  high_one : (f : ℕ) → S.length ≤ 1 → (filter_of f).forward wrap32 S x hi n ≡ wrap32 (pos 2 *ℤ x (place S hi n))
-  unfolding filter_of
-  high_one zero g = five-laws.high_one S g wrap32 x n
+  high_one : (f : ℕ) → S.length ≤ 1 → forward_of f wrap32 S x hi n ≡ wrap32 (pos 2 *ℤ x (place S hi n))
+  unfolding filter_of forward_of
+  high_one zero g = short-laws.high_one S g wrap32 x n
   high_one (suc f) g = nine-laws.high_one S g wrap32 x n
 
 -- ---- rows of the level, told by their columns
@@ -139,14 +138,14 @@ predicted-made : (f : ℕ) (W H : Side) (g : Grid) (n : ℕ) (x : Memory) → 1 
     → RowStands (filter_of f).rows W x (2 * n + 1) (deinterleaved W (g (place H hi n)))
     → ((q k : ℕ) → q ≡ 2 * (H.start % 2 + k) → k < count lo H → n < H.start % 2 + k + (filter_of f).ahead
     → RowStands (filter_of f).rows W x q (deinterleaved W (g (place H lo k))))
-    → RowStands (filter_of f).rows W (predicted_of f W.length H (2 * n + 1) x) (2 * n + 1) (deinterleaved W (columns_lifted (filter_of f) wrap32 H g hi n))
-unfolding filter_of predicted_of columns_lifted
+    → RowStands (filter_of f).rows W (predicted_of f W.length H (2 * n + 1) x) (2 * n + 1) (deinterleaved W (columns_lifted (short_of f) wrap32 H g hi n))
+unfolding filter_of forward_of predicted_of columns_lifted
 predicted-made zero W H g n x l b own even h i t =
-    by-is {m = 4} (omega arith) (five.predicted wrap32) W (2 * n + 1) (row_before H 1 (2 * n + 1)) (row_after H 1 (2 * n + 1)) x _ _ _ own
+    by-is {m = 4} (omega arith) (short.predicted wrap32) W (2 * n + 1) (row_before H 1 (2 * n + 1)) (row_after H 1 (2 * n + 1)) x _ _ _ own
     (even _ (left lo H n) (before-high H l n b) (left-in lo H n l b).0 (omega (arith, left_near H l n b)))
     (even _ (right lo H n) (after-high H l n b) (right-in lo H n l b).0 (omega (arith, right_near H l n b))) h i t
-    ∙ by_three W (five.predicted wrap32) _ _ _ (columns_lifted (filter_of 0) wrap32 H g hi n)
-    (λ c. sym (five-laws.high-near H l wrap32 (λ r. g r c) n b)) h i
+    ∙ by_three W (short.predicted wrap32) _ _ _ (columns_lifted (short_of 0) wrap32 H g hi n)
+    (λ c. sym (short-laws.high-near H l wrap32 (λ r. g r c) n b)) h i
 predicted-made (suc f) W H g n x l b own even h i t =
     four_is {m = 8} (omega arith) (nine.predicted wrap32) W (2 * n + 1) (row_before H 1 (2 * n + 1)) (row_after H 1 (2 * n + 1)) (row_before H 3 (2 * n + 1))
     (row_after H 3 (2 * n + 1)) x _ _ _ _ _ own
@@ -154,7 +153,7 @@ predicted-made (suc f) W H g n x l b own even h i t =
     (even _ (right lo H n) (after-high H l n b) (right-in lo H n l b).0 (omega (arith, right_near H l n b)))
     (even _ (far_before H n) (far-before-high H l n b) (far-before-in H n l b).0 (omega (arith, far-left-near H l n b)))
     (even _ (far_after H n) (far-after-high H l n b) (far-after-in H n l b).0 (omega (arith, far-right-near H l n b))) h i t
-    ∙ by-columns W (nine.predicted wrap32) _ _ _ _ _ (columns_lifted (filter_of (suc f)) wrap32 H g hi n)
+    ∙ by-columns W (nine.predicted wrap32) _ _ _ _ _ (columns_lifted (short_of (suc f)) wrap32 H g hi n)
     (λ c. sym (nine-laws.high-near H l wrap32 (λ r. g r c) n b)) h i
 
 high-made : (f : ℕ) (W H : Side) (g : Grid) (n : ℕ) (x : Memory) → n < count hi H
@@ -176,18 +175,18 @@ high-made f W H g n x b own evens = go (dec_lt 1 H.length)
     go : Dec (1 < H.length) → RowStands (filter_of f).rows W
         (pick (ltb 1 H.length) (predicted_of f W.length H (2 * n + 1) x)
         (row_by (filter_of f).rows doubled W.length (2 * n + 1) (2 * n + 1) (2 * n + 1) x))
-        (2 * n + 1) (deinterleaved W (columns_lifted (filter_of f) wrap32 H g hi n))
+        (2 * n + 1) (deinterleaved W (columns_lifted (short_of f) wrap32 H g hi n))
     go (yes l) = rw (lt-ltb 1 H.length l) (predicted-made f W H g n x l b own_row even-row)
     go (no l) = rw (le-ltb 1 H.length (omega arith)) (λ h i t.
         by-is (rows-some f) doubled W (2 * n + 1) (2 * n + 1) (2 * n + 1) x _ _ _ own_row own_row own_row h i t
-        ∙ by_three W doubled (g (place H hi n)) (g (place H hi n)) (g (place H hi n)) (columns_lifted (filter_of f) wrap32 H g hi n)
+        ∙ by_three W doubled (g (place H hi n)) (g (place H hi n)) (g (place H hi n)) (columns_lifted (short_of f) wrap32 H g hi n)
         (λ c. unfold columns_lifted in sym (high_one H (λ r. g r c) n f (omega arith))) h i)
 
 -- ---- a low row, of a copy of its own
 low-made : (f : ℕ) (W H : Side) (g : Grid) (n t : ℕ) (x : Memory) → H.start % 2 ≤ n → n - H.start % 2 < count lo H
     → Row (columns_of f) W H g x t (row_of (columns_of f) W H g (2 * n))
     → ((j : ℕ) → j < count hi H → j ≤ n → n ≤ j + 1 → Row (columns_of f) W H g x (2 * j + 1) (high (columns_of f) W H g j))
-    → Row (columns_of f) W H g (low_of f W.length H t (2 * n) x) t (columns_lifted (filter_of f) wrap32 H g lo (n - H.start % 2))
+    → Row (columns_of f) W H g (low_of f W.length H t (2 * n) x) t (columns_lifted (short_of f) wrap32 H g lo (n - H.start % 2))
 unfolding low_of
 low-made f W H g n t x s b own highs = go (dec_lt 1 H.length)
   where
@@ -195,31 +194,31 @@ low-made f W H g n t x s b own highs = go (dec_lt 1 H.length)
     own_row = rw (low-place H n s) own
 
     high-row : (q k : ℕ) → q ≡ 2 * k + 1 → k < count hi H → (n ≤ k + 1) × (k ≤ n)
-        → RowStands (filter_of f).rows W x q (deinterleaved W (columns_lifted (filter_of f) wrap32 H g hi k))
+        → RowStands (filter_of f).rows W x q (deinterleaved W (columns_lifted (short_of f) wrap32 H g hi k))
     high-row q k e c l = moved W (filter_of f).rows x q (2 * k + 1) _ e (highs k c l.1 l.0)
 
     go : Dec (1 < H.length) → RowStands (filter_of f).rows W
         (pick (ltb 1 H.length) (row_by (filter_of f).rows (updated_of f) W.length t (row_before H 1 (2 * n)) (row_after H 1 (2 * n)) x) x) t
-        (deinterleaved W (columns_lifted (filter_of f) wrap32 H g lo (n - H.start % 2)))
+        (deinterleaved W (columns_lifted (short_of f) wrap32 H g lo (n - H.start % 2)))
     go (yes l) = rw (lt-ltb 1 H.length l) (λ h i q.
         by-is (rows-some f) (updated_of f) W t (row_before H 1 (2 * n)) (row_after H 1 (2 * n)) x _ _ _ own_row
         (high-row _ (left hi H (n - H.start % 2)) (before-low H l n s b) (left-in hi H (n - H.start % 2) l b).0 (left-beside H l n s b))
         (high-row _ (right hi H (n - H.start % 2)) (after-low H l n s b) (right-in hi H (n - H.start % 2) l b).0 (right-beside H l n s b)) h i q
-        ∙ by_three W (updated_of f) (g (place H lo (n - H.start % 2))) (columns_lifted (filter_of f) wrap32 H g hi (left hi H (n - H.start % 2)))
-        (columns_lifted (filter_of f) wrap32 H g hi (right hi H (n - H.start % 2))) (columns_lifted (filter_of f) wrap32 H g lo (n - H.start % 2))
+        ∙ by_three W (updated_of f) (g (place H lo (n - H.start % 2))) (columns_lifted (short_of f) wrap32 H g hi (left hi H (n - H.start % 2)))
+        (columns_lifted (short_of f) wrap32 H g hi (right hi H (n - H.start % 2))) (columns_lifted (short_of f) wrap32 H g lo (n - H.start % 2))
         (λ c. unfold columns_lifted in sym (low_near H (λ r. g r c) (n - H.start % 2) f l b)) h i)
     go (no l) = rw (le-ltb 1 H.length (omega arith)) (λ h i q.
         own_row h i q
         ∙ by_three W (λ u _ _. u) (g (place H lo (n - H.start % 2))) (g (place H lo (n - H.start % 2))) (g (place H lo (n - H.start % 2)))
-        (columns_lifted (filter_of f) wrap32 H g lo (n - H.start % 2))
+        (columns_lifted (short_of f) wrap32 H g lo (n - H.start % 2))
         (λ c. unfold columns_lifted in sym (low-one H (λ r. g r c) (n - H.start % 2) f (omega arith))) h i)
 
 pub columns-laws : (f : ℕ) → ColumnLaws (columns_of f)
 columns-laws f = record {
   looks = ahead-some f;
   keeps = rows_are f;
-  reads = λ W x y h n b e. (filter-laws f).forward-reads wrap32 W x y h n b (λ i p _. e i p);
-  local = λ s N N' x h n l m. forward-local f wrap32 s N N' x x h n l m (λ i _. refl);
+  reads = λ W x y h n b e. (laws-by f).forward-reads wrap32 W x y h n b (λ i p _. e i p);
+  local = local f wrap32;
   only_high = high-only f;
   only-low = low-only f;
   high_is = high-made f;

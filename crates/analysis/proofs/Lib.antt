@@ -1,4 +1,5 @@
 -- What is asked of a filter, and that a level by any such meets what the streams ask.
+pub mod ShortFilters
 pub mod ColumnLaws
 pub mod Rows
 pub mod SetMade
@@ -11,6 +12,7 @@ pub mod ForwardLaws
 pub mod SlotLaws
 pub mod CallLaws
 pub mod SameSets
+pub mod PassLaws
 pub mod PairLaws
 pub mod SetLaws
 pub mod StretchLaws

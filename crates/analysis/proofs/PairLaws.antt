@@ -9,19 +9,19 @@ use borrow.Author.Tests.{lt-ltb, le-ltb, le-leb, lt-leb, eq-eqb, ne_eqb, eqb-tru
 use Rattle.numbers.specs.Signal.{pick}
 use Rattle.numbers.specs.Word.{wrap32}
 use Rattle.numbers.proofs.Sweep.{both}
-use Rattle.lifting.specs.Line.{lo, hi, predicted, updated}
+use Rattle.lifting.specs.Line.{lo, hi}
 use Rattle.lifting.specs.Grid.{Side, count}
 use Rattle.lifting.specs.Rows.{row_changed, rows_changed}
-use Rattle.lifting.specs.Pairs.{first, pair_fits, pair_lifted, pair_copied}
-use Rattle.lifting.proofs.ColumnLaws.{pair-fits}
+use Rattle.lifting.specs.Pairs.{first}
+use Rattle.short_lifting.specs.Sums.{predicted, updated}
 use Rattle.filters.specs.Filters.{filter_of}
 use Rattle.wavelet.proofs.SideLaws.{count-lo, count-hi}
 use Rattle.level.specs.Level.{Memory}
 use Rattle.level.specs.Stretch.{row_by}
-use Rattle.level.proofs.SlotLaws.{slot-room, row-by}
+use Rattle.level.proofs.SlotLaws.{row-by}
 use Rattle.analysis.specs.Columns.{row_before, row_after, predicted_of, high_of, updated_of, low_of, columns_of}
 use Rattle.analysis.specs.Sets.{has_row, rows_to, row_copied, row_lifted, high_made, low_made, high_copied, columns_made, wait_lifted, set_made}
-use Rattle.analysis.specs.Pairs.{is_pair, pair_columns, pair_made}
+use Rattle.analysis.specs.Pairs.{is_pair, pair_columns, pair_made, pair_lifted, pair_copied}
 use Rattle.analysis.proofs.SetMade.{has-low, has-high}
 use Rattle.analysis.proofs.NearRows.{high-in, low-in, low-out, before-high, after-high, before-low, after-low}
 use Rattle.analysis.proofs.CallLaws.{copied-same}
@@ -36,25 +36,19 @@ module _ (w n r k h l f : ℕ) (eh : h ≡ (2 * n + 1) % 4) (el : l ≡ (2 * n +
   same : r % 4 ≡ r
   same = omega arith
 
-  in-slots : (b q : ℕ) → b ≡ q % 4 → pair_fits k w w h l r b ≡ true
-  in-slots b q eb =
-      let four : 0 < 4 = omega arith in
-      let a₁ = slot-room four w (2 * n + 1) in
-      let a₂ = slot-room four w (2 * n) in
-      let a₃ = slot-room four w r in
-      let a₄ = slot-room four w q in
-      pair-fits k w w h l r b (λ e. omega arith) (omega arith) (rw eh (omega arith)) (rw own (omega arith)) (rw (← same) (omega arith)) (rw eb (omega arith))
+  -- what the pass requires: b is any of its slots
+  pub slots-in : (b q : ℕ) → b ≡ q % 4 → (4 * w ≤ k) × (h < 4) × (l < 4) × (r < 4) × (b < 4) × (l ≡ h → ⊥)
+  slots-in b q eb = (room, omega arith, omega arith, few, omega arith, λ e. omega arith)
 
-  pub columns-later : (x₀ x₁ : Memory) → 0 < n → x₁ ≡ pick (pair_fits k w w h l r f) (pair_copied w w h l r f x₀) x₀ → x₁ ≡ pair_columns w n r x₀
+  pub columns-later : (x₀ x₁ : Memory) → 0 < n → x₁ ≡ pair_copied w w h l r f x₀ → x₁ ≡ pair_columns w n r x₀
   unfolding pair_columns pair_copied pair_lifted row_by
-  columns-later x₀ x₁ z e = rw (lt-ltb 0 n z, ← eh, ← own, ← ef, same) (rw (in-slots f (2 * n + 3) ef) at e)
+  columns-later x₀ x₁ z e = rw (lt-ltb 0 n z, ← eh, ← own, ← ef, same) e
 
-  pub columns-first : (m : ℕ) (x₀ x₁ x₂ : Memory) → m ≡ k → n ≡ 0 → x₁ ≡ pick (pair_fits k w w h l r h) (pair_lifted w w h l r h x₀) x₀
+  pub columns-first : (m : ℕ) (x₀ x₁ x₂ : Memory) → m ≡ k → n ≡ 0 → x₁ ≡ pair_lifted w w h l r h x₀
       → x₂ ≡ rows_changed first m w w f h h x₁ → x₂ ≡ pair_columns w n r x₀
   unfolding pair_columns pair_lifted row_by
-  columns-first m x₀ x₁ x₂ em z e₁ e₂ =
+  columns-first m x₀ x₁ x₂ em z e e₂ =
       let four : 0 < 4 = omega arith in
-      let e : x₁ ≡ pair_lifted w w h l r h x₀ = rw (in-slots h (2 * n + 1) eh) at e₁ in
       let d : x₂ ≡ row_changed first w w f h h x₁ = e₂ ∙ rw (ef, eh) (row-by four first m w (2 * n + 3) (2 * n + 1) (2 * n + 1) x₁ (rw em room)) in
       rw (le-ltb 0 n (omega arith), ← eh, ← own, ← ef, same) (cc (d, e))
 

@@ -9,7 +9,7 @@ use lib.Dec.{ltb}
 use borrow.Author.Tests.{lt-ltb, le-ltb}
 use Rattle.numbers.specs.Signal.{pick}
 use Rattle.numbers.specs.Word.{wrap32}
-use Rattle.lifting.specs.Line as five
+use Rattle.short_lifting.specs.Sums as short
 use Rattle.lifting.specs.Line.{Half, lo, hi}
 use Rattle.lifting.specs.Grid.{Side, count}
 use Rattle.lifting.specs.Pairs.{first}
@@ -104,7 +104,7 @@ same-predicted : (f s n k w : ℕ) (x : Memory) → 2 ≤ n → 2 ≤ k → n % 
 unfolding predicted_of filter_of
 same-predicted zero s n k w x a b e =
     rw (one-before 0 s n a, one-before 0 s k b, one-after 0 s n a, one-after 0 s k b)
-    (by_slots 4 w x (five.predicted wrap32) _ _ _ _ _ _ (omega arith) (omega arith) (omega arith))
+    (by_slots 4 w x (short.predicted wrap32) _ _ _ _ _ _ (omega arith) (omega arith) (omega arith))
 same-predicted (suc f) s n k w x a b e =
     rw (
       one-before (suc f) s n a,

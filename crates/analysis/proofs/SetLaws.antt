@@ -17,7 +17,7 @@ use Rattle.filters.specs.Filters.{filter_of}
 use Rattle.wavelet.proofs.SideLaws.{count-lo, count-hi}
 use Rattle.level.specs.Level.{Memory}
 use Rattle.level.specs.Stretch.{row_place, row_in, row_unlifted}
-use Rattle.analysis.specs.Columns.{along_by, row_after, columns_of}
+use Rattle.analysis.specs.Columns.{short_of, along_by, row_after, columns_of}
 use Rattle.analysis.specs.Sets.{has_row, waits_at, rows_to, row_lifted, columns_made, wait_lifted, set_made}
 use Rattle.analysis.specs.Pairs.{is_pair, pair_columns, pair_made}
 use Rattle.analysis.proofs.NearRows.{low-in, high-in}
@@ -38,12 +38,12 @@ same-slot m s q e = ap (λ (t : ℕ). t % m) e ∙ mod-mod q m
 
 -- ---- a row lifted in a part of the store that is lent
 pub lift-part : (f : ℕ) (W : Side) (q a k : ℕ) (l z : List ℤ) → a ≡ row_place (filter_of f).rows W.length q → k ≡ W.length → a + W.length ≤ length l
-    → length z ≡ k → at z ≡ along_by (filter_of f) (side W.start (length (mid_of a k l))) (at (mid_of a k l))
+    → length z ≡ k → at z ≡ along_by (short_of f) (side W.start (length (mid_of a k l))) (at (mid_of a k l))
     → at (put_mid a k l z) ≡ row_lifted (columns_of f) W q (at l)
 unfolding row_unlifted row_in
 lift-part f W q a k l z e d h s g =
     let mid : length (mid_of a k l) ≡ W.length = length-mid a k l (omega arith) ∙ d in
-    let y : at z ≡ along_by (filter_of f) W (at (mid_of a k l)) = rw mid at g in
+    let y : at z ≡ along_by (short_of f) W (at (mid_of a k l)) = rw mid at g in
     cc (d, e, y, at_mid a k l, at-put a k l z s (omega arith))
 
 -- ---- the 5/3's set of two rows

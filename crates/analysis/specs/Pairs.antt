@@ -2,9 +2,11 @@
 use Rattle.std.specs.Prelude.{Bool, ℕ, ◌+◌, ◌*◌, ltb, eqb}
 use Rattle.numbers.specs.Signal.{pick, both}
 use Rattle.numbers.specs.Word.{wrap32}
-use Rattle.lifting.specs.Line.{lo, hi, predicted, updated}
+use Rattle.lifting.specs.Line.{lo, hi}
 use Rattle.lifting.specs.Grid.{Side}
-use Rattle.lifting.specs.Pairs.{first}
+use Rattle.lifting.specs.Rows.{row_changed}
+use Rattle.lifting.specs.Pairs.{first, changed_at}
+use Rattle.short_lifting.specs.Sums.{predicted, updated}
 use Rattle.level.specs.Level.{Memory}
 use Rattle.level.specs.Stretch.{row_by}
 use Rattle.analysis.specs.Columns.{columns_of}
@@ -24,3 +26,16 @@ pair_columns w n r x =
 -- and both lifted along the row
 unfoldable pub pair_made : Side → ℕ → ℕ → Memory → Memory
 pair_made W n r x = row_lifted (columns_of 0) W (2 * n + 3) (row_lifted (columns_of 0) W (2 * n) (pair_columns W.length n r x))
+
+-- ---- the pass over the first k columns of rows of w numbers, told by their slots: row h predicted by rows l and r, and then row l updated by row b and by
+-- row h
+unfoldable pub pair_lifted : ℕ → ℕ → ℕ → ℕ → ℕ → ℕ → Memory → Memory
+pair_lifted w k h l r b x = row_changed (updated wrap32) w k l b h (row_changed (predicted wrap32) w k h l r x)
+
+-- the same, and row h copied to row b
+unfoldable pub pair_copied : ℕ → ℕ → ℕ → ℕ → ℕ → ℕ → Memory → Memory
+pair_copied w k h l r b x = row_changed first w k b h h (pair_lifted w k h l r b x)
+
+-- one column of it, at its places in these rows
+abbrev pub lifted_at : ℕ → ℕ → ℕ → ℕ → Memory → Memory
+lifted_at h l r b x = changed_at (updated wrap32) l b h (changed_at (predicted wrap32) h l r x)

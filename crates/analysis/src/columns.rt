@@ -13,6 +13,7 @@ use crate::{near, slots};
 use level::moves;
 use lifting::rows;
 use nine_seven::rows as nine_seven_rows;
+use short_lifting::rows as short_rows;
 
 // ---- the filter's own steps
 
@@ -24,7 +25,7 @@ fn predict_row(store: &mut [i32], filter: usize, w: usize, y: usize, m: usize, n
     if filter == 0 {
         let high = slots::slot_on(0, n, 1);
         let by = near::beside_high(0, y, m, n);
-        rows::predict_row(store, w, w, high, by.left, by.right);
+        short_rows::predict_row(store, w, w, high, by.left, by.right);
         return;
     }
     let high = slots::slot_on(1, n, 1);
@@ -44,7 +45,7 @@ fn update_row(store: &mut [i32], filter: usize, w: usize, y: usize, m: usize, n:
     if filter == 0 {
         let t = slots::low_waits(0, n);
         let by = near::beside_low(0, y, m, n);
-        rows::update_row(store, w, w, t, by.left, by.right);
+        short_rows::update_row(store, w, w, t, by.left, by.right);
         return;
     }
     let t = slots::low_waits(1, n);

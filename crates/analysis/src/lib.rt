@@ -5,5 +5,6 @@
 mod columns;
 pub mod forward;
 mod near;
+mod pairs;
 mod sets;
 mod slots;

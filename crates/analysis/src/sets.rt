@@ -4,18 +4,18 @@ ghost use Rattle.std.specs.Prelude.{◌≡◌, ◌+◌, ◌*◌, ◌%◌, ◌≤
 ghost use Rattle.numbers.specs.Signal.{at, pick};
 ghost use Rattle.lifting.specs.Grid.{side};
 ghost use Rattle.filters.specs.Filters.{filter_of};
-ghost use Rattle.analysis.specs.Columns.{along_by, columns_of};
+ghost use Rattle.analysis.specs.Columns.{along_by, short_of, columns_of};
 ghost use Rattle.analysis.specs.Sets.{rows_to, row_lifted, set_made};
 ghost use Rattle.analysis.specs.Pairs.{is_pair, pair_columns, pair_made};
 
-use crate::{columns, near, slots};
+use crate::{columns, near, pairs, slots};
 use level::moves;
-use lifting::{line, pairs};
 use nine_seven::line as nine_seven_line;
+use short_lifting::line;
 
 // A row in halves lifted.
 fn lift_line(line: &mut [i32], filter: usize, x: usize)
-    ensures { at line.new ≡ along_by (filter_of filter) (side x (length line.old)) (at line.old) }
+    ensures { at line.new ≡ along_by (short_of filter) (side x (length line.old)) (at line.old) }
 {
     if filter == 0 {
         line::lift(line, x);
@@ -47,11 +47,21 @@ fn pair_columns(store: &mut [i32], w: usize, n: usize, r: usize)
     let high = slots::slot_on(0, n, 1);
     let free = slots::slot_on(0, n, 3);
     if 0 < n {
-        pairs::lift_and_copy(store, w, w, high, low, r, free);
+        pairs::lift_and_copy(store, w, high, low, r, free);
     } else {
-        pairs::lift_pair(store, w, w, high, low, r, high);
+        pairs::lift_pair(store, w, high, low, r, high);
         moves::copy_row(store, w, high, free);
     }
+}
+
+// The row in slot s lifted along the row. That the line's call stands here too, beside `lift_line`, keeps it a function by itself, and this one small.
+fn lift_slot(store: &mut [i32], w: usize, x: usize, s: usize)
+    requires { (4 * w ≤ length store.old) × (s < 4) }
+    ensures { at store.new ≡ row_lifted (columns_of 0) (side x w) s (at store.old) }
+{
+    let from = s * w;
+    let to = from + w;
+    line::lift(&mut store[from..to], x);
 }
 
 // The set: its columns, then both rows along the row where they wait.
@@ -60,8 +70,8 @@ fn make_pair(store: &mut [i32], w: usize, x: usize, n: usize, r: usize)
     ensures { at store.new ≡ pair_made (side x w) n r (at store.old) }
 {
     pair_columns(store, w, n, r);
-    lift_row(store, 0, w, x, true, slots::slot_on(0, n, 0));
-    lift_row(store, 0, w, x, true, slots::slot_on(0, n, 3));
+    lift_slot(store, w, x, slots::slot_on(0, n, 0));
+    lift_slot(store, w, x, slots::slot_on(0, n, 3));
 }
 
 // Whether set n of m rows is such a set,

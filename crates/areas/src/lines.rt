@@ -11,7 +11,7 @@ use crate::{place, rows};
 // ---- a line into halves
 
 // The even places of a line to a row, from place `to` on.
-fn part_evens(line: &[i32], row: &mut [i32], to: usize)
+fn deinterleave_evens(line: &[i32], row: &mut [i32], to: usize)
     requires { to + (length line.now - length line.now / 2) ≤ length row.old }
     ensures { at row.new ≡
         spliced to (length line.now - length line.now / 2) (λ j. at line.now (2 * j)) (at row.old) }
@@ -26,7 +26,7 @@ fn part_evens(line: &[i32], row: &mut [i32], to: usize)
 }
 
 // Its odd places.
-fn part_odds(line: &[i32], row: &mut [i32], to: usize)
+fn deinterleave_odds(line: &[i32], row: &mut [i32], to: usize)
     requires { to + length line.now / 2 ≤ length row.old }
     ensures { at row.new ≡
         spliced to (length line.now / 2) (λ j. at line.now (2 * j + 1)) (at row.old) }
@@ -40,7 +40,7 @@ fn part_odds(line: &[i32], row: &mut [i32], to: usize)
 }
 
 // A line to a row in halves, at its front.
-pub fn part_line(line: &[i32], start: usize, row: &mut [i32]) -> u8
+pub fn deinterleave_line(line: &[i32], start: usize, row: &mut [i32]) -> u8
     ensures answer { result ≡ pick (leb (length line.now) (length row.old)) 0 5 }
     ensures area { at row.new ≡
         pick (leb (length line.now) (length row.old))
@@ -50,8 +50,8 @@ pub fn part_line(line: &[i32], start: usize, row: &mut [i32]) -> u8
     if row.len() < n {
         return 5;
     }
-    part_evens(line, row, rows::evens(n, start));
-    part_odds(line, row, rows::odds(n, start));
+    deinterleave_evens(line, row, rows::evens(n, start));
+    deinterleave_odds(line, row, rows::odds(n, start));
     0
 }
 

@@ -1,7 +1,7 @@
 // The reader, fed with rows of the second plane, against the map and the steps of document 01.
 use reader::{Drawn, Fed, Reader, SetUp, Wanted};
 use reference::tally::Tally;
-use reference::{area, heights, order, t800};
+use reference::{area, heights, order, transform};
 use wavelet::shape::Shape;
 
 const TURNS: usize = 100000;
@@ -365,7 +365,7 @@ fn read(
 // The rows that are fed are those of the whole map's plane; the second plane is what they are held against.
 fn prepare(i: usize, s: Shape, map: &mut [u16], book: &mut [u64], plane: &mut [i32]) -> u8 {
     let mut work = [0i32; 6160];
-    t800::prepare(i, map, book);
+    transform::prepare(i, map, book);
     whole_map::forward(map, s, plane, &mut work)
 }
 

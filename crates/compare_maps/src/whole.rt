@@ -1,6 +1,6 @@
 // The whole map, forward and back, against the second arithmetic.
 use reference::tally::Tally;
-use reference::{area, heights, t800};
+use reference::{area, heights, transform};
 use wavelet::shape::Shape;
 
 // Numbers that each area has more than it needs.
@@ -68,7 +68,7 @@ fn one_map(t: Tally, i: usize) -> Tally {
     let mut plane = [0i32; 6160];
     let mut work = [0i32; 6160];
     let mut back = [0u16; 6160];
-    t800::prepare(i, &mut map, &mut book);
+    transform::prepare(i, &mut map, &mut book);
     if 6160 < m {
         return t.failed();
     }

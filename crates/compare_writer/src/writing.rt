@@ -2,7 +2,7 @@
 ghost use Rattle.std.specs.Prelude.{◌≤◌};
 
 use reference::tally::Tally;
-use reference::{area, heights, order, t800};
+use reference::{area, heights, order, transform};
 use wavelet::shape::Shape;
 use writer::{BandRow, Drawn, Finished, Offered, SetUp, Writer};
 
@@ -451,7 +451,7 @@ fn one_map(t: Tally, i: usize) -> Tally {
     let mut book = [0u64; area::BOOK];
     let mut store = [0i32; 18000];
     let mut out = [0i32; 6160];
-    t800::prepare(i, &mut map, &mut book);
+    transform::prepare(i, &mut map, &mut book);
     let total = order::writer_rows(&mut book, s);
     area::mark(&mut store);
     cuts(t, s, total, &map[0..n], &book, &mut store[0..m], &mut out)

@@ -2,10 +2,12 @@ pub mod WordLaws
 pub mod Runs
 pub mod Writers
 pub mod Readers
+pub mod ReaderRuns
 pub mod Stops
 pub mod Maps
 pub mod Lines
 pub mod Rounding
 pub mod Tolerant
 pub mod Savers
+pub mod LoaderTakes
 pub mod Loaders

@@ -1,13 +1,13 @@
 -- Demand 1 of the C calls on a loader: `loader-calls`. Assumes nothing.
 use mathlib.Core.Path.{◌≡◌, refl, sym, ap, subst, ◌∙◌}
-use mathlib.Core.Bool.{Bool, true, false}
+use mathlib.Core.Bool.{Bool, true, false, not}
 use mathlib.Core.List.{List, [], ◌∷◌}
 use mathlib.Core.Logic.{◌↔◌}
 use Prim.Native.Nat.{ℕ, suc, ◌≤◌}
 use native.Mathlib.Omega.{arith}
 use lib.Dec.{eqb, ltb, leb}
 use lib.ListN.{length}
-use borrow.Author.Tests.{ne_eqb, eqb-true}
+use borrow.Author.Tests.{ne_eqb, eqb-true, eqb-false}
 use Rattle.numbers.specs.Signal.{pick, both}
 use Rattle.numbers.proofs.Sweep.{both as halves}
 use Rattle.wavelet.specs.declared.shape.Shape.{Shape}
@@ -15,13 +15,13 @@ use Rattle.wavelet.specs.Shape.{columns}
 use Rattle.wavelet.specs.Limits.{max_width, max_height}
 use Rattle.wavelet.specs.Questions.{ask, within}
 use Rattle.wavelet.specs.Asks.{Asks, yes, no, needed}
-use Rattle.wavelet.proofs.AskLaws.{asked, room, width-exactly, height-exactly}
+use Rattle.wavelet.proofs.AskLaws.{asked, width-exactly, height-exactly}
 use Rattle.filters.specs.Filters.{filter_of, is_filter}
 use Rattle.filters.specs.Figures.{store_by}
 use Rattle.filters.proofs.PlainFigures.{known-exactly, levels-exactly}
 use Rattle.reader.specs.declared.Reader.{Reader}
 use Rattle.reader.specs.Answers as answer
-use Rattle.reader.specs.State.{ended_reader}
+use Rattle.reader.specs.State.{needs, ended_reader}
 use Rattle.reader.specs.Store.{zeroed}
 use Rattle.reader.specs.Questions.{store_fits}
 use Rattle.reader.specs.Calls.{set_up_store}
@@ -30,8 +30,8 @@ use Rattle.reader.proofs.SetUpPasses.{store-fits-exactly}
 use Rattle.ground_file.specs.Saving.{max_step, plain, set_up_number}
 use Rattle.ground_loader.specs.declared.loader.Loader.{Loader}
 use Rattle.ground_loader.specs.Loader.{World, world_of, Byte, taken, away, ends, byte_of, bytes_wanted, Ran, stopped, ran_on, ran, ran_answer}
-use Rattle.ground_loader.specs.Loader.{Answer, passed, impossible, turned, most_step, loader_fits, fresh_loader, with_reader}
-use Rattle.ground_loader.specs.Loader.{set_up_question, want_question, take_question, take_reply, take_store, take_row, draw_number}
+use Rattle.ground_loader.specs.Loader.{Answer, passed, impossible, turned, loader_fits, fresh_loader, with_reader}
+use Rattle.ground_loader.specs.Loader.{set_up_question, want_question, take_question, take_reply, take_store, take_row, draw_number, row_needs}
 use Rattle.ground_loader.specs.LoaderAnswers as reply
 use Rattle.ground_loader.specs.LoaderAnswers.{Reply, Handed, set_up_reply, want_reply, drawn_by}
 use Rattle.states.specs.LoaderState.{is_loader, loader_of, loader_words}
@@ -43,6 +43,8 @@ use Rattle.demand_1.specs.Readers.{own}
 use Rattle.demand_1.specs.Loaders.{LoadSetUpAsks, SetUp, Want, Take, Draw, LoaderCalls}
 use Rattle.demand_1.proofs.WordLaws.{kept, on-pass}
 use Rattle.demand_1.proofs.Readers.{zeroed-own, reader-calls}
+use Rattle.ground_loader.proofs.AskLaws.{take_in}
+use Rattle.demand_1.proofs.LoaderTakes.{fits-held, RanLeft, ran-left}
 use Rattle.demand_1.proofs.Savers.{apart, step-exactly, plain-exactly}
 
 -- ---- the set-up: a question before y, which is asked where all before it pass
@@ -53,7 +55,7 @@ asked-on {n} {P} {rest} false r y e z h =
     subst (Asks n P rest) (sym (ap (λ t. pick t y n) (ne_eqb n 0 z))) (no (λ p. apart false (e.1 p) refl))
 
 load_asks : (sh : Shape) (k n : ℕ) → LoadSetUpAsks sh k n (set_up_question sh k n)
-unfolding set_up_question set_up_number most_step
+unfolding set_up_question set_up_number
 load_asks sh k n =
     asked-on (within 1 max_width sh.width) _ _ (width-exactly sh.width) (λ z. omega arith)
     (asked-on (within 1 max_height sh.height) _ _ (height-exactly sh.height) (λ z. omega arith)
@@ -61,8 +63,7 @@ load_asks sh k n =
     (asked-on (within 1 (filter_of sh.filter).levels sh.levels) _ _ (levels-exactly sh.filter sh.levels) (λ z. omega arith)
     (asked-on (within 1 max_step k) _ _ (step-exactly k) (λ z. omega arith)
     (asked-on (plain sh k) 0 _ (plain-exactly sh k) (λ z. omega arith)
-    (asked (leb k 1) _ (room k 1)
-    (asked (store_fits (store_by sh.filter (columns sh) sh.levels) n) _ (store-fits-exactly sh.filter (columns sh) sh.levels n) refl)))))))
+    (asked (store_fits (store_by sh.filter (columns sh) sh.levels) n) _ (store-fits-exactly sh.filter (columns sh) sh.levels n) refl))))))
 
 -- an answer without 14
 plain-number : {A : Type 0} (q : ℕ) (a : A) → c.number (pick (eqb q 0) (reply.gives a) (reply.refused q)) ≡ q
@@ -207,6 +208,57 @@ module _ (s : List ℕ) (n m : ℕ) (x y : Memory) (bs : List ℕ) where
   own-number true false e f = refl
   own-number false u e f = absurd (apart false e refl)
 
+  -- ---- 14, and the surplus
+  ran-is : q ≡ 0 → RanLeft (world_of (loader_of s) x y) r
+  ran-is e = ran-left n bs (world_of (loader_of s) x y) (fits-held (loader_of s) (take_in (loader_of s) n m e).0)
+
+  -- no question's number is 14
+  never : q ≡ 14 → ⊥
+  unfolding take_question
+  never = go (loader_fits (loader_of s)) (both (store_fits (needs (loader_of s).reader) n) (leb (row_needs (loader_of s).reader) m))
+      (not (loader_of s).reader.ended) (bytes_wanted (loader_of s))
+    where
+      go : (a b c d : Bool) → ask a 1 (ask b 5 (ask c 9 (ask d 8 0))) ≡ 14 → ⊥
+      go true true true true e = omega arith
+      go true true true false e = omega arith
+      go true true false d e = omega arith
+      go true false c d e = omega arith
+      go false b c d e = omega arith
+
+  fourteen : taken_number (ran_answer r) ≡ 14 → (r.why ≡ 14) × (loaded_words (ran_answer r) s ≡ loader_words r.world.loader)
+  unfolding ran_answer
+  fourteen = go (eqb r.why 14) (both (eqb r.count 0) (ltb 0 r.why)) refl
+    where
+      told : Bool → Bool → Answer
+      told a b = pick a (impossible r.count r.world.loader) (pick b (turned r.why) (passed r.count r.world.loader))
+
+      go : (a b : Bool) → eqb r.why 14 ≡ a → taken_number (told a b) ≡ 14 → (r.why ≡ 14) × (loaded_words (told a b) s ≡ loader_words r.world.loader)
+      go true b e h = (eqb-true r.why 14 e, refl)
+      go false true e h = absurd (eqb-false r.why 14 e h)
+      go false false e h = absurd (omega arith)
+
+  store-zeroed : (t u : Bool) → (u ≡ true → q ≡ 0) → taken_number (answered t u) ≡ 14 →
+      Zeroed (own (loader_of s).reader) x (pick t (pick u r.world.store x) x)
+  store-zeroed true true e h = let a = ran-is (e refl) in record { front = (a.over (fourteen h).0).front; surplus = a.left.store }
+  store-zeroed true false e h = absurd (never h)
+  store-zeroed false u e h = absurd (omega arith)
+
+  array-ended : (t u : Bool) → (u ≡ true → q ≡ 0) → taken_number (answered t u) ≡ 14 →
+      (l : Loader) × (v : Reader) × (loaded_words (answered t u) s ≡ loader_words l) × (l.reader ≡ ended_reader v)
+  array-ended true true e h = let o = (ran-is (e refl)).over (fourteen h).0 in (r.world.loader, o.reader, (fourteen h).1, o.is)
+  array-ended true false e h = absurd (never h)
+  array-ended false u e h = absurd (omega arith)
+
+  store-past : (t u : Bool) → (u ≡ true → q ≡ 0) → Surplus (own (loader_of s).reader) x (pick t (pick u r.world.store x) x)
+  store-past true true e j h = (ran-is (e refl)).left.store j h
+  store-past true false e j h = refl
+  store-past false u e j h = refl
+
+  row-past : (t u : Bool) → (u ≡ true → q ≡ 0) → Surplus (row_needs (loader_of s).reader) y (pick t (pick u r.world.row y) y)
+  row-past true true e j h = (ran-is (e refl)).left.row j h
+  row-past true false e j h = refl
+  row-past false u e j h = refl
+
 array-left : (s : List ℕ) (v : Answer) → KeptBut14 (taken_number v) s (loaded_words v s)
 array-left s (passed k l) h g = absurd (h refl)
 array-left s (impossible k l) h g = absurd (g refl)
@@ -227,6 +279,10 @@ take-of s n m x y bs z = record {
   row = row-left s n m x y bs (is_loader s) (eqb (take_question (loader_of s) n m) 0);
   taken = count_left z (c.taking s n m x y bs);
   room = within-run s n m x y bs (is_loader s) (eqb (take_question (loader_of s) n m) 0);
+  zeroed = store-zeroed s n m x y bs (is_loader s) (eqb (take_question (loader_of s) n m) 0) (eqb-true (take_question (loader_of s) n m) 0);
+  ended = array-ended s n m x y bs (is_loader s) (eqb (take_question (loader_of s) n m) 0) (eqb-true (take_question (loader_of s) n m) 0);
+  surplus = store-past s n m x y bs (is_loader s) (eqb (take_question (loader_of s) n m) 0) (eqb-true (take_question (loader_of s) n m) 0);
+  row_surplus = row-past s n m x y bs (is_loader s) (eqb (take_question (loader_of s) n m) 0) (eqb-true (take_question (loader_of s) n m) 0);
 }
 
 -- ---- a draw

@@ -1,6 +1,7 @@
 pub mod Words
 pub mod Writers
 pub mod Readers
+pub mod ReaderRuns
 pub mod Stops
 pub mod Maps
 pub mod Lines

@@ -7,7 +7,9 @@ use Rattle.wavelet.specs.Asks.{Asks, Passes, ShapeAsks, needed}
 use Rattle.rounding.specs.Plain.{StepWithin}
 use Rattle.reader.specs.State.{ended_reader}
 use Rattle.reader.specs.Calls.{set_up_store}
-use Rattle.ground_loader.specs.Loader.{set_up_question, want_question, take_question, draw_number, with_reader}
+use Rattle.reader.specs.declared.Reader.{Reader}
+use Rattle.ground_loader.specs.declared.loader.Loader.{Loader}
+use Rattle.ground_loader.specs.Loader.{set_up_question, want_question, take_question, draw_number, with_reader, row_needs}
 use Rattle.states.specs.LoaderState.{is_loader, loader_of, loader_words}
 use Rattle.states.specs.LoaderAnswers.{taken_number, loaded_words, taken_of, drawn_number, drawn_words, drawn_of}
 use Rattle.terrain.specs.LoaderCalls as c
@@ -16,15 +18,14 @@ use Rattle.demand_1.specs.Words.{Kept, KeptBut14, Zeroed, Surplus}
 use Rattle.demand_1.specs.Readers.{own}
 use Rattle.demand_1.specs.Savers.{PlainStep}
 
--- "A set-up asks 2, 3, 18, 4, 20, 22 and 5 (the line store)": 22 also of a step that is not loaded yet
+-- "A set-up asks 2, 3, 18, 4, 20, 22 and 5 (the line store)"
 abbrev pub LoadSetUpAsks : Shape → ℕ → ℕ → ℕ → Type 0
 LoadSetUpAsks sh k n =
     ShapeAsks sh.filter sh.width sh.height sh.levels
     (Asks 20 (StepWithin k)
     (Asks 22 (PlainStep sh k)
-    (Asks 22 (k ≤ 1)
     (Asks 5 (needed sh.filter (columns sh) sh.levels ≤ n)
-    Passes))))
+    Passes)))
 
 pub record SetUp (sh : Shape) (k n : ℕ) (x : Memory) (s : List ℕ) : Type 0 where
   pub answer : LoadSetUpAsks sh k n (c.number (c.loading sh k n))
@@ -49,6 +50,13 @@ pub record Take (s : List ℕ) (n m : ℕ) (x y : Memory) (bs : List ℕ) (z : �
   pub taken : KeptBut14 (taken_number (c.taking s n m x y bs)) z (taken_of (c.taking s n m x y bs) z)
   -- no more bytes are taken than were lent
   pub room : taken_of (c.taking s n m x y bs) 0 ≤ length bs
+  -- 14: the needed line store is zeroed, and the reader that the bytes before left is ended
+  pub zeroed : taken_number (c.taking s n m x y bs) ≡ 14 → Zeroed (own (loader_of s).reader) x (c.taking_store s n m x y bs)
+  pub ended : taken_number (c.taking s n m x y bs) ≡ 14 →
+      (l : Loader) × (r : Reader) × (loaded_words (c.taking s n m x y bs) s ≡ loader_words l) × (l.reader ≡ ended_reader r)
+  -- "the surplus is untouched": of the line store, and of the row area
+  pub surplus : Surplus (own (loader_of s).reader) x (c.taking_store s n m x y bs)
+  pub row_surplus : Surplus (row_needs (loader_of s).reader) y (c.taking_row s n m x y bs)
 
 -- into an area of m heights that holds y
 pub record Draw (s : List ℕ) (n : ℕ) (x : Memory) (m : ℕ) (y : Memory) (z : ℕ) : Type 0 where

@@ -25,7 +25,7 @@ use Rattle.wavelet.specs.Order.{RowName, row_name, times}
 use Rattle.wavelet.specs.Levels.{level_band}
 use Rattle.wavelet.specs.View.{band_columns, band_start, Kept}
 use Rattle.wavelet.specs.ViewCall.{band_row_exists, view_question, view_start, view_length}
-use Rattle.wavelet.specs.Asks.{Width, Known, Levels}
+use Rattle.wavelet.specs.Asks.{Width, Height, Known, Levels}
 use Rattle.wavelet.proofs.AskLaws.{height-exactly}
 use Rattle.wavelet.proofs.QuestionLaws.{within-yes}
 use Rattle.wavelet.proofs.ViewLaws.{named-at, exists-kept}
@@ -47,7 +47,7 @@ use Rattle.reader.proofs.Played.{in-times, times-in}
 use Rattle.round_trip.specs.RoundTrip.{wrote, rows_wrote, Finished}
 use Rattle.ground_file.specs.Maps.{MapOf, plane_in}
 use Rattle.ground_loader.proofs.LoaderTrip.{rows-plane}
-use Rattle.file_trip.specs.FileTrip.{map_in, Lifted, placed, Viewed, shape_wrote, Placed, Trip}
+use Rattle.file_trip.specs.FileTrip.{map_in, Lifted, place_of, placed, Viewed, shape_wrote, Placed, Trip}
 use Rattle.file_trip.proofs.PlaneTrip.{plane-trip}
 
 -- ---- from a whole map
@@ -56,45 +56,52 @@ list-map : (w h : ℕ) (hs : List ℕ) → All (λ v. v ≤ max_sample) hs → I
 unfolding cells
 list-map w h hs a = record { heights = λ r c p q. height-range (get_or hs (r * w + c) 0) (all-at 0 (omega arith) a (r * w + c)) }
 
-pub from-map : (s : Shape) (hs : List ℕ) (z : List ℤ) (n r : ℕ) (p : List ℤ) → s.x < 65536 → s.y < 65536 → All (λ v. v ≤ max_sample) hs
-    → Lifted s hs z n r p → r ≡ 0 → Trip s hs p
-from-map s hs z n r p across down sixteen lifted passed =
-    let q = (forward-passes s.filter (columns s) (rows s) s.levels (length hs) (length z) n).0 (sym lifted.answer ∙ passed) in
-    plane-trip s hs
-    (record {
-      width = q.0;
-      height = q.1;
-      filter = q.2;
-      levels = q.3;
-      across = across;
-      down = down;
-      map = list-map s.width s.height hs sixteen;
-    }) p (omega (arith, lifted.size, q.5))
-    (λ j h.
-    ap (λ (u : ℕ → ℤ). u j) (lifted.plane ∙ passed-yes (s.width * s.height) (plane_in s (map_in s hs)) (at z) r passed)
-    ∙ front_at (s.width * s.height) (plane_in s (map_in s hs)) (at z) j h)
+module _ (s : Shape) (hs : List ℕ) (z : List ℤ) (n r : ℕ) (p : List ℤ) (across : s.x < 65536) (down : s.y < 65536) (sixteen : All (λ v. v ≤ max_sample) hs)
+    (lifted : Lifted s hs z n r p) (passed : r ≡ 0) where
+  sizes : Width s.width × Height s.height × Known s.filter × Levels s.filter s.levels
+      × (s.width * s.height ≤ length hs) × (s.width * s.height ≤ length z) × (s.width * s.height ≤ n)
+  sizes = (forward-passes s.filter (columns s) (rows s) s.levels (length hs) (length z) n).0 (sym lifted.answer ∙ passed)
+
+  pub lifted-map : MapOf s (map_in s hs)
+  lifted-map = record {
+    width = sizes.0;
+    height = sizes.1;
+    filter = sizes.2;
+    levels = sizes.3;
+    across = across;
+    down = down;
+    map = list-map s.width s.height hs sixteen;
+  }
+
+  pub lifted-room : s.width * s.height ≤ length p
+  lifted-room = omega (arith, lifted.size, sizes.5)
+
+  pub lifted-plane : (j : ℕ) → j < s.width * s.height → at p j ≡ plane_in s (map_in s hs) j
+  lifted-plane j h =
+      ap (λ (u : ℕ → ℤ). u j) (lifted.plane ∙ passed-yes (s.width * s.height) (plane_in s (map_in s hs)) (at z) r passed)
+      ∙ front_at (s.width * s.height) (plane_in s (map_in s hs)) (at z) j h
+
+  pub from-map : Trip s hs p
+  from-map = plane-trip s hs lifted-map p lifted-room lifted-plane
 
 -- ---- rows put into a plane, of which each has what Q has there
 module _ (s : Shape) (Q : ℕ → ℤ) where
-  abbrev begin : DrawnRow → ℕ
-  begin d = view_start (columns s) (rows s) d.row.level d.row.band d.row.row
-
   abbrev Right : DrawnRow → Type 0
-  Right d = (i : ℕ) → i < d.row.length → d.values i ≡ Q (begin d + i)
+  Right d = (i : ℕ) → i < d.row.length → d.values i ≡ Q (place_of s d + i)
 
   abbrev with_row : DrawnRow → (ℕ → ℤ) → ℕ → ℤ
-  with_row d z = spliced (begin d) d.row.length d.values z
+  with_row d z = spliced (place_of s d) d.row.length d.values z
 
-  put-there : (d : DrawnRow) → Right d → (z : ℕ → ℤ) (j : ℕ) → begin d ≤ j → j < begin d + d.row.length → with_row d z j ≡ Q j
+  put-there : (d : DrawnRow) → Right d → (z : ℕ → ℤ) (j : ℕ) → place_of s d ≤ j → j < place_of s d + d.row.length → with_row d z j ≡ Q j
   put-there d h z j l m =
-      splice-in (begin d) d.row.length d.values z j l m ∙ h (j - begin d) (omega (arith, l, m)) ∙ ap Q (omega (arith, l))
+      splice-in (place_of s d) d.row.length d.values z j l m ∙ h (j - place_of s d) (omega (arith, l, m)) ∙ ap Q (omega (arith, l))
 
   put_keeps : (d : DrawnRow) → Right d → (z : ℕ → ℤ) (j : ℕ) → z j ≡ Q j → with_row d z j ≡ Q j
-  put_keeps d h z j e = elim (dec_lt j (begin d)) [
-    | yes l ↦ splice-below (begin d) d.row.length d.values z j l ∙ e
-    | no l ↦ elim (dec_lt j (begin d + d.row.length)) [
+  put_keeps d h z j e = elim (dec_lt j (place_of s d)) [
+    | yes l ↦ splice-below (place_of s d) d.row.length d.values z j l ∙ e
+    | no l ↦ elim (dec_lt j (place_of s d + d.row.length)) [
       | yes m ↦ put-there d h z j (omega (arith, l)) m
-      | no m ↦ splice-past (begin d) d.row.length d.values z j (omega (arith, m)) ∙ e
+      | no m ↦ splice-past (place_of s d) d.row.length d.values z j (omega (arith, m)) ∙ e
     ]
   ]
 
@@ -104,7 +111,8 @@ module _ (s : Shape) (Q : ℕ → ℤ) where
   keeps (d ∷ ds) (all_more h a) z j e = keeps ds a (with_row d z) j (put_keeps d h z j e)
 
   -- what a row has was put, whatever was put after it
-  covers : (ds : List DrawnRow) → All Right ds → (d : DrawnRow) → In d ds → (z : ℕ → ℤ) (j : ℕ) → begin d ≤ j → j < begin d + d.row.length → placed s ds z j ≡ Q j
+  covers : (ds : List DrawnRow) → All Right ds → (d : DrawnRow) → In d ds → (z : ℕ → ℤ) (j : ℕ) → place_of s d ≤ j → j < place_of s d + d.row.length
+      → placed s ds z j ≡ Q j
   unfolding placed
   covers (d ∷ ds) (all_more h a) _ first z j l m = keeps ds a (with_row d z) j (put-there d h z j l m)
   covers (y ∷ ds) (all_more h a) d (later i) z j l m = covers ds a d i (with_row y z) j l m
@@ -138,7 +146,7 @@ module _ (f : ℕ) (W : Side) (y H L : ℕ) (g : ℕ → ℕ → ℤ) where
   abbrev KeptRow : RowName → Type 0
   KeptRow x = Kept W (side y H) L x.level x.band x.row
 
-  begins-at : (d : DrawnRow) (x : RowName) → d.row ≡ answered W x → begin s (plane_in s g) d ≡ band_start W (side y H) x.level x.band x.row
+  begins-at : (d : DrawnRow) (x : RowName) → d.row ≡ answered W x → place_of s d ≡ band_start W (side y H) x.level x.band x.row
   begins-at d x e =
       ap (λ (v : _). view_start W (side y H) v.level v.band v.row) e ∙ start_is W (side y H) x.level x.band x.row
 

@@ -1,2 +1,3 @@
 pub mod PlaneTrip
 pub mod FileTripHolds
+pub mod RoundedSaved

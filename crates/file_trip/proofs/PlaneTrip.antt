@@ -1,5 +1,5 @@
--- A plane that is a map's, saved and loaded, gives the map back: `plane-trip`. It is `whole-trip` of ground_loader with what that leaves open: the set-ups pass,
--- no saving call is turned away, and what was written are bytes. Assumes nothing.
+-- A plane that is a map's, saved and loaded, gives the map back: `plane-trip`. It is `whole-trip` of ground_loader with what that leaves open: the set-ups
+-- pass, no saving call is turned away, and what was written are bytes. Assumes nothing.
 use mathlib.Core.Path.{◌≡◌, refl, sym, subst}
 use mathlib.Core.List.{List}
 use Prim.Native.Nat.{ℕ, ◌*◌, ◌≤◌, ◌<◌}
@@ -14,14 +14,14 @@ use Rattle.ground_file.specs.Maps.{MapOf, plane_in, map_file}
 use Rattle.ground_file.specs.Saving.{set_up_number}
 use Rattle.ground_file.proofs.SaverGoes.{calls-go}
 use Rattle.ground_file.proofs.MapSaved.{map-set-up, map-savable}
-use Rattle.ground_loader.specs.Loader.{most_step, set_up_question, store_needs}
+use Rattle.ground_loader.specs.Loader.{set_up_question, store_needs}
 use Rattle.ground_loader.proofs.FileBytes.{file-bytes}
 use Rattle.ground_loader.proofs.LoaderTrip.{saved-file, whole-trip}
 use Rattle.file_trip.specs.FileTrip.{map_in, SavedAs, Lent, LoadedAs, Trip}
 
 -- the loader's set-up
 set-up-passes : (s : Shape) (n : ℕ) → set_up_number s 1 ≡ 0 → store_needs s ≤ n → set_up_question s 1 n ≡ 0
-unfolding set_up_question store_fits most_step
+unfolding set_up_question store_fits
 set-up-passes s n e h = rw (e, le-leb (store_needs s) n h) refl
 
 module _ (s : Shape) (hs : List ℕ) (m : MapOf s (map_in s hs)) (p : List ℤ) (long : s.width * s.height ≤ length p)

@@ -37,10 +37,12 @@ pub record Lifted (s : Shape) (hs : List ℕ) (z : List ℤ) (n r : ℕ) (p : Li
   pub size : length p ≡ length z
 
 -- ---- the plane of a writer: each row that was drawn is put where the view says that it begins, over what stood there
+abbrev pub place_of : Shape → DrawnRow → ℕ
+place_of s d = view_start (columns s) (rows s) d.row.level d.row.band d.row.row
+
 unfoldable pub placed : Shape → List DrawnRow → (ℕ → ℤ) → ℕ → ℤ
 placed s [] z = z
-placed s (d ∷ ds) z =
-    placed s ds (spliced (view_start (columns s) (rows s) d.row.level d.row.band d.row.row) d.row.length d.values z)
+placed s (d ∷ ds) z = placed s ds (spliced (place_of s d) d.row.length d.values z)
 
 -- the view of that row in a plane of n numbers passes, and has its length
 pub record Viewed (s : Shape) (n : ℕ) (d : DrawnRow) : Type 0 where

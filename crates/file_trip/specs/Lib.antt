@@ -1,1 +1,2 @@
 pub mod FileTrip
+pub mod Rounded

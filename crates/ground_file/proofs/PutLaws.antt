@@ -102,9 +102,6 @@ module _ (l : List ℕ) (n k : ℕ) (is : k ≡ min 8 n) (most : n ≤ 16) (g : 
   pub high-part : {m c w : ℕ} → m ≡ largest_of (take (n - k) (drop k l)) → c ≡ code_of (m ∷ []) → w ≡ width_of c → Part (drop 8 (take n l)) c w
   high-part em ec ew = part-of (drop 8 (take n l)) (below-drop (2 ^ 28) 8 (take n l) all-below) (em ∙ ap largest_of (second_is l n k is g)) ec ew
 
-  pub codes-fit : {c d w v : ℕ} → Part (take 8 (take n l)) c w → Part (drop 8 (take n l)) d v → c + 16 * d < 256
-  codes-fit a b = omega (arith, a.few, b.few)
-
   -- a part of at most eight numbers takes at most 28 bytes
   part_room : (w i : ℕ) → w ≤ 28 → i ≤ 8 → (w * i + 7) / 8 ≤ 28
   part_room w i p q = omega (arith, mul-le-mul_left w q)

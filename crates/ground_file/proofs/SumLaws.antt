@@ -1,11 +1,12 @@
 -- The checksum four bytes at a time. Assumes nothing.
 use mathlib.Core.Path.{◌≡◌, refl, sym, ap, ap₂, ◌∙◌}
 use mathlib.Core.List.{List, [], ◌∷◌, ◌++◌}
-use Prim.Native.Nat.{ℕ, suc, ◌+◌, ◌*◌, ◌-◌, ◌/◌, ◌%◌, ◌^◌, ◌≤◌, ◌<◌}
+use Prim.Native.Nat.{ℕ, suc, ◌+◌, ◌*◌, ◌-◌, ◌/◌, ◌%◌, ◌^◌, ◌≤◌, ◌<◌, min}
 use native.Mathlib.Nat.{mul-add-mod_self_right}
 use native.Mathlib.Omega.{arith}
+use native.Mathlib.Decide.{dec_lt}
 use lib.ListN.{length, take, drop, get_or, length-take, length-drop}
-use lib.Seq.{take-add, drop-drop, get_or-drop}
+use lib.Seq.{take-add, take_all, drop-drop, get_or-drop}
 use Rattle.ground_file.specs.File.{as_number, prime}
 use Rattle.ground_file.proofs.WidthLaws.{drop-first}
 use Rattle.ground_file.proofs.ValueLaws.{number_append, number-rest, sum_more}
@@ -149,3 +150,16 @@ sum_is sum l k n a r h ea er =
     let e : k + (n - k) ≡ n = omega arith in
     er ∙ ap (λ x. as_number x (take (n - k) (drop k l)) % prime) ea ∙ number-rest (as_number sum (take k l)) (take (n - k) (drop k l))
     ∙ ap (λ x. x % prime) (sym (number_append sum (take k l) (take (n - k) (drop k l))) ∙ ap (as_number sum) (sym (take-add k (n - k) l) ∙ ap (λ j. take j l) e))
+
+-- of the first e bytes, which are the first n or all of them, after a number that is the sum's rest
+pub sum-least : (sum : ℕ) (l : List ℕ) (n e a r : ℕ) → a ≡ sum % prime → e ≡ min (length l - 0) n → r ≡ as_number a (take e l) % prime
+    → r ≡ as_number sum (take n l) % prime
+sum-least sum l n e a r ea ee er =
+    er ∙ ap₂ (λ s t. as_number s t % prime) ea same ∙ number-rest sum (take n l)
+  where
+    same : take e l ≡ take n l
+    same =
+        elim (dec_lt (length l) n) [
+          | yes p ↦ take_all e l (omega arith) ∙ sym (take_all n l (omega arith))
+          | no p ↦ let f : e ≡ n = omega arith in ap (λ k. take k l) f
+        ]

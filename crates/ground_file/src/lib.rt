@@ -6,6 +6,6 @@ pub mod header;
 mod parts;
 mod pieces;
 pub mod saver;
-mod sums;
+pub mod sums;
 mod values;
 pub mod widths;

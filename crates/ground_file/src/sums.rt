@@ -1,7 +1,9 @@
-// The checksum: bytes as one number, the first highest, modulo a prime. Four bytes at a time, since each step waits for the division of the one before. The
-// module is private, as `parts` is.
+// The checksum: bytes as one number, the first highest, modulo a prime. Four bytes at a time, since each step waits for the division of the one before. What
+// its private functions require `sum_of` meets.
 ghost use Rattle.std.specs.Prelude.{◌≡◌, ◌+◌, ◌-◌, ◌*◌, ◌^◌, ◌%◌, ◌≤◌, ◌<◌, length, take, drop};
 ghost use Rattle.ground_file.specs.File.{as_number, prime};
+
+use text::bytes;
 
 pub const PRIME: u64 = 4293501227;
 
@@ -44,11 +46,18 @@ fn sum_rest(sum: u64, bytes: &[u8], k: usize, n: usize) -> u64
     r
 }
 
-// The sum of bytes that are followed by the first n of these.
+// A number modulo the prime.
+fn reduced(sum: u64) -> u64
+    ensures { (result ≡ sum % prime) × (result < prime) }
+{
+    if sum < PRIME { sum } else { sum % PRIME }
+}
+
+// The sum of bytes that are followed by the first n of these, by all of them where they are fewer.
 pub fn sum_of(sum: u64, bytes: &[u8], n: usize) -> u64
-    requires { (n ≤ length bytes.now) × (sum < prime) }
     ensures { result ≡ as_number sum (take n bytes.now) % prime }
 {
-    let m = n / 4;
-    sum_rest(sum_fours(sum, bytes, m), bytes, 4 * m, n)
+    let end = bytes::some(bytes.len(), 0, n);
+    let m = end / 4;
+    sum_rest(sum_fours(reduced(sum), bytes, m), bytes, 4 * m, end)
 }

@@ -21,11 +21,12 @@ use Rattle.reader.specs.Questions.{store_fits}
 use Rattle.reader.proofs.QuestionLaws.{asked, counts-in, counts-length}
 use Rattle.ground_file.specs.Groups.{width_of}
 use Rattle.ground_file.specs.File.{prime}
-use Rattle.ground_loader.specs.declared.rows.Coming.{Coming}
+use Rattle.ground_loader.specs.declared.coming.Coming.{Coming}
 use Rattle.ground_loader.specs.declared.loader.Loader.{Loader}
 use Rattle.ground_loader.specs.Coming.{between}
 use Rattle.ground_loader.specs.Loader.{reader_wants, second_fits, part_fits, standing, is_none, coming_after, loader_fits, take_question, row_needs}
-use Rattle.ground_loader.specs.Loader.{bytes_wanted, is_over, most_step}
+use Rattle.ground_loader.specs.Loader.{bytes_wanted, is_over}
+use Rattle.ground_file.specs.Saving.{max_step}
 use Rattle.ground_loader.specs.Local.{is_given}
 use Rattle.ground_loader.proofs.ReaderLaws.{given_is, levels-some}
 
@@ -154,14 +155,14 @@ module _ (m : ℕ) (c : Coming) where
 -- ---- question 1
 pub loader-is : (l : Loader) (t i e : Bool) (a : ℕ)
     → t ≡ is_given (reading.want_reply l.reader (reading.want_question l.reader))
-    → i ≡ within 1 1 l.step
+    → i ≡ within 1 max_step l.step
     → a ≡ pick (eqb l.step 1) 0 1
     → e ≡ pick (ltb l.header 24) (is_none l.coming) (coming_after l.coming (reader_wants l.reader))
     → (t && (eqb l.reader.stop 0
     && (eqb l.reader.spare 0
     && (i && (eqb l.reader.admission a && (leb l.header 24 && (leb l.tail 4 && (ltb l.sum 4293501227 && e))))))))
     ≡ loader_fits l
-unfolding loader_fits most_step prime
+unfolding loader_fits prime
 loader-is l t i e a et ei ea ee =
     and_both t
     (and_both (eqb l.reader.stop 0)
@@ -174,18 +175,18 @@ loader-is l t i e a et ei ea ee =
 pub record Fits (l : Loader) : Type 0 where
   pub fits : reading.counts_fit l.reader ≡ true
   pub stop : (l.reader.stop ≡ 0) × (l.reader.spare ≡ 0)
-  pub step : (1 ≤ l.step) × (l.step ≤ 1)
+  pub step : (1 ≤ l.step) × (l.step ≤ max_step)
   pub header : l.header ≤ 24
   pub sum : l.sum < prime
   pub coming : pick (ltb l.header 24) (is_none l.coming) (coming_after l.coming (reader_wants l.reader)) ≡ true
 
 pub loader-in : (l : Loader) → loader_fits l ≡ true → Fits l
-unfolding loader_fits within most_step
+unfolding loader_fits within
 loader-in l e =
     let a = halves (reading.counts_fit l.reader) _ e in
     let b = halves (eqb l.reader.stop 0) _ a.1 in
     let c = halves (eqb l.reader.spare 0) _ b.1 in
-    let d = halves (both (leb 1 l.step) (leb l.step 1)) _ c.1 in
+    let d = halves (both (leb 1 l.step) (leb l.step max_step)) _ c.1 in
     let d' = halves (leb 1 l.step) _ d.0 in
     let f = halves (eqb l.reader.admission (pick (eqb l.step 1) 0 1)) _ d.1 in
     let g = halves (leb l.header 24) _ f.1 in
@@ -194,7 +195,7 @@ loader-in l e =
     record {
       fits = a.0;
       stop = (eqb-true l.reader.stop 0 b.0, eqb-true l.reader.spare 0 c.0);
-      step = (leb-true 1 l.step d'.0, leb-true l.step 1 d'.1);
+      step = (leb-true 1 l.step d'.0, leb-true l.step max_step d'.1);
       header = leb-true l.header 24 g.0;
       sum = ltb-true l.sum prime i.0;
       coming = i.1;

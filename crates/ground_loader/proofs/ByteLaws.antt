@@ -11,7 +11,7 @@ use lib.Pow.{pow_pos, pow_mono}
 use borrow.Author.Tests.{lt-ltb, le-ltb, eq-eqb, ne_eqb}
 use Rattle.numbers.specs.Signal.{pick, spliced}
 use Rattle.ground_file.specs.Groups.{width_of, code_of}
-use Rattle.ground_loader.specs.declared.rows.Coming.{Coming}
+use Rattle.ground_loader.specs.declared.coming.Coming.{Coming}
 use Rattle.ground_loader.specs.declared.rows.Seen.{Seen}
 use Rattle.ground_loader.specs.declared.rows.Took.{Took}
 use Rattle.ground_loader.specs.Numbers.{value_of, number_at, numbers_in, greatest}

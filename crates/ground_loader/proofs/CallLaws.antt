@@ -5,8 +5,10 @@ use Prim.Native.Nat.{ℕ, ◌≤◌, ◌<◌}
 use native.Mathlib.Omega.{arith}
 use lib.IntN.{ℤ}
 use lib.Dec.{leb, eqb}
-use borrow.Author.Tests.{eq-eqb, ne_eqb, le-leb, lt-leb}
-use Rattle.numbers.specs.Signal.{pick}
+use borrow.Author.Tests.{eq-eqb, ne_eqb, eqb-true}
+use Rattle.numbers.specs.Signal.{pick, both}
+use Rattle.numbers.proofs.Sweep.{both as halves}
+use Rattle.lifting.specs.Grid.{side}
 use Rattle.wavelet.specs.declared.shape.Shape.{Shape}
 use Rattle.wavelet.specs.Shape.{columns, rows}
 use Rattle.wavelet.specs.Questions.{ask, within}
@@ -20,12 +22,12 @@ use Rattle.reader.specs.Questions as reading
 use Rattle.reader.specs.Calls.{fresh_by, set_up_store}
 use Rattle.reader.specs.Calls as calls
 use Rattle.reader.specs.Store.{zeroed}
-use Rattle.wavelet.proofs.QuestionLaws.{within-true}
 use Rattle.ground_file.specs.Saving.{set_up_number, plain, max_step}
+use Rattle.ground_file.proofs.SaverAsks.{passed-plain}
 use Rattle.ground_loader.specs.declared.loader.Loader.{Loader}
 use Rattle.ground_loader.specs.declared.loader.Due.{Due}
 use Rattle.ground_loader.specs.Coming.{between}
-use Rattle.ground_loader.specs.Loader.{loader_at, fresh_loader, store_needs, set_up_question, most_step, loader_fits, want_question, Want, bytes, draw_now, done}
+use Rattle.ground_loader.specs.Loader.{loader_at, fresh_loader, store_needs, set_up_question, loader_fits, want_question, Want, bytes, draw_now, done}
 use Rattle.ground_loader.specs.Loader.{ended, want_of}
 use Rattle.ground_loader.specs.LoaderAnswers.{Reply, gives, refused, begun_by, set_up_reply, want_reply}
 use Rattle.ground_loader.specs.Local.{due_of, Sound, Areas}
@@ -64,6 +66,15 @@ module _ (l : Loader) where
         ∙ (λ i. pick (ne_eqb d.phase 3 (λ f. omega arith) i) draw_now (pick (ne_eqb d.phase 4 (λ f. omega arith) i) done ended)))
 
 -- ---- set-up
+-- "a step above 1 ... 5/3 at origin 0 alone"
+at-origin : (s : Shape) (q : ℕ) → (q ≡ 1 → ⊥) → plain s q ≡ true → (s.x ≡ 0) × (s.y ≡ 0) × (s.filter ≡ 0)
+unfolding plain
+at-origin s q above e =
+    let rest = (λ i. pick (sym (ne_eqb q 1 above) i) true (both (eqb s.x 0) (both (eqb s.y 0) (eqb s.filter 0)))) ∙ e in
+    let a = halves (eqb s.x 0) _ rest in
+    let b = halves (eqb s.y 0) (eqb s.filter 0) a.1 in
+    (eqb-true s.x 0 a.0, eqb-true s.y 0 b.0, eqb-true s.filter 0 b.1)
+
 module _ (s : Shape) (q n : ℕ) (x : ℕ → ℤ) where
   abbrev Q : ℕ
   Q = set_up_question s q n
@@ -71,33 +82,22 @@ module _ (s : Shape) (q n : ℕ) (x : ℕ → ℤ) where
   pub up-no : (a : ℕ) → a ≡ set_up_number s q → (a ≡ 0 → ⊥) → (refused a ≡ set_up_reply s q Q) × (x ≡ set_up_store s.filter (columns s) s.levels Q x)
   unfolding set_up_question set_up_reply set_up_store
   up-no a e h =
-      let is : Q ≡ a = (λ i. pick (ne_eqb (set_up_number s q) 0 (λ z. h (e ∙ z)) i) (ask (leb q most_step) 22 (ask (store_fits (store_needs s) n) 5 0))
-      (set_up_number s q)) ∙ sym e in
+      let is : Q ≡ a = (λ i. pick (ne_eqb (set_up_number s q) 0 (λ z. h (e ∙ z)) i) (ask (store_fits (store_needs s) n) 5 0) (set_up_number s q)) ∙ sym e in
       let off : eqb Q 0 ≡ false = ne_eqb Q 0 (λ z. h (sym is ∙ z)) in (
         sym ((λ i. pick (off i) (gives (fresh_loader s q)) (refused Q)) ∙ ap refused is),
         sym (λ i. pick (off i) (zeroed (store_by s.filter (columns s) s.levels) x) x),
       )
 
   -- the reader's own question is then that of the line store
-  passes : set_up_number s q ≡ 0 → q ≤ 1 → Q ≡ ask (store_fits (store_needs s) n) 5 0
-  unfolding set_up_question most_step
-  passes e h = λ i. pick (eq-eqb (set_up_number s q) 0 e i) (ask (le-leb q 1 h i) 22 (ask (store_fits (store_needs s) n) 5 0)) (set_up_number s q)
-
-  pub up_step : set_up_number s q ≡ 0 → 1 < q → (refused 22 ≡ set_up_reply s q Q) × (x ≡ set_up_store s.filter (columns s) s.levels Q x)
-  unfolding set_up_question most_step set_up_reply set_up_store
-  up_step e h =
-      let is : Q ≡ 22 = λ i. pick (eq-eqb (set_up_number s q) 0 e i) (ask (lt-leb q 1 h i) 22 (ask (store_fits (store_needs s) n) 5 0)) (set_up_number s q) in
-      let off : eqb Q 0 ≡ false = ne_eqb Q 0 (λ z. omega (arith, is, z)) in (
-        sym ((λ i. pick (off i) (gives (fresh_loader s q)) (refused Q)) ∙ ap refused is),
-        sym (λ i. pick (off i) (zeroed (store_by s.filter (columns s) s.levels) x) x),
-      )
+  passes : set_up_number s q ≡ 0 → Q ≡ ask (store_fits (store_needs s) n) 5 0
+  unfolding set_up_question
+  passes e = λ i. pick (eq-eqb (set_up_number s q) 0 e i) (ask (store_fits (store_needs s) n) 5 0) (set_up_number s q)
 
   record Passed : Type 0 where
     width : within 1 max_width s.width ≡ true
     height : within 1 max_height s.height ≡ true
     filter : is_filter s.filter ≡ true
     levels : within 1 (filter_of s.filter).levels s.levels ≡ true
-    step : 1 ≤ q
 
   passed : set_up_number s q ≡ 0 → Passed
   unfolding set_up_number
@@ -115,7 +115,7 @@ module _ (s : Shape) (q n : ℕ) (x : ℕ → ℤ) where
       go true true true true false g ea eb ec ed ef e = absurd (omega arith)
       go true true true true true false ea eb ec ed ef e = absurd (omega arith)
       go true true true true true true ea eb ec ed ef e =
-          record { width = ea; height = eb; filter = ec; levels = ed; step = (within-true 1 max_step q ef).0 }
+          record { width = ea; height = eb; filter = ec; levels = ed }
 
   -- what a fresh reader makes the answer
   begun-by : (r : Reader) → begun_by q (pick (eqb Q 0) (answer.gives r) (answer.refused Q)) ≡ pick (eqb Q 0) (gives (loader_at r q 0 (between 0) 0 0)) (refused Q)
@@ -126,17 +126,16 @@ module _ (s : Shape) (q n : ℕ) (x : ℕ → ℤ) where
       go false = refl
 
   module _ (zero-asked : set_up_number s q ≡ 0) (r : Reply Loader) (y : ℕ → ℤ) where
-    pub up_strict : q ≤ 1
+    pub up_strict : q ≡ 1
         → r ≡ begun_by q (calls.set_up_reply s.filter (columns s) (rows s) s.levels (reading.set_up_question s.filter (columns s) (rows s) s.levels n))
         → y ≡ set_up_store s.filter (columns s) s.levels (reading.set_up_question s.filter (columns s) (rows s) s.levels n) x
         → (r ≡ set_up_reply s q Q) × (y ≡ set_up_store s.filter (columns s) s.levels Q x)
     unfolding reading.set_up_question calls.set_up_reply set_up_reply
-    up_strict few er ey =
+    up_strict one er ey =
         let p = passed zero-asked in
-        let one : q ≡ 1 = omega (arith, p.step, few) in
         let same : reading.set_up_question s.filter (columns s) (rows s) s.levels n ≡ Q =
         (λ i. ask (p.width i) 2 (ask (p.height i) 3 (ask (p.filter i) 18 (ask (p.levels i) 4 (ask (store_fits (store_needs s) n) 5 0)))))
-        ∙ sym (passes zero-asked few) in (
+        ∙ sym (passes zero-asked) in (
           er
               ∙ ap (λ v. begun_by q (calls.set_up_reply s.filter (columns s) (rows s) s.levels v)) same
               ∙ begun-by (fresh_by 0 s.filter 0 0 (columns s) (rows s) s.levels)
@@ -145,6 +144,33 @@ module _ (s : Shape) (q n : ℕ) (x : ℕ → ℤ) where
               (gives (loader_at (fresh_by (pick (sym (eq-eqb q 1 one) i) 0 1) s.filter 0 0 (columns s) (rows s) s.levels) q 0 (between 0) 0 0))
               (refused Q)),
           ey ∙ ap (λ v. set_up_store s.filter (columns s) s.levels v x) same,
+        )
+
+    -- a step above 1: the shape is the tolerant reader's
+    pub up-tolerant : (q ≡ 1 → ⊥)
+        → r ≡ begun_by q (calls.tolerant_reply s.width s.height s.levels (reading.tolerant_question s.width s.height s.levels n))
+        → y ≡ set_up_store 0 (side 0 s.width) s.levels (reading.tolerant_question s.width s.height s.levels n) x
+        → (r ≡ set_up_reply s q Q) × (y ≡ set_up_store s.filter (columns s) s.levels Q x)
+    unfolding reading.tolerant_question calls.tolerant_reply set_up_reply
+    up-tolerant above er ey =
+        let p = passed zero-asked in
+        let z = at-origin s q above (passed-plain s q zero-asked) in
+        let deep : within 1 (filter_of 0).levels s.levels ≡ true = (λ i. within 1 (filter_of (sym z.2 i)).levels s.levels) ∙ p.levels in
+        let same : reading.tolerant_question s.width s.height s.levels n ≡ Q =
+        (λ i. ask (p.width i) 2 (ask (p.height i) 3 (ask (deep i) 4 (ask (store_fits (store_by 0 (side 0 s.width) s.levels) n) 5 0))))
+        ∙ (λ i. ask (store_fits (store_by (sym z.2 i) (side (sym z.0 i) s.width) s.levels) n) 5 0) ∙ sym (passes zero-asked) in (
+          er
+              ∙ ap (λ v. begun_by q (calls.tolerant_reply s.width s.height s.levels v)) same
+              ∙ begun-by (calls.fresh_tolerant s.width s.height s.levels)
+              ∙ (λ i.
+              pick (eqb Q 0)
+              (gives
+              (loader_at
+              (fresh_by (pick (sym (ne_eqb q 1 above) i) 0 1) (sym z.2 i) 0 0 (side (sym z.0 i) s.width) (side (sym z.1 i) s.height) s.levels)
+              q 0 (between 0) 0 0))
+              (refused Q)),
+          ey ∙ ap (λ v. set_up_store 0 (side 0 s.width) s.levels v x) same
+              ∙ (λ i. set_up_store (sym z.2 i) (side (sym z.0 i) s.width) s.levels Q x),
         )
 
 -- ---- a taking call

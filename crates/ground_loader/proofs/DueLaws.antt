@@ -16,6 +16,7 @@ use Rattle.reader.specs.Reading as reading
 use Rattle.reader.specs.State as state
 use Rattle.reader.specs.Last as last
 use Rattle.ground_file.specs.File.{prime}
+use Rattle.ground_file.specs.Saving.{max_step}
 use Rattle.ground_loader.specs.declared.loader.Loader.{Loader}
 use Rattle.ground_loader.specs.declared.loader.Due.{Due}
 use Rattle.ground_loader.specs.Coming.{between}
@@ -202,7 +203,7 @@ is_ended answer.done = 0
 is_ended answer.ended = 1
 
 pub sound-fresh : (l : Loader) (d : Due) → d ≡ due_of l → d.phase < 3 → (l.header < 24 → reading.counts_fit l.reader ≡ true)
-    → (l.reader.stop ≡ 0) × (l.reader.spare ≡ 0) → (1 ≤ l.step) × (l.step ≤ 1) → l.sum < prime → l.coming ≡ between 0 → Sound l d
+    → (l.reader.stop ≡ 0) × (l.reader.spare ≡ 0) → (1 ≤ l.step) × (l.step ≤ max_step) → l.sum < prime → l.coming ≡ between 0 → Sound l d
 sound-fresh l d e p fit stop step sum none = go (subst (Wanting l) (sym e) (wanting l)) e p
   where
     go : {v : Due} → Wanting l v → v ≡ due_of l → v.phase < 3 → Sound l v
@@ -278,7 +279,7 @@ sound-in l f live p = go (wanting l) refl p
 
 -- what the header's bytes need
 pub header-fits : (l : Loader) (d : Due) → Sound l d → d.phase ≡ 0 → (l.header < 24) × (l.reader.filter < 256) × (l.reader.levels < 256) × (l.step < 256)
-unfolding is_filter max_levels
+unfolding is_filter max_levels max_step
 header-fits l d s z =
     let n = counts-in l.reader (levels-some l.reader s.fits s.stop.0).1 in (
       (in-header l d s.due z).1,

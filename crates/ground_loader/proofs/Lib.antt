@@ -4,6 +4,8 @@ pub mod ByteLaws
 pub mod PartCame
 pub mod RowCame
 pub mod RowTheorems
+pub mod WholeParts
+pub mod WholeGroups
 pub mod SumLaws
 pub mod MapBytes
 pub mod StandingLaws
@@ -24,6 +26,13 @@ pub mod DueLaws
 pub mod StepLaws
 pub mod CallLaws
 pub mod RunLaws
+pub mod GroupPuts
+pub mod GroupRuns
 pub mod RangeLaws
+pub mod FactorLaws
+pub mod SteppedRows
+pub mod SteppedLaws
+pub mod SteppedBytes
+pub mod SteppedRuns
 
 mod Clauses

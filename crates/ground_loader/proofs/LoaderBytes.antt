@@ -32,7 +32,7 @@ use Rattle.reader.proofs.CallLists.{Then}
 use Rattle.ground_file.specs.Groups.{bytes_of, row_bytes}
 use Rattle.ground_file.specs.File.{header_of, numbers_of, rows_bytes, wanted, body_of, prime, as_number, file_of}
 use Rattle.ground_file.specs.Maps.{MapOf, plane_in, map_file}
-use Rattle.ground_loader.specs.declared.rows.Coming.{Coming}
+use Rattle.ground_loader.specs.declared.coming.Coming.{Coming}
 use Rattle.ground_loader.specs.Coming.{between}
 use Rattle.ground_loader.specs.Taken.{Wanting, Over, Taken}
 use Rattle.ground_loader.specs.Loader.{World, world_of, loader_at, shape_of, reader_wants, Byte, taken, away, ends, sum_on, times_step, is_over}
@@ -43,7 +43,7 @@ use Rattle.ground_loader.proofs.RowCame.{RowCame, in_group, in-first, in-second}
 use Rattle.ground_loader.proofs.RowTheorems.{taken-came}
 use Rattle.ground_loader.proofs.MapBytes.{Sized, fed_bytes, sum_of_map, map-split, map-body}
 use Rattle.ground_loader.proofs.LoaderState.{s, head, T₀, Came, fed_in, body, sum_of, State, in-header, at-end}
-use Rattle.ground_loader.proofs.LoaderState.{reader-wants, names-are, settled}
+use Rattle.ground_loader.proofs.LoaderState.{reader-wants, names-are, row-begins}
 
 -- ---- lists
 -- the byte after some
@@ -135,7 +135,7 @@ module _ (f : ℕ) (W H : Side) (l : ℕ) (lim : Limits 0 f 0 0 W H l) where
     header-over =
         subst (λ bs. State f W H l lim fin bs drawn (world_of (loader_at r 1 24 (between 0) (sum_of f W H l lim bs) 0) x y))
         (ap (λ u. hd ++ fed_bytes u) unfed ∙ append-nil hd)
-        (settled f W H l lim fin es r x y c live (subst (All (Sized s₀)) (sym unfed) all_none))
+        (row-begins f W H l lim fin es r x y c live (subst (All (Sized s₀)) (sym unfed) all_none))
 
     header-taken : get_or hd h 0 ≡ b → State f W H l lim fin (take h hd ++ (b ∷ [])) drawn
         (world_of (loader_at r 1 (h + 1) (between 0) (sum_on (sum_of f W H l lim (take h hd)) b) 0) x y)

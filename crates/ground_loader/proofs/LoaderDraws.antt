@@ -27,13 +27,13 @@ use Rattle.reader.proofs.CallLists.{step-reached, left-append, fed-append}
 use Rattle.reader.proofs.Demand3.{claim}
 use Rattle.ground_file.specs.Groups.{bytes_of}
 use Rattle.ground_file.specs.File.{prime}
-use Rattle.ground_loader.specs.declared.rows.Coming.{Coming}
+use Rattle.ground_loader.specs.declared.coming.Coming.{Coming}
 use Rattle.ground_loader.specs.Coming.{between}
 use Rattle.ground_loader.specs.Loader.{World, world_of, loader_at, with_reader}
 use Rattle.ground_loader.specs.LoaderLists.{Event, Begins, NoneBegins, drew, drawn_by, ends}
 use Rattle.ground_loader.proofs.SumLaws.{prime-some}
 use Rattle.ground_loader.proofs.MapBytes.{fed_bytes}
-use Rattle.ground_loader.proofs.LoaderState.{T₀, Came, fed_in, body, sum_of, State, in-header, in_row, at-draw, at-end, over, settled}
+use Rattle.ground_loader.proofs.LoaderState.{T₀, Came, fed_in, body, sum_of, State, in-header, in_row, at-draw, at-end, over, row-begins}
 use Rattle.ground_loader.proofs.LoaderBytes.{s₀, hd, sb, split}
 
 -- ---- draws that give no row
@@ -283,7 +283,7 @@ module _ (f : ℕ) (W H : Side) (l : ℕ) (lim : Limits 0 f 0 0 W H l) where
         (λ z. subst (λ u. StateAt fin u (demand.drawn_rows (now r x es))
         (world_of (loader_at (reader_after r x) 1 24 (between 0) (sum_of f W H l lim u) 0) (store_after r x) y))
         (body_same r x es)
-        (settled f W H l lim fin (now r x es) (reader_after r x) (store_after r x) y (came-after r x es came) z (subst (All _) (sym (fed-same r x es)) sized)))
+        (row-begins f W H l lim fin (now r x es) (reader_after r x) (store_after r x) y (came-after r x es came) z (subst (All _) (sym (fed-same r x es)) sized)))
     draw-to {fin} (at-end es r x y k p came live none_left sized) old =
         let quiet = quiet_of r x es false [] came live none_left (quiet-end W _ n a.size) in
         drawn-quiet fin (body f W H l lim es ++ take k (sb f W H l lim es)) r x y 24 (sum_of f W H l lim (body f W H l lim es)) k (between 0) es came live

@@ -43,7 +43,7 @@ use Rattle.ground_file.specs.File.{listed, numbers_of}
 use Rattle.ground_file.specs.Maps.{MapOf, plane_in, map_file}
 use Rattle.ground_file.proofs.Digits.{Below}
 use Rattle.ground_file.proofs.FileLaws.{listed-length, listed_same}
-use Rattle.ground_loader.specs.declared.rows.Coming.{Coming}
+use Rattle.ground_loader.specs.declared.coming.Coming.{Coming}
 use Rattle.ground_loader.specs.Coming.{between, refused as refused_by, moved, put_on}
 use Rattle.ground_loader.specs.Taken.{Wanting, Taken, more}
 use Rattle.ground_loader.specs.Loader.{World, world_of, loader_at, reader_wants, Byte, taken, away, ends, sum_on, times_step, is_over}
@@ -53,7 +53,7 @@ use Rattle.ground_loader.proofs.SumLaws.{sum_more, prime-some}
 use Rattle.ground_loader.proofs.RowTheorems.{row-over, row_goes, row-short}
 use Rattle.ground_loader.proofs.MapBytes.{Sized, fed_numbers, fed_bytes, bytes-more, small_row, row_has}
 use Rattle.ground_loader.proofs.LoaderState.{T₀, Came, fed_in, body, sum_of, columns_of, State, in_row, over}
-use Rattle.ground_loader.proofs.LoaderState.{reader-wants, next-kept, settled}
+use Rattle.ground_loader.proofs.LoaderState.{reader-wants, next-kept, row-begins}
 use Rattle.ground_loader.proofs.ReaderFeeds.{FeedSeen, passes, seven, fourteen, feed-seen}
 use Rattle.ground_loader.proofs.LoaderBytes.{fed-is, over-is, not-over, s₀, hd, Next, goes, turns, stops, others_of, split, row-split}
 
@@ -225,7 +225,7 @@ module _ (f : ℕ) (W H : Side) (l : ℕ) (lim : Limits 0 f 0 0 W H l) (fin : Bo
             (bytes-now (gives tt) adds-passed)
             (subst (λ d. State f W H l lim fin (body f W H l lim (events (gives tt))) d
             (world_of (loader_at r' 1 24 (between 0) (sum_of f W H l lim (body f W H l lim (events (gives tt)))) 0) x' row_now)) (drawn-now (gives tt) adds-passed)
-            (settled f W H l lim fin (events (gives tt)) r' x' row_now c' (ended-now (gives tt) adds-passed) (all-sized (gives tt) adds-passed))))
+            (row-begins f W H l lim fin (events (gives tt)) r' x' row_now c' (ended-now (gives tt) adds-passed) (all-sized (gives tt) adds-passed))))
 
         -- 14
         ended-over : (r' : Reader) (x' : ℕ → ℤ) → Came f W H l lim (events (refused 14)) r' x'

@@ -28,10 +28,11 @@ use Rattle.reader.proofs.Reached.{reached}
 use Rattle.reader.proofs.CallLists.{Then}
 use Rattle.reader.proofs.Demand3.{claim}
 use Rattle.ground_file.specs.File.{prime, as_number}
-use Rattle.ground_loader.specs.declared.rows.Coming.{Coming}
+use Rattle.ground_file.specs.Saving.{max_step}
+use Rattle.ground_loader.specs.declared.coming.Coming.{Coming}
 use Rattle.ground_loader.specs.Coming.{between}
 use Rattle.ground_loader.specs.Loader.{World, loader_at, Want, bytes, draw_now, done, ended, want_after, want_of, is_bytes, bytes_wanted, reader_wants}
-use Rattle.ground_loader.specs.Loader.{Byte, byte_of, Ran, stopped, one_more, ran_on, ran, is_none, coming_after, most_step, loader_fits}
+use Rattle.ground_loader.specs.Loader.{Byte, byte_of, Ran, stopped, one_more, ran_on, ran, is_none, coming_after, loader_fits}
 use Rattle.ground_loader.specs.LoaderLists.{NoneBegins}
 use Rattle.ground_loader.proofs.SumLaws.{prime-some}
 use Rattle.ground_loader.proofs.StandingLaws.{taken-standing}
@@ -94,7 +95,7 @@ module _ (f : ℕ) (W H : Side) (l : ℕ) (lim : Limits 0 f 0 0 W H l) where
 
   fits-with : (es : List demand.Event) (r : Reader) (x : ℕ → ℤ) (h k c : ℕ) (cm : Coming) → Came f W H l lim es r x → h ≤ 24 → k ≤ 4 → ltb c prime ≡ true
       → pick (ltb h 24) (is_none cm) (coming_after cm (reader_wants r)) ≡ true → loader_fits (loader_at r 1 h cm c k) ≡ true
-  unfolding loader_fits within most_step
+  unfolding loader_fits within max_step
   fits-with es r x h k c cm a p q z e =
       let pl = plain_then es _ a in
       and_yes _ _ (claim f 0 0 W H l lim _ es a).0

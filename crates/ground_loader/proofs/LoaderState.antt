@@ -28,7 +28,7 @@ use Rattle.ground_file.specs.Groups.{bytes_of}
 use Rattle.ground_file.specs.File.{header_of, wanted, prime, as_number}
 use Rattle.ground_file.specs.Maps.{MapOf, map_file}
 use Rattle.ground_file.proofs.FileLaws.{times-first, wanted-kept}
-use Rattle.ground_loader.specs.declared.rows.Coming.{Coming}
+use Rattle.ground_loader.specs.declared.coming.Coming.{Coming}
 use Rattle.ground_loader.specs.Coming.{between}
 use Rattle.ground_loader.specs.Taken.{Wanting, Taken, none}
 use Rattle.ground_loader.specs.Loader.{World, world_of, loader_at, want_in, reader_wants}
@@ -119,9 +119,9 @@ module _ (f : ℕ) (W H : Side) (l : ℕ) (lim : Limits 0 f 0 0 W H l) where
       first q t = times-first q (band_rows_of t)
 
   -- ---- a row begins, or a height row can be drawn, or all are drawn
-  pub settled : (fin : Bool) (es : List demand.Event) (r : Reader) (x y : ℕ → ℤ) → Came es r x → demand.ended_by es ≡ false → All (Sized s) (fed_in es)
+  pub row-begins : (fin : Bool) (es : List demand.Event) (r : Reader) (x y : ℕ → ℤ) → Came es r x → demand.ended_by es ≡ false → All (Sized s) (fed_in es)
       → State fin (body es) (demand.drawn_rows es) (world_of (loader_at r 1 24 (between 0) (sum_of (body es)) 0) x y)
-  settled fin es r x y c live sized = go (left T₀ es) refl
+  row-begins fin es r x y c live sized = go (left T₀ es) refl
     where
       go : (t : List Step) → left T₀ es ≡ t → State fin (body es) (demand.drawn_rows es) (world_of (loader_at r 1 24 (between 0) (sum_of (body es)) 0) x y)
       go [] e =

@@ -48,7 +48,7 @@ use Rattle.ground_loader.specs.declared.loader.Loader.{Loader}
 use Rattle.ground_loader.specs.Loader.{World, Want, bytes, draw_now, done, ended, want_after, want_of, is_bytes, bytes_wanted, reader_wants}
 use Rattle.ground_loader.specs.Loader.{Byte, taken, away as byte-away, ends as byte-ends, byte_of, Ran, stopped, one_more, ran_on, ran}
 use Rattle.ground_loader.specs.Loader.{passed, impossible, turned as turned-away}
-use Rattle.ground_loader.specs.Loader.{ran_answer, take_reply, loader_fits, want_question, take_question, row_needs, store_needs, most_step}
+use Rattle.ground_loader.specs.Loader.{ran_answer, take_reply, loader_fits, want_question, take_question, row_needs, store_needs}
 use Rattle.ground_loader.specs.Loader.{set_up_question, fresh_world}
 use Rattle.ground_loader.specs.LoaderLists.{Call, want, take_bytes, draw, Took, took, fourteen, away, Event, wanted, offered, drew, told, event, next}
 use Rattle.ground_loader.specs.LoaderLists.{events, final, taken_by, bytes_taken, drawn_by, drawn_rows, ends, ended_by, NoneBegins, Offer, some, ends_it}
@@ -496,9 +496,9 @@ set-up-passed : (s : Shape) (q n : ℕ) → set_up_question s q n ≡ 0 → (set
 unfolding set_up_question
 set-up-passed s q n e = go (eqb (set_up_number s q) 0) refl e
   where
-    go : (t : Bool) → eqb (set_up_number s q) 0 ≡ t → pick t (ask (leb q most_step) 22 (ask (store_fits (store_needs s) n) 5 0)) (set_up_number s q) ≡ 0
+    go : (t : Bool) → eqb (set_up_number s q) 0 ≡ t → pick t (ask (store_fits (store_needs s) n) 5 0) (set_up_number s q) ≡ 0
         → (set_up_number s q ≡ 0) × (store_fits (store_needs s) n ≡ true)
-    go true z p = (eqb-true (set_up_number s q) 0 z, (asked-yes (store_fits (store_needs s) n) 4 0 (asked-yes (leb q most_step) 21 _ p).1).0)
+    go true z p = (eqb-true (set_up_number s q) 0 z, (asked-yes (store_fits (store_needs s) n) 4 0 p).0)
     go false z p = absurd (true≢false (sym (eq-eqb (set_up_number s q) 0 p) ∙ z))
 
 pub reader-set-up : (s : Shape) (q n : ℕ) → set_up_question s q n ≡ 0 → reader.set_up_question s.filter (columns s) (rows s) s.levels n ≡ 0

@@ -1,5 +1,4 @@
--- Question 7 before the last byte of a row is taken: the values stored and those that the byte brings are the row's (`within_all`), and that test is the
--- reader's (`seven_is`). Assumes nothing.
+-- Question 7 before the last byte of a row is taken: the values stored and those that the byte brings are the row's (`within_all`). Assumes nothing.
 use mathlib.Core.Path.{◌≡◌, refl, sym, ap, ◌∙◌, subst, fun_ext}
 use mathlib.Core.Bool.{Bool, true, false}
 use mathlib.Core.List.{List, [], ◌∷◌}
@@ -7,7 +6,7 @@ use Prim.Native.Nat.{ℕ, zero, suc, ◌+◌, ◌*◌, ◌-◌, ◌/◌, ◌%◌
 use native.Mathlib.Nat.{mod-one}
 use native.Mathlib.Omega.{arith}
 use native.Mathlib.Decide.{dec_lt}
-use lib.IntN.{ℤ, pos, negsuc, ◌*ℤ◌, ◌-ℤ◌, nat_abs}
+use lib.IntN.{ℤ, pos, negsuc, ◌-ℤ◌, nat_abs}
 use lib.Dec.{ltb, leb, eqb, T}
 use lib.Signed.{non_neg}
 use mir.Syntax.{w32, w64}
@@ -18,24 +17,20 @@ use lib.Pow.{pow_pos, pow_mono}
 use borrow.Author.Tests.{eq-eqb, ne_eqb, le-leb, leb-true, eqb-true, ltb-true, ltb-false}
 use Rattle.numbers.specs.Signal.{at, pick, both, windowed, spliced}
 use Rattle.numbers.specs.Tests.{every}
-use Rattle.numbers.proofs.Integers.{each, lin}
 use Rattle.numbers.proofs.TestLaws.{every-each, each-every, every-same}
 use Rattle.numbers.proofs.Sweep.{both as halves}
 use Rattle.numbers.proofs.Parts.{window-in, window-past, splice-below, splice-in}
-use Rattle.lifting.specs.Halves.{fronted}
 use Rattle.areas.specs.Areas.{between}
 use Rattle.level.proofs.AdmitLaws.{abs-between}
 use Rattle.wavelet.specs.Limits.{range}
 use Rattle.filters.specs.Filters.{filter_of}
-use Rattle.reader.specs.Questions.{run_fits}
 use Rattle.ground_file.specs.Groups.{width_of}
-use Rattle.ground_loader.specs.declared.rows.Coming.{Coming}
+use Rattle.ground_loader.specs.declared.coming.Coming.{Coming}
 use Rattle.ground_loader.specs.declared.rows.Seen.{Seen}
 use Rattle.ground_loader.specs.Numbers.{value_of, number_at, numbers_in, greatest}
 use Rattle.ground_loader.specs.Coming.{put, part_size, between as between-groups, second, grouped, seen_bits, whole_of, seen_of}
 use Rattle.ground_loader.specs.Coming.{deinterleaved, part_stored, moved, put_on, InPart, Standing, opened, stayed}
-use Rattle.ground_loader.specs.Loader.{world_of, is_over, times_step, row_over}
-use Rattle.ground_loader.specs.declared.loader.Loader.{Loader}
+use Rattle.ground_loader.specs.Loader.{is_over}
 use Rattle.ground_loader.specs.Local.{brought_within}
 use Rattle.ground_loader.proofs.ByteLaws.{greatest-below, group-moved, group-put, part_moved, part-put, group-open, group-none, group-zeros}
 use Rattle.ground_loader.proofs.ByteLaws.{second-open, second_none, second-zeros, deinterleaved-stay, deinterleaved-second, deinterleaved-over}
@@ -226,7 +221,7 @@ module _ (n : ℕ) (c : Coming) (b : ℕ) (y : ℕ → ℤ) (over : is_over n (m
         ]
 
 -- ---- the test
-same_tests : (a b : Bool) → (a ≡ true → b ≡ true) → (b ≡ true → a ≡ true) → a ≡ b
+pub same_tests : (a b : Bool) → (a ≡ true → b ≡ true) → (b ≡ true → a ≡ true) → a ≡ b
 same_tests true b f g = sym (f refl)
 same_tests false true f g = g refl
 same_tests false false f g = refl
@@ -336,44 +331,6 @@ stored_is d m row low high h el eh =
   where
     same : (a : ℕ) → d ≤ a → min d a ≡ d
     same a g = omega arith
-
--- ---- with step 1 the row is fed as it was stored
-times-one : (v : ℤ) → pos 1 *ℤ v ≡ v
-times-one = each _ λ p q. simp lin (omega arith)
-
-module _ (l : Loader) (x y : ℕ → ℤ) (n b c m : ℕ) (one : l.step ≡ 1) where
-  pub over-put : row_over (world_of l x y) n b c m ≡ put_on m l.coming b y
-  unfolding fronted times_step
-  over-put = fun_ext λ j. go (ltb j m) j
-    where
-      p : ℕ → ℤ
-      p = put_on m l.coming b y
-
-      times : (v : ℤ) → pick (eqb c 0) v (pos l.step *ℤ v) ≡ v
-      times v = (λ i. pick (eqb c 0) v (pos (one i) *ℤ v)) ∙ either (eqb c 0)
-        where
-          either : (t : Bool) → pick t v (pos 1 *ℤ v) ≡ v
-          either true = refl
-          either false = times-one v
-
-      go : (t : Bool) (j : ℕ) → pick t (pick (eqb c 0) (p j) (pos l.step *ℤ p j)) (p j) ≡ p j
-      go true j = times (p j)
-      go false j = refl
-
-  -- the reader's question 7
-  pub seven_is : (f k M : ℕ) → M ≡ range (filter_of f) k
-      → every m (λ i. leb (nat_abs (put_on m l.coming b y i)) M) ≡ run_fits f k m (windowed 0 m (row_over (world_of l x y) n b c m))
-  unfolding run_fits
-  seven_is f k M e =
-      every-same m _ _
-      (λ i h.
-      (λ j. leb (nat_abs (put_on m l.coming b y i)) (e j))
-      ∙ ap (λ v. leb (nat_abs v) (range (filter_of f) k))
-      (sym (window-in 0 m (row_over (world_of l x y) n b c m) i h ∙ ap (λ g. row_over (world_of l x y) n b c m g) (plain i)
-      ∙ ap (λ g. g i) over-put)))
-    where
-      plain : (i : ℕ) → 0 + i ≡ i
-      plain i = omega arith
 
 -- a slice's front
 pub front-is : (n : ℕ) (l : List ℤ) → at (take n l) ≡ windowed 0 n (at l)

@@ -40,8 +40,8 @@ module _ (f : ℕ) (W H : Side) (l : ℕ) (lim : Limits 0 f 0 0 W H l) where
       go false true z e = let p : ◌≡◌ {A = ℕ} 0 1 = cc in omega arith
       go false false z e = let p : q ≡ 14 = cc in subst T (sym (eq-eqb q 14 p) ∙ z) tt
 
-  never-fourteen : (es : List Event) (w : demand.World) → Then 0 f 0 0 W H l lim es w → (q : ℕ) → feed_reply w.reader q ≡ answer.refused 14 → ⊥
-  never-fourteen es _ (reached d p e x t fs ds kept) q z = not-fourteen _ q z
+  never_fourteen : (es : List Event) (w : demand.World) → Then 0 f 0 0 W H l lim es w → (q : ℕ) → feed_reply w.reader q ≡ answer.refused 14 → ⊥
+  never_fourteen es _ (reached d p e x t fs ds kept) q z = not-fourteen _ q z
 
   module _ (es : List Event) (r : Reader) (x : ℕ → ℤ) (n : ℕ) (a : Area) where
     abbrev asked : ℕ
@@ -85,7 +85,7 @@ module _ (f : ℕ) (W H : Side) (l : ℕ) (lim : Limits 0 f 0 0 W H l) where
             go (that u) =
                 let v = sym (seen-is (answer.refused k) e) ∙ u in
                 let p : k ≡ 14 = cc in
-                never-fourteen es w came asked (e ∙ ap answer.refused p)
+                never_fourteen es w came asked (e ∙ ap answer.refused p)
         other k e false z =
             let u = (claim f 0 0 W H l lim w es came).1.feeds_turned n a 6 (turned-is false z) in
             let v = sym (seen-is (answer.refused k) e) ∙ u in

@@ -60,10 +60,6 @@ pub levels-some : (r : Reader) → reading.counts_fit r ≡ true → r.stop ≡ 
 levels-some r e z = some_of r r.levels e z
 
 -- ---- question 1, as a want answers it
-asked-one : (t : Bool) → eqb (ask t 1 0) 0 ≡ t
-asked-one true = refl
-asked-one false = refl
-
 -- what a want gives where question 1 says yes
 reply-of : (r : Reader) (l : ℕ) → by l (last.want_reply r (by l (last.want_question r) (levels.want_question r)))
     (calls.want_reply r (by l (last.want_question r) (levels.want_question r)))

@@ -17,7 +17,7 @@ use Rattle.numbers.specs.Signal.{pick, spliced}
 use Rattle.numbers.proofs.Parts.{splice-below, splice-in}
 use Rattle.ground_file.specs.Groups.{width_of, code_of, digits, bytes_of, part_of, group_of, groups_of, row_bytes}
 use Rattle.ground_file.proofs.Digits.{Below, none, more}
-use Rattle.ground_loader.specs.declared.rows.Coming.{Coming}
+use Rattle.ground_loader.specs.declared.coming.Coming.{Coming}
 use Rattle.ground_loader.specs.declared.rows.Seen.{Seen}
 use Rattle.ground_loader.specs.Numbers.{value_of, number_at, numbers_in, greatest}
 use Rattle.ground_loader.specs.Coming.{put, part_size, between, opened, second, second_put, grouped, group_put, group_refused}
@@ -31,12 +31,12 @@ use Rattle.ground_loader.proofs.ByteLaws.{put_second, put_only, ends_more, ends-
 use Rattle.ground_loader.proofs.PartCame.{Came, came-start, came-byte, came-end, numbers-length, numbers-below, below-append, code-greatest}
 
 -- ---- places of lists
-at_left : (l m : List ℕ) (j : ℕ) → j < length l → get_or (l ++ m) j 0 ≡ get_or l j 0
+pub at_left : (l m : List ℕ) (j : ℕ) → j < length l → get_or (l ++ m) j 0 ≡ get_or l j 0
 at_left [] m j h = absurd (omega arith)
 at_left (x ∷ l) m zero h = refl
 at_left (x ∷ l) m (suc j) h = at_left l m j (omega arith)
 
-at_right : (l m : List ℕ) (j : ℕ) → length l ≤ j → get_or (l ++ m) j 0 ≡ get_or m (j - length l) 0
+pub at_right : (l m : List ℕ) (j : ℕ) → length l ≤ j → get_or (l ++ m) j 0 ≡ get_or m (j - length l) 0
 at_right [] m j h = let e : j - 0 ≡ j = omega arith in rw e refl
 at_right (x ∷ l) m zero h = absurd (omega arith)
 at_right (x ∷ l) m (suc j) h = let e : suc j - suc (length l) ≡ j - length l = omega arith in rw e (at_right l m j (omega arith))

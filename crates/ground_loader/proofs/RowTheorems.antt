@@ -17,7 +17,7 @@ use Rattle.ground_file.specs.Groups.{zigzag, width_of, code_of, part_of, group_o
 use Rattle.ground_file.specs.File.{listed}
 use Rattle.ground_file.proofs.Digits.{Below, none, more, head-is, tail-is}
 use Rattle.ground_file.proofs.GroupLaws.{code-small, code_holds, below-take, below-drop, part_length, part-told, row_told}
-use Rattle.ground_loader.specs.declared.rows.Coming.{Coming}
+use Rattle.ground_loader.specs.declared.coming.Coming.{Coming}
 use Rattle.ground_loader.specs.Numbers.{value_of}
 use Rattle.ground_loader.specs.Coming.{part_size, group_refused, whole_of, seen_of, part_refused, refused, Standing}
 use Rattle.ground_loader.specs.Taken.{Wanting, Over, Taken, none, more}

@@ -45,7 +45,7 @@ plus k r = record { count = k + r.count; why = r.why; world = r.world }
 abbrev stopping : ℕ → ℕ → World → Ran
 stopping k q w = record { count = k; why = q; world = w }
 
-drop_at : (k : ℕ) (l : List ℕ) → k < length l → drop k l ≡ get_or l k 0 ∷ drop (k + 1) l
+pub drop_at : (k : ℕ) (l : List ℕ) → k < length l → drop k l ≡ get_or l k 0 ∷ drop (k + 1) l
 drop_at zero [] h = absurd (omega arith)
 drop_at zero (x ∷ l) h = refl
 drop_at (suc k) [] h = absurd (omega arith)
@@ -170,11 +170,12 @@ module _ {n m : ℕ} {bs : List ℕ} {w₀ : World} {l : Loader} {d : Due} {k q 
 pub left : ℕ → ℕ → ℕ → ℕ
 left n k q = n - k + pick (eqb q 0) 1 0
 
-pub less : (n k q a e : ℕ) → k < n → q ≡ 0 → e ≡ pick (eqb a 0) 1 0 → left n (k + e) a < left n k q
+-- after a byte at place j, which is k or later
+pub less : (n k j q a e : ℕ) → k ≤ j → j < n → q ≡ 0 → e ≡ pick (eqb a 0) 1 0 → left n (j + e) a < left n k q
 unfolding left
-less n k q a e h z ee = go (eqb a 0) ee
+less n k j q a e from h z ee = go (eqb a 0) ee
   where
-    go : (t : Bool) → e ≡ pick t 1 0 → n - (k + e) + pick t 1 0 < n - k + pick (eqb q 0) 1 0
+    go : (t : Bool) → e ≡ pick t 1 0 → n - (j + e) + pick t 1 0 < n - k + pick (eqb q 0) 1 0
     go true f = let g : ◌≡◌ {A = ℕ} (pick (eqb q 0) 1 0) 1 = λ i. pick (eq-eqb q 0 z i) 1 0 in omega (arith, f, g)
     go false f = let g : ◌≡◌ {A = ℕ} (pick (eqb q 0) 1 0) 1 = λ i. pick (eq-eqb q 0 z i) 1 0 in omega (arith, f, g)
 

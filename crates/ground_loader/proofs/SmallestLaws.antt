@@ -1,18 +1,14 @@
--- A code is that of the smallest width exactly where the width before it does not hold the largest number (`smallest`). Assumes nothing.
+-- The widths rise with their codes and are at most 28; numbers that are 0 have the code 0. Assumes nothing.
 use mathlib.Core.Path.{◌≡◌, refl, sym, ap, ◌∙◌, subst}
 use mathlib.Core.Bool.{Bool, true, false}
 use mathlib.Core.List.{List, [], ◌∷◌}
-use Prim.Native.Nat.{ℕ, zero, suc, ◌+◌, ◌*◌, ◌-◌, ◌/◌, ◌^◌, ◌≤◌, ◌<◌}
-use native.Mathlib.Nat.{lt_of_lt_of_le}
+use Prim.Native.Nat.{ℕ, zero, suc, ◌+◌, ◌-◌, ◌^◌, ◌≤◌, ◌<◌}
 use native.Mathlib.Omega.{arith}
 use native.Mathlib.Decide.{dec_lt}
-use lib.Dec.{ltb, eqb}
-use lib.Pow.{pow_mono, shr_lt, shr_mono, shl-shr}
-use borrow.Author.Tests.{lt-ltb, le-ltb, eq-eqb, ne_eqb}
+use lib.Dec.{eqb}
+use borrow.Author.Tests.{lt-ltb, eq-eqb}
 use Rattle.numbers.specs.Signal.{pick}
 use Rattle.ground_file.specs.Groups.{width_of, holds, code_from, code_of}
-use Rattle.ground_file.proofs.Digits.{Below, none, more}
-use Rattle.ground_file.proofs.GroupLaws.{code_holds}
 use Rattle.ground_file.proofs.WidthLaws.{width-own, width-13, width-16, width-20, width-28}
 
 -- ---- the widths rise
@@ -76,34 +72,5 @@ least : (m i : ℕ) → m < 2 ^ width_of i → code_of (m ∷ []) ≤ i
 unfolding code_of
 least m i h = code-least 15 0 i (m ∷ []) (omega arith) (omega arith) (holds-one (width_of i) m h)
 
-head-below : {b m : ℕ} {l : List ℕ} → Below b (m ∷ l) → m < b
-head-below (more h p) = h
-
-held : (m c : ℕ) → m < 2 ^ width_of c → m < 2 ^ width_of (code_of (m ∷ []))
-held m c h = head-below (code_holds (m ∷ []) (more (lt_of_lt_of_le h (pow_mono (widest c))) none))
-
 pub smallest-none : (m : ℕ) → m < 2 ^ width_of 0 → true ≡ eqb (code_of (m ∷ [])) 0
 smallest-none m h = let e : code_of (m ∷ []) ≡ 0 = omega (arith, least m 0 h) in sym (eq-eqb (code_of (m ∷ [])) 0 e)
-
-pub smallest : (m c : ℕ) → 0 < c → m < 2 ^ width_of c → ltb 0 (m / 2 ^ width_of (c - 1)) ≡ eqb (code_of (m ∷ [])) c
-smallest m c p h =
-    elim (dec_lt m (2 ^ width_of (c - 1))) [
-      | yes q ↦
-          let none_left : m / 2 ^ width_of (c - 1) < 2 ^ 0 = shr_lt 0 (width_of (c - 1)) (subst (λ k. m < 2 ^ k) (zero-plus (width_of (c - 1))) q) in
-          le-ltb 0 (m / 2 ^ width_of (c - 1)) (omega arith)
-          ∙ sym (ne_eqb (code_of (m ∷ [])) c (λ e. omega (arith, least m (c - 1) q)))
-      | no q ↦
-          let one : 1 * 2 ^ width_of (c - 1) / 2 ^ width_of (c - 1) ≤ m / 2 ^ width_of (c - 1) = shr_mono (width_of (c - 1)) (omega arith) in
-          lt-ltb 0 (m / 2 ^ width_of (c - 1)) (omega (arith, one, shl-shr 1 (width_of (c - 1))))
-          ∙ sym (eq-eqb (code_of (m ∷ [])) c (same q))
-    ]
-  where
-    zero-plus : (k : ℕ) → k ≡ 0 + k
-    zero-plus k = omega arith
-
-    same : (m < 2 ^ width_of (c - 1) → ⊥) → code_of (m ∷ []) ≡ c
-    same q =
-        elim (dec_lt (code_of (m ∷ [])) c) [
-          | yes r ↦ absurd (q (lt_of_lt_of_le (held m c h) (pow_mono (wider (code_of (m ∷ [])) (c - 1) (omega arith)))))
-          | no r ↦ omega (arith, least m c h)
-        ]

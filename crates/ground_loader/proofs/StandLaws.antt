@@ -13,7 +13,7 @@ use Rattle.numbers.specs.Signal.{pick, both}
 use Rattle.numbers.proofs.Sweep.{both as halves}
 use Rattle.wavelet.specs.Questions.{within}
 use Rattle.ground_file.specs.Groups.{width_of}
-use Rattle.ground_loader.specs.declared.rows.Coming.{Coming}
+use Rattle.ground_loader.specs.declared.coming.Coming.{Coming}
 use Rattle.ground_loader.specs.Coming.{part_size, between, opened, second, grouped, group_refused, seen_bits, whole_of, seen_of, stayed, deinterleaved}
 use Rattle.ground_loader.specs.Coming.{refused, moved, InPart}
 use Rattle.ground_loader.specs.Loader.{is_over, second_fits, part_fits, standing}

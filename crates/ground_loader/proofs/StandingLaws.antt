@@ -10,7 +10,7 @@ use borrow.Author.Tests.{lt-ltb, le-leb, eq-eqb, ne_eqb}
 use Rattle.numbers.specs.Signal.{pick}
 use Rattle.wavelet.specs.Questions.{within}
 use Rattle.ground_file.specs.Groups.{width_of}
-use Rattle.ground_loader.specs.declared.rows.Coming.{Coming}
+use Rattle.ground_loader.specs.declared.coming.Coming.{Coming}
 use Rattle.ground_loader.specs.Coming.{part_size, between, opened, second, grouped, seen_of, stayed, deinterleaved, moved, InPart}
 use Rattle.ground_loader.specs.Taken.{Wanting, Taken, none, more}
 use Rattle.ground_loader.specs.Loader.{standing, part_fits, second_fits}

@@ -16,7 +16,7 @@ use Rattle.reader.specs.Reading.{feed_question, feed_reply, feed_store}
 use Rattle.reader.specs.State.{needs}
 use Rattle.ground_file.specs.Groups.{bytes_of}
 use Rattle.ground_file.specs.File.{header_of, prime}
-use Rattle.ground_loader.specs.declared.rows.Coming.{Coming}
+use Rattle.ground_loader.specs.declared.coming.Coming.{Coming}
 use Rattle.ground_loader.specs.declared.loader.Loader.{Loader}
 use Rattle.ground_loader.specs.declared.loader.Due.{Due}
 use Rattle.ground_loader.specs.declared.loader.Step.{Step}

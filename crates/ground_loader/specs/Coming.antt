@@ -3,7 +3,7 @@
 use Rattle.std.specs.Prelude.{◌≡◌, Bool, true, false, not, [], ◌∷◌, ℕ, ◌+◌, ◌*◌, ◌-◌, ◌/◌, ◌%◌, ◌^◌, ◌≤◌, ◌<◌, min, ℤ, ltb, leb, eqb}
 use Rattle.numbers.specs.Signal.{pick, spliced}
 use Rattle.ground_file.specs.Groups.{width_of, code_of}
-use Rattle.ground_loader.specs.declared.rows.Coming.{Coming}
+use Rattle.ground_loader.specs.declared.coming.Coming.{Coming}
 use Rattle.ground_loader.specs.declared.rows.Seen.{Seen}
 use Rattle.ground_loader.specs.declared.rows.Took.{Took}
 use Rattle.ground_loader.specs.Numbers.{value_of, number_at, numbers_in, greatest}

@@ -4,5 +4,6 @@ pub mod Taken
 pub mod Loader
 pub mod LoaderLists
 pub mod Loading
+pub mod Stepped
 pub mod LoaderAnswers
 pub mod Local

@@ -17,8 +17,8 @@ use Rattle.reader.specs.Reading as reading
 use Rattle.reader.specs.Reading.{counts_fit, feed_question, feed_reply, feed_store, draw_question}
 use Rattle.ground_file.specs.Groups.{width_of, bytes_of}
 use Rattle.ground_file.specs.File.{header_of, prime}
-use Rattle.ground_file.specs.Saving.{set_up_number}
-use Rattle.ground_loader.specs.declared.rows.Coming.{Coming}
+use Rattle.ground_file.specs.Saving.{max_step, set_up_number}
+use Rattle.ground_loader.specs.declared.coming.Coming.{Coming}
 use Rattle.ground_loader.specs.declared.loader.Loader.{Loader}
 use Rattle.ground_loader.specs.Coming.{between, refused, moved, put_on}
 
@@ -208,17 +208,13 @@ coming_after c answer.draw_now = is_none c
 coming_after c answer.done = is_none c
 coming_after c answer.ended = is_none c
 
--- the steps that are loaded: 1 alone so far (docs/FORMAT.md, "Loading")
-unfoldable pub most_step : ℕ
-most_step = 1
-
--- 1: the numbers of a loader are in their ranges
+-- 1: the numbers of a loader are in their ranges; a step above 1 goes with a tolerant reader
 unfoldable pub loader_fits : Loader → Bool
 loader_fits l =
     both (counts_fit l.reader)
     (both (eqb l.reader.stop 0)
     (both (eqb l.reader.spare 0)
-    (both (within 1 most_step l.step)
+    (both (within 1 max_step l.step)
     (both (eqb l.reader.admission (pick (eqb l.step 1) 0 1))
     (both (leb l.header 24)
     (both (leb l.tail 4)
@@ -268,7 +264,7 @@ take_row q r y = pick (eqb q 0) r.world.row y
 abbrev pub with_reader : Loader → Reader → Loader
 with_reader l r = loader_at r l.step l.header l.coming l.sum l.tail
 
--- ---- set-up: 2, 3, 18, 4, 20, 22 (and for a step that is not loaded yet), and 5 of the line store, whose needed part is zeroed
+-- ---- set-up: 2, 3, 18, 4, 20, 22, and 5 of the line store, whose needed part is zeroed. A step above 1 has a tolerant reader (Q-10)
 abbrev pub fresh_loader : Shape → ℕ → Loader
 fresh_loader s q =
     loader_at (fresh_by (pick (eqb q 1) 0 1) s.filter 0 0 (shape.columns s) (shape.rows s) s.levels) q 0 (between 0) 0 0
@@ -277,7 +273,7 @@ abbrev pub store_needs : Shape → ℕ
 store_needs s = store_by s.filter (shape.columns s) s.levels
 
 unfoldable pub set_up_question : Shape → ℕ → ℕ → ℕ
-set_up_question s q n = pick (eqb (set_up_number s q) 0) (ask (leb q most_step) 22 (ask (store_fits (store_needs s) n) 5 0)) (set_up_number s q)
+set_up_question s q n = pick (eqb (set_up_number s q) 0) (ask (store_fits (store_needs s) n) 5 0) (set_up_number s q)
 
 abbrev pub fresh_world : Shape → ℕ → (ℕ → ℤ) → (ℕ → ℤ) → World
 fresh_world s q x y = world_of (fresh_loader s q) (zeroed (store_needs s) x) y

@@ -1,6 +1,6 @@
 -- A band row of n numbers whose bytes are taken one after the other.
 use Rattle.std.specs.Prelude.{◌≡◌, false, List, [], ◌∷◌, ◌++◌, ℕ, ◌<◌, ℤ}
-use Rattle.ground_loader.specs.declared.rows.Coming.{Coming}
+use Rattle.ground_loader.specs.declared.coming.Coming.{Coming}
 use Rattle.ground_loader.specs.Coming.{between, refused, moved, put_on}
 
 -- bytes are wanted: the row is not over

@@ -1,4 +1,4 @@
-// The header of a ground file, from the numbers of the reader that reads it. The module is private, as `widths` is.
+// The header of a ground file, from the numbers of the reader that reads it. The module is private, as `parts` is.
 ghost use Rattle.std.specs.Prelude.{◌≡◌, ◌<◌, get_or};
 ghost use Rattle.ground_file.specs.File.{header_of};
 ghost use Rattle.ground_loader.specs.Loader.{shape_of};

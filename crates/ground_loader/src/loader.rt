@@ -11,8 +11,8 @@ ghost use Rattle.ground_loader.specs.Loader.{take_reply, take_store, take_row, w
 ghost use Rattle.ground_loader.specs.LoaderAnswers.{of_begun, of_want, of_loaded, of_drawn, set_up_reply, want_reply, begun_by, drawn_by, draw_reply_of};
 ghost use Rattle.ground_loader.specs.LoaderAnswers.{draw_store_of, draw_area_of};
 
-use crate::rows::Coming;
-use crate::{questions, rows, steps};
+use crate::coming::Coming;
+use crate::{coming, questions, steps};
 use ground_file::saver;
 use reader::{Drawn, Reader, SetUp};
 use wavelet::shape::Shape;
@@ -79,8 +79,8 @@ pub struct Step {
 }
 
 impl Loader {
-    // A fresh loader of a file with this shape and step; the needed part of the line store is zeroed. The questions are 2, 3, 18, 4, 20, 22 (a step above 1 is
-    // not loaded yet) and 5.
+    // A fresh loader of a file with this shape and step; the needed part of the line store is zeroed. A step above 1 has a
+    // tolerant reader. The questions are 2, 3, 18, 4, 20, 22 and 5.
     pub fn set_up(map: Shape, step: usize, store: &mut [i32]) -> Begun
         ensures result_value { of_begun result ≡ set_up_reply map step (set_up_question map step (length store.old)) }
         ensures store_after { at store.new ≡
@@ -90,10 +90,11 @@ impl Loader {
         if q != 0 {
             return Begun::Refused(q);
         }
-        if 1 < step {
-            return Begun::Refused(22);
+        if step == 1 {
+            return by_reader(Reader::set_up(map, store), step);
         }
-        by_reader(Reader::set_up(map, store), step)
+        let tolerant = Reader::set_up_tolerant(map.width, map.height, map.levels, store);
+        by_reader(tolerant, step)
     }
 
     // What it wants. Question 1 is asked.
@@ -188,7 +189,7 @@ fn by_reader(answer: SetUp, step: usize) -> Begun
             reader,
             step,
             header: 0,
-            coming: rows::before_group(0),
+            coming: coming::before_group(0),
             sum: 0,
             tail: 0,
         }),

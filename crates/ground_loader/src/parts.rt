@@ -1,4 +1,5 @@
-// Numbers of w bits each, taken from a number's bits, the first from the lowest. The module is private, as `widths` is.
+// Numbers of w bits each, taken from a number's bits, the first from the lowest. The module is private: only this crate, which meets
+// what is required, can call it.
 ghost use Rattle.std.specs.Prelude.{◌≡◌, ◌+◌, ◌*◌, ◌/◌, ◌%◌, ◌^◌, ◌≤◌, ◌<◌, length};
 ghost use Rattle.numbers.specs.Signal.{at, spliced};
 ghost use Rattle.ground_loader.specs.Numbers.{value_of, number_at, numbers_in, greatest};

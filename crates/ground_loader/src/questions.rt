@@ -1,4 +1,4 @@
-// The questions of a loader's calls. The module is private, as `widths` is.
+// The questions of a loader's calls. The module is private, as `parts` is.
 ghost use Rattle.std.specs.Prelude.{◌≡◌, true, ◌≤◌, leb, ltb, eqb};
 ghost use Rattle.numbers.specs.Signal.{pick, both};
 ghost use Rattle.reader.specs.Answers.{of_wanted};
@@ -8,14 +8,12 @@ ghost use Rattle.reader.specs.Questions.{store_fits};
 ghost use Rattle.ground_loader.specs.Loader.{want_in, second_fits, part_fits, standing, is_none, coming_after, loader_fits, take_question, row_needs};
 ghost use Rattle.ground_loader.specs.Local.{is_given};
 
+use crate::coming::Coming;
 use crate::loader::Loader;
-use crate::rows::Coming;
-use crate::{steps, sums, widths};
-use reader::{Reader, Wanted};
+use crate::{steps, sums};
+use ground_file::{saver, widths};
+use reader::{Reader, Wanted, runs};
 use wavelet::limits;
-
-// The steps that are loaded.
-const MOST_STEP: usize = 1;
 
 // Has the second part of a group numbers, where it has a width?
 fn second_fits(c: Coming, n: usize) -> bool
@@ -119,12 +117,12 @@ pub fn counts_fit(l: Loader) -> bool
     ensures { result ≡ loader_fits l }
 {
     let s = l.reader;
-    let want = s.want();
+    let want = runs::want(s);
     let here = s.admission == admission_of(l.step);
     answers(want)
         & ((s.stop == 0)
             & ((s.spare == 0)
-                & (limits::is_within(l.step, MOST_STEP)
+                & (limits::is_within(l.step, saver::MAX_STEP)
                     & (here
                         & ((l.header <= 24)
                             & ((l.tail <= 4)

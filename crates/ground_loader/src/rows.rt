@@ -1,5 +1,4 @@
-// A band row of n numbers, byte by byte as it comes in. The module is public for `Coming`, a part of a loader's numbers; what its functions require this crate
-// meets.
+// A band row of n numbers, byte by byte as it comes in. The module is private, as `parts` is.
 ghost use Rattle.std.specs.Prelude.{◌≡◌, ◌+◌, ◌*◌, ◌/◌, ◌^◌, ◌≤◌, ◌<◌, min, true, pos, nat_abs, leb, length};
 ghost use Rattle.numbers.specs.Signal.{at};
 ghost use Rattle.numbers.specs.Tests.{every};
@@ -9,22 +8,10 @@ ghost use Rattle.ground_loader.specs.Coming.{moved, took_of, put_on, InPart, Sta
 ghost use Rattle.ground_loader.specs.Loader.{is_over};
 ghost use Rattle.ground_loader.specs.Local.{brought_within};
 
-use crate::{parts, widths};
+use crate::coming::Coming;
+use crate::{coming, parts};
 use areas::ranges;
-
-// What came of a row. `phase` is what the next byte belongs to: 0 a group's byte, 1 its first part, 2 its second. `done` numbers are stored. Of the part: its
-// code, that of the part after it, how many of its numbers are not stored, the bits that came of these and how many they are, the largest number stored.
-#[derive(Clone, Copy)]
-pub struct Coming {
-    pub phase: usize,
-    pub done: usize,
-    pub code: usize,
-    pub next: usize,
-    pub left: usize,
-    pub low: u64,
-    pub bits: usize,
-    pub most: u64,
-}
+use ground_file::widths;
 
 // What a part's byte brings: the bits that came, how many numbers are whole, and the largest with these.
 #[derive(Clone, Copy)]
@@ -38,22 +25,6 @@ pub struct Seen {
 pub struct Took {
     pub answer: u8,
     pub coming: Coming,
-}
-
-// Before a group's byte, or after the row's last.
-pub fn before_group(done: usize) -> Coming
-    ensures { result ≡ between done }
-{
-    Coming {
-        phase: 0,
-        done,
-        code: 0,
-        next: 0,
-        left: 0,
-        low: 0,
-        bits: 0,
-        most: 0,
-    }
 }
 
 // Before a part's first byte.
@@ -89,7 +60,7 @@ fn second_of(n: usize, done: usize, code: usize) -> Coming
     if 0 < code {
         return before_part(2, done, code, 0, size);
     }
-    before_group(done + size)
+    coming::before_group(done + size)
 }
 
 fn put_second(n: usize, done: usize, code: usize, row: &mut [i32])
@@ -180,7 +151,7 @@ fn part_refused(c: Coming, n: usize, byte: u8, s: Seen) -> bool
     if 0 < (s.bits >> (widths::width_of(c.code) * s.whole)) {
         return true;
     }
-    !widths::is_smallest(c.code, s.most)
+    widths::code_of(s.most as u32) != c.code
 }
 
 // After a byte of a part that is not its last.
@@ -212,7 +183,7 @@ fn part_of(c: Coming, n: usize, byte: u8, s: Seen) -> Coming
     if c.phase == 1 {
         return second_of(n, c.done + s.whole, c.next);
     }
-    before_group(c.done + s.whole)
+    coming::before_group(c.done + s.whole)
 }
 
 // Is a byte the last of a group's first part?

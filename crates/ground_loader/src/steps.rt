@@ -1,18 +1,20 @@
-// What a loader makes of bytes, one after the other. The module is private, as `widths` is.
-ghost use Rattle.std.specs.Prelude.{◌≡◌, true, false, ltb, eqb, length};
+// What a loader makes of bytes, one after the other. The module is private, as `parts` is.
+ghost use Rattle.std.specs.Prelude.{◌≡◌, true, false, ◌≤◌, ◌<◌, ltb, eqb, length};
 ghost use Rattle.numbers.specs.Signal.{at, pick, both};
 ghost use Rattle.reader.specs.Answers.{of_wanted};
 ghost use Rattle.reader.specs.Reading.{feed_question, feed_reply, feed_store};
 ghost use Rattle.ground_loader.specs.Coming.{refused};
 ghost use Rattle.ground_loader.specs.Coming as came;
-ghost use Rattle.ground_loader.specs.Loader.{loader_at, world_of, want_in, is_over, row_byte, byte_of, ran, ran_answer};
+ghost use Rattle.ground_loader.specs.Loader.{loader_at, world_of, want_in, is_over, row_needs, row_byte, byte_of, ran, ran_answer};
 ghost use Rattle.ground_loader.specs.LoaderAnswers.{of_loaded};
 ghost use Rattle.ground_loader.specs.Local.{plain_due, due_after, due_of, Sound, Areas, Onward, Became, FedStep, HeaderTaken, TailTaken, ToldOf};
+ghost use Rattle.ground_loader.specs.Local.{GroupsTaken};
 
+use crate::coming::Coming;
 use crate::loader::{Due, Loaded, Loader, Step};
-use crate::rows::Coming;
-use crate::{header, rows, sums};
-use reader::{Fed, Reader, Wanted};
+use crate::{coming, factors, groups, header, rows, sums};
+use ground_file::sums as checksum;
+use reader::{Fed, Reader, Wanted, runs};
 
 fn plain(phase: usize) -> Due
     ensures { result ≡ plain_due phase }
@@ -64,7 +66,7 @@ pub fn due_of(l: Loader) -> Due
     if l.header < 24 {
         return plain(0);
     }
-    due_by(r.want(), l.tail)
+    due_by(runs::want(r), l.tail)
 }
 
 // The same loader after another byte.
@@ -149,11 +151,11 @@ fn feed(l: Loader, d: Due, store: &mut [i32], row: &[i32], byte: u8) -> Step
             l,
             t,
             l.header,
-            rows::before_group(0),
+            coming::before_group(0),
             sums::sum_on(l.sum, byte),
             l.tail,
         )),
-        Fed::Impossible(t) => ended(moved(l, t, l.header, rows::before_group(0), l.sum, l.tail)),
+        Fed::Impossible(t) => ended(moved(l, t, l.header, coming::before_group(0), l.sum, l.tail)),
         Fed::Refused(no) => refuse(no, l, d),
     }
 }
@@ -178,12 +180,14 @@ fn last_byte(l: Loader, d: Due, store: &mut [i32], row: &mut [i32], byte: u8) ->
 {
     let r = l.reader;
     let c = l.coming;
-    let most = filters::range_of(r.filter, d.level);
-    if !rows::all_within(c, d.count, byte, row, most) {
+    let n = d.count;
+    let factor = factors::factor_of(l.step, d.band);
+    let most = factors::most_of(filters::range_of(r.filter, d.level), factor);
+    if !rows::all_within(c, n, byte, row, most) {
         return refuse(7, l, d);
     }
-    rows::put_byte(c, d.count, byte, row);
-    let n = d.count;
+    rows::put_byte(c, n, byte, row);
+    factors::multiply(row, n, factor);
     feed(l, d, store, &row[..n], byte)
 }
 
@@ -236,14 +240,14 @@ fn take_byte(l: Loader, d: Due, store: &mut [i32], row: &mut [i32], byte: u8) ->
 }
 
 // Are more bytes taken? After `answer`, with `at` of n taken.
-fn goes_on(answer: u8, d: Due, at: usize, n: usize) -> bool
+fn takes_more(answer: u8, d: Due, at: usize, n: usize) -> bool
     ensures { result ≡ both (eqb answer 0) (both (ltb d.phase 3) (ltb at n)) }
 {
     (answer == 0) & ((d.phase < 3) & (at < n))
 }
 
 // What a call answers after a run that `answer` ended, with so many bytes taken.
-fn told(answer: u8, at: usize, l: Loader) -> Loaded
+fn answer_of(answer: u8, at: usize, l: Loader) -> Loaded
     ensures { ToldOf answer at l (of_loaded result) }
 {
     if answer == 14 {
@@ -261,7 +265,49 @@ fn one_if(answer: u8) -> usize
     if answer == 0 { 1 } else { 0 }
 }
 
-// Byte after byte, until one is turned away, none is wanted or the run is used up.
+// A loader after some groups, and the place of the next byte.
+#[derive(Clone, Copy)]
+pub struct Reached {
+    pub loader: Loader,
+    pub at: usize,
+}
+
+// Is a group's byte next?
+fn at_group(d: Due, c: Coming) -> bool
+    ensures { result ≡ both (eqb d.phase 1) (eqb c.phase 0) }
+{
+    (d.phase == 1) & (c.phase == 0)
+}
+
+// The groups of a row that stand whole in the run from byte `start` on, but for the row's last.
+fn take_groups(l: Loader, d: Due, row: &mut [i32], run: &[u8], start: usize) -> Reached
+    requires { Sound l d × (row_needs l.reader ≤ length row.old) × (start < length run.now) }
+    ensures { GroupsTaken l d run.now start (at row.old) (at row.new) result }
+{
+    let c = l.coming;
+    if !at_group(d, c) {
+        return Reached {
+            loader: l,
+            at: start,
+        };
+    }
+    let g = groups::put_groups(row, d.count, c.done, run, start);
+    let end = g.at;
+    if end == start {
+        return Reached {
+            loader: l,
+            at: start,
+        };
+    }
+    let r = l.reader;
+    let sum = checksum::sum_of(l.sum, &run[start..end], end - start);
+    Reached {
+        loader: moved(l, r, l.header, coming::before_group(g.done), sum, l.tail),
+        at: end,
+    }
+}
+
+// Byte after byte, and groups at once, until one is turned away, none is wanted or the run is used up.
 pub fn take_run(l: Loader, store: &mut [i32], row: &mut [i32], run: &[u8]) -> Loaded
     requires { Sound l (due_of l) × Areas l (length store.old) (length row.old) }
     ensures result_value { of_loaded result ≡
@@ -276,12 +322,14 @@ pub fn take_run(l: Loader, store: &mut [i32], row: &mut [i32], run: &[u8]) -> Lo
     let mut due = due_of(l);
     let mut at = 0;
     let mut answer = 0u8;
-    while goes_on(answer, due, at, n) {
-        let s = take_byte(loader, due, store, row, run[at]);
+    while takes_more(answer, due, at, n) {
+        let g = take_groups(loader, due, row, run, at);
+        let place = g.at;
+        let s = take_byte(g.loader, due, store, row, run[place]);
         loader = s.loader;
         due = s.due;
         answer = s.answer;
-        at += one_if(s.answer);
+        at = place + one_if(s.answer);
     }
-    told(answer, at, loader)
+    answer_of(answer, at, loader)
 }

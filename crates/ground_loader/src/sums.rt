@@ -1,4 +1,4 @@
-// The checksum: bytes as one number, the first highest, modulo a prime. The module is private, as `widths` is.
+// The checksum: bytes as one number, the first highest, modulo a prime. The module is private, as `parts` is.
 ghost use Rattle.std.specs.Prelude.{◌≡◌, ◌+◌, ◌*◌, ◌/◌, ◌%◌, ◌^◌, ◌<◌, eqb};
 ghost use Rattle.ground_file.specs.File.{prime};
 

@@ -24,7 +24,6 @@ pub mod ThereAndBack
 pub mod ColumnLaws
 pub mod PlaceLaws
 pub mod AreaLaws
-pub mod LiftLaws
 pub mod BackLaws
 pub mod SingleTests
 pub mod EachLaws

@@ -21,9 +21,6 @@ use Rattle.lifting.proofs.GridLaws.{ahead, counts, some, beside-lows, beside-hig
 pub further : (e n : ℕ) → n + 1 < e → e - (n + 1) < e - n
 further e n b = omega arith
 
-pub below : (k m n : ℕ) → k < m → n ≡ m → k < n
-below k m n b e = omega arith
-
 -- ---- the two passes in place, by any step f
 module _ (f : ℤ → ℤ → ℤ → ℤ) (o low N : ℕ) (y : ℕ → ℤ) where
   pub highs-low : (j : ℕ) → j < low → highs_changed f o low N y j ≡ y j

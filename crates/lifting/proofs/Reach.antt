@@ -82,8 +82,3 @@ module _ (keep : ℤ → ℤ) (N : ℕ) (x y : ℕ → ℤ) (n : ℕ) where
       → five_three_filter.forward keep (side 0 N) x lo n ≡ five_three_filter.forward keep (side 0 N) y lo n
   unfolding place
   low_reads b e = forward-reach keep (side 0 N) x y lo n b (λ i p q r. e i p (omega arith) (omega arith))
-
-  pub high-reads : n < count hi (side 0 N) → ((i : ℕ) → i < N → 2 * n ≤ i → i ≤ 2 * n + 2 → x i ≡ y i)
-      → five_three_filter.forward keep (side 0 N) x hi n ≡ five_three_filter.forward keep (side 0 N) y hi n
-  unfolding place
-  high-reads b e = forward-reach keep (side 0 N) x y hi n b (λ i p q r. e i p (omega arith) (omega arith))

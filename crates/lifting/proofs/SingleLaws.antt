@@ -153,18 +153,6 @@ module _ (S : Side) (e : single_high S ≡ true) where
   unfolding highs_laid
   laid-single y z = let t = single-high S e in fun_ext λ j. simp (le-ltb j (count lo S) (omega arith))
 
-  pub fronted-single : (y : ℕ → ℤ) (o : List ℤ) → S.length ≤ length o
-      → at (set o 0 (shr_z (y 0) 2)) ≡ fronted S.length (unlifted_in_place S (highs_laid S y (at o))) (at o)
-  fronted-single y o room =
-      let t = single-high S e in
-      let u = unlifted_in_place S (highs_laid S y (at o)) in
-      first-set o _ (fronted S.length u (at o)) (omega arith)
-      (sym
-      (front-in S.length u (at o) 0 (omega arith)
-      ∙ unlifted-first (highs_laid S y (at o))
-      ∙ ap (λ (x : ℕ → ℤ). shr_z (x 0) 2) (laid-single y (at o))))
-      (λ j b. front-past S.length u (at o) j (omega arith))
-
 -- ---- any other line so short
 module _ (S : Side) (few : S.length < 2) (e : single_high S ≡ false) where
   pub lifted-none : (y : ℕ → ℤ) → lifted_in_place S y ≡ y
@@ -203,20 +191,4 @@ module _ (S : Side) (few : S.length < 2) (e : single_high S ≡ false) where
             simp (lt-ltb j (S.length - S.length / 2) (omega arith))
             (k ∙ sym (front-in S.length (joined S q) z j b ∙ ap (joined S q) (sym i) ∙ joined-place S q lo 0 ∙ even-one S (omega arith) wrap32 p 0))
         | no b ↦ simp (le-ltb j (S.length - S.length / 2) (omega arith)) (sym (front-past S.length (joined S q) z j (omega arith)))
-      ]
-
-  pub fronted-none : (y z : ℕ → ℤ) → z ≡ fronted S.length (unlifted_in_place S (highs_laid S y z)) z
-  unfolding highs_laid
-  fronted-none y z =
-      let c = single-none S few e in
-      let both = counts S in
-      let u = unlifted_in_place S (highs_laid S y z) in
-      fun_ext λ j.
-      elim (dec_lt j S.length) [
-        | yes b ↦
-            sym
-            (front-in S.length u z j b
-            ∙ ap (λ (x : ℕ → ℤ). x j) (unlifted-none (highs_laid S y z))
-            ∙ simp (lt-ltb j (count lo S) (omega arith)))
-        | no b ↦ sym (front-past S.length u z j (omega arith))
       ]

@@ -23,10 +23,6 @@ unfoldable pub lows_changed : (ℤ → ℤ → ℤ → ℤ) → ℕ → ℕ → 
 lows_changed f o low N y j =
     pick (ltb j low) (f (y j) (y (low + near (N - low) (j + o - 1))) (y (low + near (N - low) (j + o)))) (y j)
 
--- the first `low` numbers of z, and what y has past them
-unfoldable pub lows_of : ℕ → (ℕ → ℤ) → (ℕ → ℤ) → ℕ → ℤ
-lows_of low y z j = pick (ltb j low) (z j) (y j)
-
 -- the even places of a line x of N numbers at the front of memory z
 unfoldable pub evens_copied : ℕ → (ℕ → ℤ) → (ℕ → ℤ) → ℕ → ℤ
 evens_copied N x z j = pick (ltb j (N - N / 2)) (x (2 * j)) (z j)

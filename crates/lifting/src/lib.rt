@@ -2,7 +2,6 @@
 // from one area to another, and on the columns of an area a row at a time, a level of one row among them. Lifting of two steps in general stands here too.
 // Every call is total: a sum is taken whole and stored modulo 2^32.
 #![tactic(auto)]
-pub mod halves;
 pub mod line;
 pub mod pairs;
 mod place;

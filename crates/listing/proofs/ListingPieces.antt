@@ -2,7 +2,7 @@
 -- Store and row area are those of ListingTheorem.
 --     pieces-due      what is written is `due_of` the pieces joined
 --     pieces_whole    with what is written after the end of the input, `listing_of` them
---     due-pauses, whole-pauses    the calls that were lent room and were not idle are no more than the bytes written: a caller who lends room comes to the end
+--     whole-pauses    the calls that were lent room and were not idle are no more than the bytes written: a caller who lends room comes to the end
 -- Assumes nothing.
 use mathlib.Core.Path.{◌≡◌, refl, sym, ap, subst₂, ◌∙◌}
 use mathlib.Core.Bool.{true, false}
@@ -80,9 +80,6 @@ module _ (n k : ℕ) (store : map_store ≤ n) (row : max_picture_width ≤ k) (
 
   pub pieces_whole : {t₂ : List ℕ} {s₂ : State} → Piece n k (end_state n k s) [] t₂ s₂ → t ++ t₂ ≡ listing_of (joined ps)
   pieces_whole f = moves-whole n k store row x z bytes (pieces_go fed) (pieces-idle refl fed) all_none (piece-goes f) (piece-idle f)
-
-  pub due-pauses : pauses fed ≤ length (due_of (joined ps))
-  due-pauses = omega (arith, pieces-pauses fed, ap length pieces-due)
 
   pub whole-pauses : {t₂ : List ℕ} {s₂ : State} (f : Piece n k (end_state n k s) [] t₂ s₂) → pauses fed + pauses_in f ≤ length (listing_of (joined ps))
   whole-pauses {t₂} f = omega (arith, pieces-pauses fed, piece-pauses f, length-append t t₂, ap length (pieces_whole f))

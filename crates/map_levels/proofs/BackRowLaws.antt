@@ -166,6 +166,12 @@ module _ (A : ℕ) (W H : Side) (z x : ℕ → ℤ) (r : ℕ) (rh : r < H.length
       laid_from W ((count lo H + r / 2) * A) ((count lo H + r / 2) * A) z z ≡ cut W.length (band_rows A W H z x r)
   high-row-at e = ap (λ (i : ℕ). laid_from W (i * A) (i * A) z z) (sym (plane-high H r e)) ∙ high-row-is A W H z x r rh e
 
+  -- its low half lent as n numbers at place b of the work area q
+  pub low-row-lent : (b n : ℕ) (q : List ℤ) → n ≡ count lo W → b ≡ low_place W H + r / 2 * count lo W → at q ≡ x → is_low H r ≡ true →
+      highs_laid W (windowed (r / 2 * A) W.length z) (at (mid_of b n q)) ≡ cut W.length (band_rows A W H z x r)
+  low-row-lent b n q en eb ex e =
+      ap (λ (f : ℕ → ℤ). highs_laid W (windowed (r / 2 * A) W.length z) f) (at_mid b n q ∙ (rw (en, eb, ex))) ∙ low-row-at e
+
 -- high row r is high row r / 2
 pub high_half : (H : Side) (r : ℕ) → r < H.length → (H.start + r) % 2 ≡ 1 → count lo H + r / 2 < H.length
 unfolding count
@@ -174,17 +180,14 @@ high_half H r b e = omega arith
 pub line-by : (b w : ℕ) (v v' y₀ y : ℕ → ℤ) → v ≡ v' → LineMade b w v y₀ y → LineMade b w v' y₀ y
 line-by b w v v' y₀ y e m = rw (← e) m
 
--- the row of a part of the plane p, lent as m numbers at place a, and its low half, n numbers at place b of q, to k numbers at place c of the lines l, which
--- are come back as z
-pub part-made : (x w a b c m n k : ℕ) (p q l z : List ℤ) → m ≡ w → n ≡ count lo (side x w) → k ≡ w → a + w ≤ length p → b + count lo (side x w) ≤ length q →
-    c + w ≤ length l → length z ≡ length (mid_of c k l) →
+-- the row of a part of the plane p, lent as m numbers at place a, and its low half q, to k numbers at place c of the lines l, which are come back as z
+pub lent-made : (x w a c m k : ℕ) (p q l z : List ℤ) → m ≡ w → k ≡ w → a + w ≤ length p → c + w ≤ length l → length z ≡ length (mid_of c k l) →
     ((j : ℕ) → j < length (mid_of a m p) → at z j ≡ short_unlifted (side x (length (mid_of a m p)))
-    (highs_laid (side x (length (mid_of a m p))) (at (mid_of a m p)) (at (mid_of b n q))) j) →
-    LineMade c w (short_unlifted (side x w) (laid_from (side x w) a b (at p) (at q))) (at l) (at (put_mid c k l z))
-part-made x w a b c m n k p q l z em en ek fp fq fl size is =
+    (highs_laid (side x (length (mid_of a m p))) (at (mid_of a m p)) (at q)) j) →
+    LineMade c w (short_unlifted (side x w) (highs_laid (side x w) (windowed a w (at p)) (at q))) (at l) (at (put_mid c k l z))
+lent-made x w a c m k p q l z em ek fp fl size is =
     let mid : length (mid_of a m p) ≡ w = length-mid a m p (omega arith) ∙ em in
     let ep : at (mid_of a m p) ≡ windowed a w (at p) = at_mid a m p ∙ ap (λ (i : ℕ). windowed a i (at p)) em in
-    let eq : at (mid_of b n q) ≡ windowed b (count lo (side x w)) (at q) = at_mid b n q ∙ ap (λ (i : ℕ). windowed b i (at q)) en in
     let there = at-put c k l z (size ∙ length-mid c k l (omega arith)) (omega arith) in
     record {
       made = λ j b'.
@@ -192,10 +195,23 @@ part-made x w a b c m n k p q l z em en ek fp fq fl size is =
           ap (λ (f : ℕ → ℤ). f (c + j)) there
           ∙ splice-in c k (at z) (at l) (c + j) (omega arith) (omega arith)
           ∙ ap (at z) t
-          ∙ (rw (mid, ep, eq) at (is j (omega arith)));
+          ∙ (rw (mid, ep) at (is j (omega arith)));
       before = λ j b'. ap (λ (f : ℕ → ℤ). f j) there ∙ splice-below c k (at z) (at l) j b';
       after = λ j b'. ap (λ (f : ℕ → ℤ). f j) there ∙ splice-past c k (at z) (at l) j (omega arith);
     }
+
+-- n numbers at place b of q are lent
+pub lent-low : (x w b n : ℕ) (q : List ℤ) → n ≡ count lo (side x w) → at (mid_of b n q) ≡ windowed b (count lo (side x w)) (at q)
+lent-low x w b n q en = at_mid b n q ∙ ap (λ (i : ℕ). windowed b i (at q)) en
+
+-- where they are the row's low half
+pub part-made : (x w a b c m n k : ℕ) (p q l z : List ℤ) → m ≡ w → n ≡ count lo (side x w) → k ≡ w → a + w ≤ length p → c + w ≤ length l →
+    length z ≡ length (mid_of c k l) →
+    ((j : ℕ) → j < length (mid_of a m p) → at z j ≡ short_unlifted (side x (length (mid_of a m p)))
+    (highs_laid (side x (length (mid_of a m p))) (at (mid_of a m p)) (at (mid_of b n q))) j) →
+    LineMade c w (short_unlifted (side x w) (laid_from (side x w) a b (at p) (at q))) (at l) (at (put_mid c k l z))
+part-made x w a b c m n k p q l z em en ek fp fl size is =
+    rw (lent-low x w b n q en) at (lent-made x w a c m k p (mid_of b n q) l z em ek fp fl size is)
 
 pub one-unlifted : (S : Side) → single_high S ≡ true → (y : ℕ → ℤ) → unlifted_in_place S y 0 ≡ shr_z (y 0) 2
 unfolding unlifted_in_place halves_of
@@ -251,22 +267,19 @@ range-fits k n low high v b el eh =
     let e : k - 1 + 1 ≡ k = omega arith in
     rw (el, eh) (every-same n _ _ (λ i ib. rw e at (between-fits five_three_filter five-three-laws (k - 1) (v i))))
 
--- ---- parts that are lent: their lengths, and tests of their numbers
+-- ---- parts that are lent: their lengths
+pub row-lengths : (x w a c m k : ℕ) (p q l : List ℤ) → m ≡ w → k ≡ w → 0 < w → a + w ≤ length p → length q ≡ count lo (side x w) → c + w ≤ length l →
+    (0 < length (mid_of a m p)) × (length q ≡ count lo (side x (length (mid_of a m p)))) × (length (mid_of c k l) ≡ length (mid_of a m p))
+row-lengths x w a c m k p q l em ek some fp low fl =
+    let mid : length (mid_of a m p) ≡ w = length-mid a m p (omega arith) ∙ em in
+    let line = length-mid c k l (omega arith) ∙ ek in
+    rw (mid, low, line) (some, refl, refl)
+
 pub lent-lengths : (x w a b c m n k : ℕ) (p q l : List ℤ) → m ≡ w → n ≡ count lo (side x w) → k ≡ w → 0 < w → a + w ≤ length p →
     b + count lo (side x w) ≤ length q → c + w ≤ length l →
     (0 < length (mid_of a m p)) × (length (mid_of b n q) ≡ count lo (side x (length (mid_of a m p)))) × (length (mid_of c k l) ≡ length (mid_of a m p))
 lent-lengths x w a b c m n k p q l em en ek some fp fq fl =
-    let mid : length (mid_of a m p) ≡ w = length-mid a m p (omega arith) ∙ em in
-    let low = length-mid b n q (omega arith) ∙ en in
-    let line = length-mid c k l (omega arith) ∙ ek in
-    rw (mid, low, line) (some, refl, refl)
-
-pub lent-test : (t : ℤ → Bool) (a m w : ℕ) (l : List ℤ) → m ≡ w → a + w ≤ length l →
-    every (length (mid_of a m l)) (λ i. t (at (mid_of a m l) i)) ≡ every w (λ j. t (at l (a + j)))
-lent-test t a m w l em fl =
-    let mid : length (mid_of a m l) ≡ w = length-mid a m l (omega arith) ∙ em in
-    rw mid
-    (every-same w _ _ (λ j b. ap t (ap (λ (f : ℕ → ℤ). f j) (at_mid a m l) ∙ window-in a m (at l) j (omega arith))))
+    row-lengths x w a c m k p (mid_of b n q) l em ek some fp (length-mid b n q (omega arith) ∙ en) fl
 
 pub all-heights : (n : ℕ) (v : ℕ → ℤ) → ((j : ℕ) → j < n → IsHeight (v j)) → true ≡ every n (λ j. value_fits five_three_filter 0 (v j))
 all-heights n v e = sym (each-every n _ (λ j b. sym (height-fits five_three_filter five-three-laws (v j)) ∙ e j b))
@@ -274,34 +287,21 @@ all-heights n v e = sym (each-every n _ (λ j b. sym (height-fits five_three_fil
 pub heights-test : (n : ℕ) (v : ℕ → ℤ) → every n (λ j. between (pos 0) (pos max_sample) (v j)) ≡ every n (λ j. value_fits five_three_filter 0 (v j))
 heights-test n v = every-same n _ _ (λ j b. height-fits five_three_filter five-three-laws (v j))
 
--- ---- a line put as a row: w numbers at place `from` of the lines l
-module _ (x w r from m k : ℕ) (l : List ℤ) (em : m ≡ w) (ek : k ≡ w) (fl : from + w ≤ length l) where
+-- ---- a line l of w numbers put as a row
+module _ (x w r k : ℕ) (l : List ℤ) (ek : k ≡ w) (fl : length l ≡ w) where
   abbrev W : Side
   W = side x w
 
-  abbrev v : ℕ → ℤ
-  v j = at l (from + j)
-
-  mid-is : length (mid_of from m l) ≡ w
-  mid-is = length-mid from m l (omega arith) ∙ em
-
-  lent_is : at (mid_of from m l) ≡ windowed from w (at l)
-  lent_is = at_mid from m l ∙ ap (λ (i : ℕ). windowed from i (at l)) em
-
-  joined_is : (c : ℕ) → c < w → joined W (halves_of W (windowed from w (at l))) c ≡ joined W (halves_of W v) c
-  joined_is c b =
-      joined_at W (windowed from w (at l)) c ∙ window-in from w (at l) (placed W c) (placed-in W c b) ∙ sym (joined_at W v c)
-
   -- to the work area q, the part come back being z
   pub numbers-put : (q z : List ℤ) (kl : ℕ) (ok : Bool) (g₀ : ℕ → ℤ) → 0 < kl → r * w + w ≤ length q → length z ≡ length (mid_of (r * w) k q) →
-      at z ≡ pick (leb (length (mid_of from m l)) (length (mid_of (r * w) k q)))
-      (fronted (length (mid_of from m l)) (joined (side x (length (mid_of from m l))) (halves_of (side x (length (mid_of from m l))) (at (mid_of from m l))))
+      at z ≡ pick (leb (length l) (length (mid_of (r * w) k q)))
+      (fronted (length l) (joined (side x (length l)) (halves_of (side x (length l)) (at l)))
       (at (mid_of (r * w) k q))) (at (mid_of (r * w) k q)) →
-      ok ≡ every w (λ j. value_fits five_three_filter kl (v j)) → RowPut five_three_filter ok kl r W v g₀ g₀ (at q) (at (put_mid (r * w) k q z))
+      ok ≡ every w (λ j. value_fits five_three_filter kl (at l j)) → RowPut five_three_filter ok kl r W (at l) g₀ g₀ (at q) (at (put_mid (r * w) k q z))
   numbers-put q z kl ok g₀ some fq size is answer =
       let part : length (mid_of (r * w) k q) ≡ w = length-mid (r * w) k q (omega arith) ∙ ek in
-      let drawn : at z ≡ fronted w (joined W (halves_of W (windowed from w (at l)))) (at (mid_of (r * w) k q)) =
-      rw (mid-is, lent_is) at (did _ _ _ _ (le-leb (length (mid_of from m l)) (length (mid_of (r * w) k q)) (omega (arith, mid-is))) is) in
+      let drawn : at z ≡ fronted w (joined W (halves_of W (at l))) (at (mid_of (r * w) k q)) =
+      rw fl at (did _ _ _ _ (le-leb (length l) (length (mid_of (r * w) k q)) (omega (arith, fl, part))) is) in
       let there = at-put (r * w) k q z (omega arith) (omega arith) in
       record {
         answer = answer;
@@ -312,8 +312,7 @@ module _ (x w r from m k : ℕ) (l : List ℤ) (em : m ≡ w) (ek : k ≡ w) (fl
             ∙ splice-in (r * w) k (at z) (at q) (r * w + c) (omega arith) (omega arith)
             ∙ ap (at z) e
             ∙ ap (λ (f : ℕ → ℤ). f c) drawn
-            ∙ front_at w _ _ c b
-            ∙ joined_is c b);
+            ∙ front_at w _ _ c b);
         before = λ j b. (refl, ap (λ (f : ℕ → ℤ). f j) there ∙ splice-below (r * w) k (at z) (at q) j b);
         past = λ j b. (refl, ap (λ (f : ℕ → ℤ). f j) there ∙ splice-past (r * w) k (at z) (at q) j (omega arith));
         low = λ e. absurd (omega arith);
@@ -324,17 +323,17 @@ module _ (x w r from m k : ℕ) (l : List ℤ) (em : m ≡ w) (ek : k ≡ w) (fl
 
   -- and to the heights
   pub heights-put : (hs z : List ℕ) (ok : Bool) (x₀ : ℕ → ℤ) → r * w + w ≤ length hs → length z ≡ length (mid_of (r * w) k hs) →
-      heights_at z ≡ pick (leb (length (mid_of from m l)) (length (mid_of (r * w) k hs)))
-      (fronted (length (mid_of from m l)) (λ c. height16 (joined (side x (length (mid_of from m l)))
-      (halves_of (side x (length (mid_of from m l))) (at (mid_of from m l))) c)) (heights_at (mid_of (r * w) k hs))) (heights_at (mid_of (r * w) k hs)) →
-      ok ≡ every w (λ j. value_fits five_three_filter 0 (v j)) →
-      RowPut five_three_filter ok 0 r W v (heights_at hs) (heights_at (put_mid (r * w) k hs z)) x₀ x₀
+      heights_at z ≡ pick (leb (length l) (length (mid_of (r * w) k hs)))
+      (fronted (length l) (λ c. height16 (joined (side x (length l))
+      (halves_of (side x (length l)) (at l)) c)) (heights_at (mid_of (r * w) k hs))) (heights_at (mid_of (r * w) k hs)) →
+      ok ≡ every w (λ j. value_fits five_three_filter 0 (at l j)) →
+      RowPut five_three_filter ok 0 r W (at l) (heights_at hs) (heights_at (put_mid (r * w) k hs z)) x₀ x₀
   heights-put hs z ok x₀ fh size is answer =
       let all = length-map hs pos in
       let part : length (mid_of (r * w) k hs) ≡ w =
       sym (length-map (mid_of (r * w) k hs) pos) ∙ ap length (wholes-mid (r * w) k hs) ∙ length-mid (r * w) k (wholes hs) (omega arith) ∙ ek in
-      let drawn : heights_at z ≡ fronted w (λ c. height16 (joined W (halves_of W (windowed from w (at l))) c)) (heights_at (mid_of (r * w) k hs)) =
-      rw (mid-is, lent_is) at (did _ _ _ _ (le-leb (length (mid_of from m l)) (length (mid_of (r * w) k hs)) (omega (arith, mid-is))) is) in
+      let drawn : heights_at z ≡ fronted w (λ c. height16 (joined W (halves_of W (at l)) c)) (heights_at (mid_of (r * w) k hs)) =
+      rw fl at (did _ _ _ _ (le-leb (length l) (length (mid_of (r * w) k hs)) (omega (arith, fl, part))) is) in
       let there : heights_at (put_mid (r * w) k hs z) ≡ spliced (r * w) k (at (wholes z)) (at (wholes hs)) =
       sym (wholes-at (put_mid (r * w) k hs z))
       ∙ ap at (wholes-put (r * w) k hs z)
@@ -344,15 +343,38 @@ module _ (x w r from m k : ℕ) (l : List ℤ) (em : m ≡ w) (ek : k ≡ w) (fl
         answer = answer;
         made = λ t c b.
             let e : r * w + c - r * w ≡ c = omega arith in
-            let fits : every w (λ j. value_fits five_three_filter 0 (windowed from w (at l) j)) ≡ true =
-            every-same w _ _ (λ j jb. ap (value_fits five_three_filter 0) (window-in from w (at l) j jb)) ∙ sym answer ∙ t in
+            let fits : every w (λ j. value_fits five_three_filter 0 (at l j)) ≡ true = sym answer ∙ t in
             ap (λ (f : ℕ → ℤ). f (r * w + c)) there
             ∙ splice-in (r * w) k (at (wholes z)) (at (wholes hs)) (r * w + c) (omega arith) (omega arith)
             ∙ ap (at (wholes z)) e
-            ∙ ap (λ (f : ℕ → ℤ). f c) (wholes-at z ∙ drawn ∙ drawn-heights W (windowed from w (at l)) (heights_at (mid_of (r * w) k hs)) fits)
-            ∙ front_at w _ _ c b
-            ∙ joined_is c b;
+            ∙ ap (λ (f : ℕ → ℤ). f c) (wholes-at z ∙ drawn ∙ drawn-heights W (at l) (heights_at (mid_of (r * w) k hs)) fits)
+            ∙ front_at w _ _ c b;
         before = λ j b. (ap (λ (f : ℕ → ℤ). f j) there ∙ splice-below (r * w) k (at (wholes z)) (at (wholes hs)) j b ∙ old j, refl);
         past = λ j b. (ap (λ (f : ℕ → ℤ). f j) there ∙ splice-past (r * w) k (at (wholes z)) (at (wholes hs)) j (omega arith) ∙ old j, refl);
         low = λ e. refl;
       }
+
+-- w numbers at place `from` of the lines l, lent as m: the part's length, and its numbers
+pub line-lent : (from m w : ℕ) (l : List ℤ) → m ≡ w → from + w ≤ length l →
+    (length (mid_of from m l) ≡ w) × ((j : ℕ) → j < w → at (mid_of from m l) j ≡ at l (from + j))
+line-lent from m w l em fl = (
+  length-mid from m l (omega arith) ∙ em,
+  λ j b. ap (λ (f : ℕ → ℤ). f j) (at_mid from m l) ∙ window-in from m (at l) j (omega arith),
+)
+
+-- the line being that part
+pub row-part : (ok : Bool) (kl r x w from m : ℕ) (l : List ℤ) (g₀ g x₀ y : ℕ → ℤ) → m ≡ w → from + w ≤ length l →
+    RowPut five_three_filter ok kl r (side x w) (at (mid_of from m l)) g₀ g x₀ y → RowPut five_three_filter ok kl r (side x w) (λ j. at l (from + j)) g₀ g x₀ y
+row-part ok kl r x w from m l g₀ g x₀ y em fl P =
+    let there = (line-lent from m w l em fl).1 in
+    record {
+      answer = P.answer ∙ every-same w _ _ (λ j b. ap (value_fits five_three_filter kl) (there j b));
+      made = λ t c b.
+          P.made t c b
+          ∙ joined_at (side x w) (at (mid_of from m l)) c
+          ∙ there (placed (side x w) c) (placed-in (side x w) c b)
+          ∙ sym (joined_at (side x w) (λ j. at l (from + j)) c);
+      before = P.before;
+      past = P.past;
+      low = P.low;
+    }

@@ -143,11 +143,6 @@ module _ (F : Filter) (laws : FilterLaws F) (A : ℕ) (W H : Side) (z₀ z₁ : 
         (λ o. level_out r c o ∙ sym (written_out F (suc L) W H g (cells A z₀) r c o))))
 
 -- ---- back
--- every second row of an area from the first low one on is a row at twice the stride
-pub twice : (s : ℕ) (H : Side) (x : ℕ → ℤ) (r c : ℕ) → cells (2 * s) (λ j. x (H.start % 2 * s + j)) r c ≡ cells s x (place H lo r) c
-unfolding cells place
-twice s H x r c = let k : H.start % 2 * s + (r * (2 * s) + c) ≡ (2 * r + H.start % 2) * s + c = omega arith in rw k
-
 -- the bands that the plane x and the levels left give
 abbrev pub bands_back : Filter → ℕ → Side → Side → Grid → Band → Grid
 bands_back F L W H x = plane_bands W H (map_back F wrap32 L (next W) (next H) x) x

@@ -1,4 +1,5 @@
 pub mod RowwiseLaws
+pub mod RegionLaws
 pub mod HeightLaws
 pub mod GridSweep
 pub mod ColumnPass

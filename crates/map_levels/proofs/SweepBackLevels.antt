@@ -284,3 +284,8 @@ ranged-low k L W H W' H' x more e_w e_h e =
     let all = sym (region-more five_three_filter five-three-laws (k + 1) L W H x (omega arith) more) ∙ e in
     ap₂ (λ (X Y : Side). region_in_range five_three_filter (k + 1 + 1) (L - 1) X Y x) e_w e_h
     ∙ (parts (region_in_range five_three_filter (k + 1 + 1) (L - 1) (next W) (next H) x) _ all).0
+
+-- the same, told of equal numbers
+pub swept_as : (ok : Bool) (k k' L A A' : ℕ) (W H : Side) (z g₀ g x₀ x : ℕ → ℤ) → k ≡ k' → A ≡ A' → SweptBack five_three_filter ok k L A W H z g₀ g x₀ x →
+    SweptBack five_three_filter ok k' L A' W H z g₀ g x₀ x
+swept_as ok k k' L A A' W H z g₀ g x₀ x e f S = rw (← e, ← f) S

@@ -1,3 +1,4 @@
+pub mod Regions
 pub mod Rowwise
 pub mod Passes
 pub mod ByFilter

@@ -3,59 +3,54 @@
 ghost use Rattle.std.specs.Prelude.{◌≡◌, true, ℕ, ◌+◌, ◌*◌, ◌%◌, ◌^◌, ◌<◌, ◌≤◌, ℤ, length};
 ghost use Rattle.numbers.specs.Signal.{at, windowed};
 ghost use Rattle.lifting.specs.Line.{lo};
-ghost use Rattle.lifting.specs.Grid.{side, count};
+ghost use Rattle.lifting.specs.Grid.{count};
 ghost use Rattle.lifting.specs.GridHalves.{highs_laid};
 ghost use Rattle.areas.specs.Areas.{heights_at};
 ghost use Rattle.lifting.specs.FiveThree.{five_three_filter};
 ghost use Rattle.wavelet.specs.Maps.{every, value_fits};
+ghost use Rattle.map_levels.specs.Regions.{columns_of, rows_of};
 ghost use Rattle.map_levels.specs.Rowwise.{cut};
 ghost use Rattle.map_levels.specs.Passes.{Rows};
 ghost use Rattle.map_levels.specs.SweepBack.{short_unlifted, low_place, band_rows, RowPut};
 ghost use Rattle.map_levels.specs.BackLines.{IsHeight, LineMade};
 
+use crate::region::Region;
 use crate::{level_ranges, short_back, small};
 use wavelet::sizes;
 
 // Where the low-low part of a level begins in its work area.
-pub fn low_place(x: usize, width: usize, y: usize, height: usize) -> usize
-    requires { width * height < 2 ^ 63 }
-    ensures { result ≡ low_place (side x width) (side y height) }
+pub fn low_place(region: Region) -> usize
+    requires { region.width * region.height < 2 ^ 63 }
+    ensures { result ≡ low_place (columns_of region) (rows_of region) }
 {
-    width * height - sizes::low_count(x, width) * sizes::low_count(y, height)
+    region.width * region.height
+        - sizes::low_count(region.x, region.width) * sizes::low_count(region.y, region.height)
 }
 
 // The row at place a of the plane lifted back into the line at place `to`.
-fn unlift_whole(plane: &[i32], a: usize, x: usize, width: usize, lines: &mut [i32], to: usize)
-    requires { (0 < width) × (a + width ≤ length plane.now) × (to + width ≤ length lines.old) }
-    ensures { LineMade to width (short_unlifted (side x width) (highs_laid (side x width) (windowed a width (at plane.now))
-        (windowed a (count lo (side x width)) (at plane.now)))) (at lines.old) (at lines.new) }
+fn unlift_whole(plane: &[i32], a: usize, region: Region, lines: &mut [i32], to: usize)
+    requires { (0 < region.width) × (a + region.width ≤ length plane.now) × (to + region.width ≤ length lines.old) }
+    ensures { LineMade to region.width (short_unlifted (columns_of region) (highs_laid (columns_of region)
+        (windowed a region.width (at plane.now)) (windowed a (count lo (columns_of region)) (at plane.now))))
+        (at lines.old) (at lines.new) }
 {
-    let c = a + sizes::low_count(x, width);
-    let e = a + width;
-    let f = to + width;
-    short_back::unlift(&plane[a..c], &plane[a..e], x, &mut lines[to..f]);
+    let c = a + sizes::low_count(region.x, region.width);
+    let e = a + region.width;
+    let f = to + region.width;
+    short_back::unlift(&plane[a..c], &plane[a..e], region.x, &mut lines[to..f]);
 }
 
-// The same of a row whose low half stands at place b of another area. That the lifting has two callers keeps it a function by itself, which takes few numbers;
+// The same of a row whose low half is lent by itself. That the lifting has two callers keeps it a function by itself, which takes few numbers;
 // a narrow row would pay for more.
-fn unlift_part(
-    low: &[i32],
-    b: usize,
-    plane: &[i32],
-    a: usize,
-    x: usize,
-    width: usize,
-    lines: &mut [i32],
-    to: usize,
-)
-    requires { (0 < width) × (b + count lo (side x width) ≤ length low.now) × (a + width ≤ length plane.now) × (to + width ≤ length lines.old) }
-    ensures { LineMade to width (short_unlifted (side x width) (highs_laid (side x width) (windowed a width (at plane.now))
-        (windowed b (count lo (side x width)) (at low.now)))) (at lines.old) (at lines.new) }
+fn unlift_part(low: &[i32], plane: &[i32], a: usize, region: Region, lines: &mut [i32], to: usize)
+    requires { (0 < region.width) × (length low.now ≡ count lo (columns_of region)) × (a + region.width ≤ length plane.now)
+        × (to + region.width ≤ length lines.old) }
+    ensures { LineMade to region.width (short_unlifted (columns_of region) (highs_laid (columns_of region)
+        (windowed a region.width (at plane.now)) (at low.now))) (at lines.old) (at lines.new) }
 {
-    let c = b + sizes::low_count(x, width);
-    let e = a + width;
-    let f = to + width;
-    short_back::unlift(&low[b..c], &plane[a..e], x, &mut lines[to..f]);
+    let e = a + region.width;
+    let f = to + region.width;
+    short_back::unlift(low, &plane[a..e], region.x, &mut lines[to..f]);
 }
 
 // Low row r of a level lifted back along its row into the line at place `to`: its low half is the low-low part's row.
@@ -63,92 +58,61 @@ pub fn fetch_low(
     plane: &[i32],
     work: &[i32],
     lines: &mut [i32],
-    across: usize,
-    x: usize,
-    width: usize,
-    y: usize,
-    height: usize,
+    region: Region,
     r: usize,
     to: usize,
 )
-    requires { Rows (length plane.now) across width height × (width * height ≤ length work.now) × (0 < width) × (r < height)
-        × (to + width ≤ length lines.old) × ((y + r) % 2 ≡ 0) }
-    ensures { LineMade to width (short_unlifted (side x width) (cut width (band_rows across (side x width) (side y height) (at plane.now)
-        (at work.now) r))) (at lines.old) (at lines.new) }
+    requires { Rows (length plane.now) region.across region.width region.height × (region.width * region.height ≤ length work.now)
+        × (0 < region.width) × (r < region.height) × (to + region.width ≤ length lines.old) × ((region.y + r) % 2 ≡ 0) }
+    ensures { LineMade to region.width (short_unlifted (columns_of region) (cut region.width (band_rows region.across
+        (columns_of region) (rows_of region) (at plane.now) (at work.now) r))) (at lines.old) (at lines.new) }
 {
     let n = r / 2;
-    let b = low_place(x, width, y, height) + n * sizes::low_count(x, width);
-    unlift_part(work, b, plane, n * across, x, width, lines, to);
+    let w = sizes::low_count(region.x, region.width);
+    let b = low_place(region) + n * w;
+    let c = b + w;
+    unlift_part(&work[b..c], plane, n * region.across, region, lines, to);
 }
 
 // And high row r, which stands in the plane.
-pub fn fetch_high(
-    plane: &[i32],
-    lines: &mut [i32],
-    across: usize,
-    x: usize,
-    width: usize,
-    y: usize,
-    height: usize,
-    r: usize,
-    to: usize,
-)
-    requires { Rows (length plane.now) across width height × (0 < width) × (r < height) × (to + width ≤ length lines.old) × ((y + r) % 2 ≡ 1) }
-    ensures { (x₀ : ℕ → ℤ) → LineMade to width (short_unlifted (side x width) (cut width (band_rows across (side x width) (side y height)
-        (at plane.now) x₀ r))) (at lines.old) (at lines.new) }
+pub fn fetch_high(plane: &[i32], lines: &mut [i32], region: Region, r: usize, to: usize)
+    requires { Rows (length plane.now) region.across region.width region.height × (0 < region.width) × (r < region.height)
+        × (to + region.width ≤ length lines.old) × ((region.y + r) % 2 ≡ 1) }
+    ensures { (x₀ : ℕ → ℤ) → LineMade to region.width (short_unlifted (columns_of region) (cut region.width (band_rows region.across
+        (columns_of region) (rows_of region) (at plane.now) x₀ r))) (at lines.old) (at lines.new) }
 {
-    let a = (sizes::low_count(y, height) + r / 2) * across;
-    unlift_whole(plane, a, x, width, lines, to);
+    let a = (sizes::low_count(region.y, region.height) + r / 2) * region.across;
+    unlift_whole(plane, a, region, lines, to);
 }
 
 // A row of either kind.
-pub fn fetch(
-    plane: &[i32],
-    work: &[i32],
-    lines: &mut [i32],
-    across: usize,
-    x: usize,
-    width: usize,
-    y: usize,
-    height: usize,
-    r: usize,
-    to: usize,
-)
-    requires { Rows (length plane.now) across width height × (width * height ≤ length work.now) × (0 < width) × (r < height)
-        × (to + width ≤ length lines.old) }
-    ensures { LineMade to width (short_unlifted (side x width) (cut width (band_rows across (side x width) (side y height) (at plane.now)
-        (at work.now) r))) (at lines.old) (at lines.new) }
+pub fn fetch(plane: &[i32], work: &[i32], lines: &mut [i32], region: Region, r: usize, to: usize)
+    requires { Rows (length plane.now) region.across region.width region.height × (region.width * region.height ≤ length work.now)
+        × (0 < region.width) × (r < region.height) × (to + region.width ≤ length lines.old) }
+    ensures { LineMade to region.width (short_unlifted (columns_of region) (cut region.width (band_rows region.across
+        (columns_of region) (rows_of region) (at plane.now) (at work.now) r))) (at lines.old) (at lines.new) }
 {
-    if r % 2 == y % 2 {
-        fetch_low(plane, work, lines, across, x, width, y, height, r, to);
+    if r % 2 == region.y % 2 {
+        fetch_low(plane, work, lines, region, r, to);
         return;
     }
-    fetch_high(plane, lines, across, x, width, y, height, r, to);
+    fetch_high(plane, lines, region, r, to);
 }
 
-// The line at place `from` to row r of the heights; and whether its numbers are heights, which is known where `sure` says so.
-fn put_heights(
-    lines: &[i32],
-    from: usize,
-    heights: &mut [u16],
-    x: usize,
-    width: usize,
-    r: usize,
-    sure: bool,
-) -> bool
-    requires { (from + width ≤ length lines.now) × (r * width + width ≤ length heights.old)
-        × (sure ≡ true → (j : ℕ) → j < width → IsHeight (at lines.now (from + j))) }
-    ensures { (x₀ : ℕ → ℤ) → RowPut five_three_filter result 0 r (side x width) (λ j. at lines.now (from + j)) (heights_at heights.old)
+// A line to row r of the heights; and whether its numbers are heights, which is known where `sure` says so.
+fn put_heights(line: &[i32], heights: &mut [u16], region: Region, r: usize, sure: bool) -> bool
+    requires { (length line.now ≡ region.width) × (r * region.width + region.width ≤ length heights.old)
+        × (sure ≡ true → (j : ℕ) → j < region.width → IsHeight (at line.now j)) }
+    ensures { (x₀ : ℕ → ℤ) → RowPut five_three_filter result 0 r (columns_of region) (at line.now) (heights_at heights.old)
         (heights_at heights.new) x₀ x₀ }
 {
-    let e = from + width;
-    let a = r * width;
-    let f = a + width;
-    areas::height_rows::draw_heights(&lines[from..e], x, &mut heights[a..f]);
+    let a = r * region.width;
+    let f = a + region.width;
+    areas::height_rows::draw_heights(line, region.x, &mut heights[a..f]);
     if sure {
         return true;
     }
-    small::all_heights(&lines[from..e])
+    small::all_heights(line)
 }
 
 // Whether the numbers of a row lie in the range of a level.
@@ -163,46 +127,36 @@ fn all_in_range(row: &[i32], level: usize) -> bool
     areas::ranges::all_between(row, level_ranges::lowest(level, 0), most)
 }
 
-// The same to row r of the work area, and whether its numbers lie in the range of `level`.
-fn put_numbers(
-    lines: &[i32],
-    from: usize,
-    work: &mut [i32],
-    x: usize,
-    width: usize,
-    r: usize,
-    level: usize,
-) -> bool
-    requires { (from + width ≤ length lines.now) × (r * width + width ≤ length work.old) × (0 < level) × (level ≤ five_three_filter.levels) }
-    ensures { (g₀ : ℕ → ℤ) → RowPut five_three_filter result level r (side x width) (λ j. at lines.now (from + j)) g₀ g₀
+// The same to row r of the work area, and whether its numbers lie in the range of the level.
+fn put_numbers(line: &[i32], work: &mut [i32], region: Region, r: usize) -> bool
+    requires { (length line.now ≡ region.width) × (r * region.width + region.width ≤ length work.old) × (0 < region.level)
+        × (region.level ≤ five_three_filter.levels) }
+    ensures { (g₀ : ℕ → ℤ) → RowPut five_three_filter result region.level r (columns_of region) (at line.now) g₀ g₀
         (at work.old) (at work.new) }
 {
-    let e = from + width;
-    let a = r * width;
-    let f = a + width;
-    areas::lines::interleave_line(&lines[from..e], x, &mut work[a..f]);
-    all_in_range(&lines[from..e], level)
+    let a = r * region.width;
+    let f = a + region.width;
+    areas::lines::interleave_line(line, region.x, &mut work[a..f]);
+    all_in_range(line, region.level)
 }
 
-// The line at place `from` to row r of a level: of the map, level 0, to the heights, else to the work area.
+// A line to row r of a level: of the map to the heights, else to the work area. The line is lent as a part: its place and length would be two numbers more.
 pub fn put(
-    lines: &[i32],
-    from: usize,
+    line: &[i32],
     heights: &mut [u16],
     work: &mut [i32],
-    x: usize,
-    width: usize,
+    region: Region,
     r: usize,
-    level: usize,
     sure: bool,
 ) -> bool
-    requires { (from + width ≤ length lines.now) × (level ≡ 0 → r * width + width ≤ length heights.old) × (r * width + width ≤ length work.old)
-        × (level ≤ five_three_filter.levels) × (sure ≡ true → (j : ℕ) → j < width → IsHeight (at lines.now (from + j))) }
-    ensures { RowPut five_three_filter result level r (side x width) (λ j. at lines.now (from + j)) (heights_at heights.old)
+    requires { (length line.now ≡ region.width) × (region.level ≡ 0 → r * region.width + region.width ≤ length heights.old)
+        × (r * region.width + region.width ≤ length work.old) × (region.level ≤ five_three_filter.levels)
+        × (sure ≡ true → (j : ℕ) → j < region.width → IsHeight (at line.now j)) }
+    ensures { RowPut five_three_filter result region.level r (columns_of region) (at line.now) (heights_at heights.old)
         (heights_at heights.new) (at work.old) (at work.new) }
 {
-    if level == 0 {
-        return put_heights(lines, from, heights, x, width, r, sure);
+    if region.level == 0 {
+        return put_heights(line, heights, region, r, sure);
     }
-    put_numbers(lines, from, work, x, width, r, level)
+    put_numbers(line, work, region, r)
 }

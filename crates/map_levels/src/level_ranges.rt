@@ -5,13 +5,14 @@ ghost use Rattle.lifting.specs.Grid.{side};
 ghost use Rattle.wavelet.specs.Limits.{range};
 ghost use Rattle.wavelet.specs.Plane.{cells};
 ghost use Rattle.wavelet.specs.Questions.{Sized};
+ghost use Rattle.map_levels.specs.Regions.{columns_of, rows_of};
 ghost use Rattle.map_levels.specs.Passes.{Rows};
 ghost use Rattle.filters.specs.Filters.{filter_of};
 ghost use Rattle.map_levels.specs.LevelPasses.{rows_between};
 ghost use Rattle.map_levels.specs.LevelPasses.{region_in_range};
 
-use crate::{levels, small};
-use wavelet::sizes;
+use crate::region::Region;
+use crate::{levels, region, small};
 
 // The least number of a level's range.
 pub fn lowest(level: usize, filter: usize) -> i32
@@ -21,21 +22,24 @@ pub fn lowest(level: usize, filter: usize) -> i32
     0 - filters::range_of(filter, level)
 }
 
-// Whether the numbers of some rows lie from `low` to `high`: rows `first` up to `last`, columns `from` up to `to`.
-fn rows_between(
-    area: &[i32],
-    stride: usize,
+// Rows `first` up to `last` of an area, and columns `from` up to `to` of them.
+#[derive(Clone, Copy)]
+struct Patch {
     first: usize,
     last: usize,
     from: usize,
     to: usize,
-    low: i32,
-    high: i32,
-) -> bool
-    requires { Rows (length area.now) stride to last × (first ≤ last) × (from ≤ to) }
-    ensures { result ≡ rows_between first last from to low high (cells stride (at area.now)) }
+}
+
+// Whether the numbers of a patch lie from `low` to `high`.
+fn rows_between(area: &[i32], stride: usize, patch: Patch, low: i32, high: i32) -> bool
+    requires { Rows (length area.now) stride patch.to patch.last × (patch.first ≤ patch.last) × (patch.from ≤ patch.to) }
+    ensures { result ≡ rows_between patch.first patch.last patch.from patch.to low high (cells stride (at area.now)) }
 {
-    let mut r = first;
+    let last = patch.last;
+    let from = patch.from;
+    let to = patch.to;
+    let mut r = patch.first;
     while r < last {
         let a = r * stride + from;
         let e = r * stride + to;
@@ -47,63 +51,59 @@ fn rows_between(
     true
 }
 
-// Whether the numbers of some rows lie in a level's range.
-fn rows_in_range(
-    plane: &[i32],
-    across: usize,
-    first: usize,
-    last: usize,
-    from: usize,
-    to: usize,
-    level: usize,
-    filter: usize,
-) -> bool
-    requires { Rows (length plane.now) across to last × (first ≤ last) × (from ≤ to) × (level ≤ (filter_of filter).levels) }
-    ensures { result ≡ rows_between first last from to (neg_ℤ (pos (range (filter_of filter) level))) (pos (range (filter_of filter) level))
-        (cells across (at plane.now)) }
+// Whether the numbers of a patch of the plane lie in a level's range.
+fn rows_in_range(plane: &[i32], across: usize, patch: Patch, level: usize, filter: usize) -> bool
+    requires { Rows (length plane.now) across patch.to patch.last × (patch.first ≤ patch.last) × (patch.from ≤ patch.to)
+        × (level ≤ (filter_of filter).levels) }
+    ensures { result ≡ rows_between patch.first patch.last patch.from patch.to (neg_ℤ (pos (range (filter_of filter) level)))
+        (pos (range (filter_of filter) level)) (cells across (at plane.now)) }
 {
     rows_between(
         plane,
         across,
-        first,
-        last,
-        from,
-        to,
+        patch,
         lowest(level, filter),
         filters::range_of(filter, level),
     )
 }
 
-// Whether each coefficient of the plane lies in its level's range, `level` being that of this region's own bands.
-fn in_range(
-    plane: &[i32],
-    across: usize,
-    x: usize,
-    width: usize,
-    y: usize,
-    height: usize,
-    levels: usize,
-    level: usize,
-    filter: usize,
-) -> bool
-    requires { Rows (length plane.now) across width height × (0 < levels) × (0 < level)
-        × (level + levels ≤ (filter_of filter).levels + 1) }
-    ensures { result ≡ region_in_range (filter_of filter) level levels (side x width) (side y height) (cells across (at plane.now)) }
+// Whether each coefficient of a region of the plane lies in its level's range.
+fn in_range(plane: &[i32], region: Region, levels: usize, filter: usize) -> bool
+    requires { Rows (length plane.now) region.across region.width region.height × (0 < levels)
+        × (region.level + levels ≤ (filter_of filter).levels) }
+    ensures { result ≡ region_in_range (filter_of filter) (region.level + 1) levels (columns_of region) (rows_of region)
+        (cells region.across (at plane.now)) }
 {
-    let w = sizes::low_count(x, width);
-    let h = sizes::low_count(y, height);
-    if !levels::has_next(levels, w, h) {
-        return rows_in_range(plane, across, 0, height, 0, width, level, filter);
+    let level = region.level + 1;
+    let next = region::next(region);
+    if !levels::has_next(levels, next.width, next.height) {
+        let all = Patch {
+            first: 0,
+            last: region.height,
+            from: 0,
+            to: region.width,
+        };
+        return rows_in_range(plane, region.across, all, level, filter);
     }
-    let u = sizes::next_start(x);
-    let v = sizes::next_start(y);
-    if !in_range(plane, across, u, w, v, h, levels - 1, level + 1, filter) {
+    if !in_range(plane, next, levels - 1, filter) {
         return false;
     }
-    if !rows_in_range(plane, across, 0, h, w, width, level, filter) {
+    let right = Patch {
+        first: 0,
+        last: next.height,
+        from: next.width,
+        to: region.width,
+    };
+    if !rows_in_range(plane, region.across, right, level, filter) {
         return false;
     }
-    rows_in_range(plane, across, h, height, 0, width, level, filter)
+    let below = Patch {
+        first: next.height,
+        last: region.height,
+        from: 0,
+        to: region.width,
+    };
+    rows_in_range(plane, region.across, below, level, filter)
 }
 
 // Whether the first n numbers of a plane surely lie in the range of level 1.
@@ -132,5 +132,13 @@ pub fn plane_in_range(
     if surely_least(plane, n, filter) {
         return true;
     }
-    in_range(plane, width, x, width, y, height, levels, 1, filter)
+    let map = Region {
+        level: 0,
+        across: width,
+        x: x,
+        width: width,
+        y: y,
+        height: height,
+    };
+    in_range(plane, map, levels, filter)
 }

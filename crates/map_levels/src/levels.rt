@@ -56,7 +56,7 @@ pub fn halve_part(from: &[i32], a: usize, to: &mut [i32], b: usize, x: usize, n:
 {
     let e = a + n;
     let f = b + n;
-    areas::lines::part_line(&from[a..e], x, &mut to[b..f]);
+    areas::lines::deinterleave_line(&from[a..e], x, &mut to[b..f]);
 }
 
 // A grid from the plane's corner to the work area, its rows one after the other.

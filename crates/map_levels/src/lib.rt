@@ -10,6 +10,7 @@ mod levels_back;
 mod lines;
 mod nine_seven_levels;
 mod passes;
+mod region;
 mod rowwise;
 mod short;
 mod short_back;
@@ -30,6 +31,8 @@ ghost use Rattle.lifting.specs.FiveThree.{five_three_filter};
 ghost use Rattle.nine_seven.specs.NineSevenFilter.{nine_seven_filter};
 ghost use Rattle.map_levels.specs.Passes.{KeptFrom};
 ghost use Rattle.map_levels.specs.LevelPasses.{plane_written, region_in_range, MapRebuilt};
+
+use region::Region;
 
 // The map's plane by the 9/7: its rows are loaded into the plane and lifted there.
 fn lift_in_place(
@@ -158,9 +161,15 @@ fn rebuild_swept(
         (heights_at heights.new) (at work.old) (at work.new) }
 {
     let mut lines = [0; 5 * back_lines::LINE];
-    if !levels_back::sweep_back(
-        plane, heights, work, &mut lines, width, x, width, y, height, levels, 0,
-    ) {
+    let map = Region {
+        level: 0,
+        across: width,
+        x: x,
+        width: width,
+        y: y,
+        height: height,
+    };
+    if !levels_back::sweep_back(plane, heights, work, &mut lines, map, levels) {
         return false;
     }
     areas::copies::clear(work, width * height);

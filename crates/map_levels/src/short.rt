@@ -1,7 +1,7 @@
 // The lifting of a line with each sum stored in 32 bits, so that its loops stay in 32-bit lanes: as the line calls of crate `lifting` where no sum is too
 // large, and none of a map is. The module is private, as `rowwise` is.
-ghost use Rattle.std.specs.Prelude.{◌≡◌, ◌+◌, ◌-◌, ◌*◌, ◌<◌, ◌≤◌, length, set};
-ghost use Rattle.numbers.specs.Signal.{at, windowed, spliced};
+ghost use Rattle.std.specs.Prelude.{◌≡◌, ◌+◌, ◌-◌, ◌<◌, ◌≤◌, length, set};
+ghost use Rattle.numbers.specs.Signal.{at};
 ghost use Rattle.lifting.specs.Grid.{side};
 ghost use Rattle.lifting.specs.Passes.{near, highs_changed, lows_changed};
 ghost use Rattle.map_levels.specs.Sweep.{short_predicted, short_updated, short_lifted};
@@ -98,7 +98,9 @@ fn update_lows(line: &mut [i32], low: usize, o: usize)
     }
 }
 
-fn lift(line: &mut [i32], start: usize)
+// A line in halves lifted in place. That it is called in two places keeps it a function by itself; inlined, it would take the copies before
+// it along, which the compiler makes calls of the C library only where it sees that the lines are a local array.
+pub fn lift(line: &mut [i32], start: usize)
     ensures { at line.new ≡ short_lifted (side start (length line.old)) (at line.old) }
 {
     let n = line.len();
@@ -110,16 +112,4 @@ fn lift(line: &mut [i32], start: usize)
     let low = sizes::low_count(start, n);
     predict_highs(line, low, 1 - b);
     update_lows(line, low, b);
-}
-
-// Row r of an area, in halves, lifted in place. That it is called in two places keeps it a function by itself; inlined, it would take the
-// copies before it along, which the compiler makes calls of the C library only where it sees that the lines are a local array.
-pub fn lift_row(area: &mut [i32], stride: usize, x: usize, width: usize, r: usize)
-    requires { (width ≤ stride) × (r * stride + width ≤ length area.old) }
-    ensures { at area.new ≡
-        spliced (r * stride) width (short_lifted (side x width) (windowed (r * stride) width (at area.old))) (at area.old) }
-{
-    let a = r * stride;
-    let e = a + width;
-    lift(&mut area[a..e], x);
 }

@@ -94,7 +94,9 @@ fn put_high(
     }
     let r = low + n;
     lines::lay_line(lines, 0, plane, across, r, x, width);
-    short::lift_row(plane, across, x, width, r);
+    let a = r * across;
+    let e = a + width;
+    short::lift(&mut plane[a..e], x);
 }
 
 // Low row n: its columns, its row of the plane, its low-low numbers, and the high row after it.
@@ -122,7 +124,9 @@ fn lift_set(
     let b = y % 2;
     set_columns(heights, work, first, width, height, 2 * n + b, lines);
     lines::lay_line(lines, 2 * lines::HALF, plane, across, n, x, width);
-    short::lift_row(plane, across, x, width, n);
+    let a = n * across;
+    let e = a + width;
+    short::lift(&mut plane[a..e], x);
     let w = sizes::low_count(x, width);
     levels::copy_part(plane, n * across, work, n * w, w);
     put_high(lines, plane, across, x, width, y, height, n + b);

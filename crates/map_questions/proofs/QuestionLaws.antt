@@ -181,9 +181,9 @@ module _ (f W H L : ℕ) where
     unfolding size_questions shape_questions roomy
     asked-no x h = on (within 1 max_width W) (within 1 max_height H) (is_filter f) (within 1 (filter_of f).levels L) (roomy W H a b c) x h
 
-    pub never-fourteen : sizes 0 ≡ 14 → ⊥
+    pub never_fourteen : sizes 0 ≡ 14 → ⊥
     unfolding size_questions shape_questions roomy
-    never-fourteen h = never (within 1 max_width W) (within 1 max_height H) (is_filter f) (within 1 (filter_of f).levels L) (roomy W H a b c) h
+    never_fourteen h = never (within 1 max_width W) (within 1 max_height H) (is_filter f) (within 1 (filter_of f).levels L) (roomy W H a b c) h
 
 -- ---- the areas by the answer
 module _ (n : ℕ) (y x : ℕ → ℤ) where

@@ -14,7 +14,7 @@ use Rattle.numbers.specs.Signal.{pick}
 use Rattle.text.specs.Moves.{Went, Stops, full, idle}
 use Rattle.text.proofs.TextLaws.{wrote_none, wrote-size}
 use Rattle.text.proofs.MoveLaws.{one, went-not, went_on, stops-in}
-use Rattle.picture.specs.Machine.{Kept, kept, settled, Move, busy_on, Reads, Writes, quiet, Onward, on, off}
+use Rattle.picture.specs.Machine.{Kept, kept, part_ended, Move, busy_on, Reads, Writes, quiet, Onward, on, off}
 use Rattle.picture.specs.declared.rewriting.Rewriting.{Rewriting}
 
 -- ---- one call
@@ -44,9 +44,9 @@ quiet-most s = go (eqb (busy_on s) 0)
 pub reads_on : (s s' : Kept) (p o : List ℕ) (a a' b : ℕ) → Reads s p a a' s' → Onward s s' p a a' o b b true
 reads_on s s' p o a a' b r = on (omega (arith, quiet-most s, r.some))
 
-quiet-settled : (r : Rewriting) (z : List ℕ) → quiet (kept (settled r) z) ≡ 1
-unfolding settled
-quiet-settled r z = refl
+quiet-part-ended : (r : Rewriting) (z : List ℕ) → quiet (kept (part_ended r) z) ≡ 1
+unfolding part_ended
+quiet-part-ended r z = refl
 
 pub write-on : {r r' : Rewriting} {z p o o' : List ℕ} {a b b' : ℕ} → (r.part.kind ≡ 0 → ⊥) → b < length o → Writes r z o o' b b' r'
     → Onward (kept r z) (kept r' z) p a a o b b' true
@@ -55,7 +55,7 @@ write-on {r} {r'} {z} {o = o} {a = a} {b = b} {b' = b'} d h w = on (go (quiet (k
     go : (q : ℕ) → q ≡ 0 → 2 * a + b + q < 2 * a + b' + quiet (kept r' z)
     go q e =
         elim (dec_lt b' (length o)) [
-          | yes k ↦ omega (arith, w.wrote.place, ap (λ q. quiet (kept q z)) (w.end k) ∙ quiet-settled r z)
+          | yes k ↦ omega (arith, w.wrote.place, ap (λ q. quiet (kept q z)) (w.end k) ∙ quiet-part-ended r z)
           | no k ↦ omega (arith, w.wrote.place, w.wrote.room)
         ]
 

@@ -10,7 +10,7 @@ use lib.Seq.{drop-drop}
 use borrow.Author.Tests.{eq-eqb, ne_eqb, lt-ltb, le-ltb, le-leb, lt-leb}
 use Rattle.numbers.specs.Signal.{pick}
 use Rattle.pgm.specs.InputSteps.{phased, read_byte, input_ended}
-use Rattle.picture.specs.Machine.{part_of, no_part, part_text, rewriting, moved, text_on, left_on, settled, done_on, row_part, begun_on, height_kept}
+use Rattle.picture.specs.Machine.{part_of, no_part, part_text, rewriting, moved, text_on, left_on, part_ended, done_on, row_part, begun_on, height_kept}
 use Rattle.picture.specs.Machine.{Kept, step_to, byte_read, owed, end_to, end_of, Move, partly, wholly, reads}
 use Rattle.text.specs.Moves.{Goes, stays, then}
 use Rattle.pgm.specs.declared.input.Input.{Input}
@@ -22,9 +22,9 @@ use Rattle.picture.specs.declared.parts.Part.{Part}
 use Rattle.picture.specs.declared.rewriting.Rewriting.{Rewriting}
 
 -- ---- the code's choices
-pub settles : (r : Rewriting) (f : ℕ) (p : Part) → f ≡ pick (eqb r.part.kind 2) 0 r.filled → p ≡ no_part → moved r r.input f p ≡ settled r
-unfolding settled
-settles r f p e g = rw (e, g)
+pub part-ends : (r : Rewriting) (f : ℕ) (p : Part) → f ≡ pick (eqb r.part.kind 2) 0 r.filled → p ≡ no_part → moved r r.input f p ≡ part_ended r
+unfolding part_ended
+part-ends r f p e g = rw (e, g)
 
 module _ (r : Rewriting) (i : Input) (W H room : ℕ) where
   pub begun-short : (j : Input) (p : Part) → room < W → j ≡ phased 4 i → p ≡ part_of 3 5 → moved r j r.filled p ≡ begun_on r i W H room
@@ -83,24 +83,24 @@ left-none r z e =
     rw (ne_eqb r.part.kind 1 (λ d. omega arith), ne_eqb r.part.kind 2 (λ d. omega arith), ne_eqb r.part.kind 3 (λ d. omega arith))
     (drop-none r.part.done)
 
-settled-twice : (r : Rewriting) → settled (settled r) ≡ settled r
-unfolding settled
-settled-twice r = refl
+part-ended-twice : (r : Rewriting) → part_ended (part_ended r) ≡ part_ended r
+unfolding part_ended
+part-ended-twice r = refl
 
-settled-none : (r : Rewriting) (z : List ℕ) → left_on (settled r) z ≡ []
-settled-none r z = left-none (settled r) z (unfold settled in refl)
+part-ended-none : (r : Rewriting) (z : List ℕ) → left_on (part_ended r) z ≡ []
+part-ended-none r z = left-none (part_ended r) z (unfold part_ended in refl)
 
 -- the part is written to its end
-pub settle-owed : (e : Bool) (r : Rewriting) (z v : List ℕ) → owed e r z v ≡ left_on r z ++ owed e (settled r) z v
+pub end-part-owed : (e : Bool) (r : Rewriting) (z v : List ℕ) → owed e r z v ≡ left_on r z ++ owed e (part_ended r) z v
 unfolding owed
-settle-owed e r z [] =
+end-part-owed e r z [] =
     ap (λ l. left_on r z ++ l)
-    (sym (ap (λ l. l ++ pick e (left_on (end_of (settled (settled r))) z) []) (settled-none r z)
-    ∙ ap (λ s. pick e (left_on (end_of s) z) []) (settled-twice r)))
-settle-owed e r z (b ∷ v) =
+    (sym (ap (λ l. l ++ pick e (left_on (end_of (part_ended (part_ended r))) z) []) (part-ended-none r z)
+    ∙ ap (λ s. pick e (left_on (end_of s) z) []) (part-ended-twice r)))
+end-part-owed e r z (b ∷ v) =
     ap (λ l. left_on r z ++ l)
-    (sym (ap (λ l. l ++ owed e (byte_read (settled (settled r)) z b).state (byte_read (settled (settled r)) z b).row v) (settled-none r z)
-    ∙ ap (λ s. owed e (byte_read s z b).state (byte_read s z b).row v) (settled-twice r)))
+    (sym (ap (λ l. l ++ owed e (byte_read (part_ended (part_ended r)) z b).state (byte_read (part_ended (part_ended r)) z b).row v) (part-ended-none r z)
+    ∙ ap (λ s. owed e (byte_read s z b).state (byte_read s z b).row v) (part-ended-twice r)))
 
 -- n bytes of it are
 left-done : (r : Rewriting) (z : List ℕ) (n : ℕ) → left_on r z ≡ take n (left_on r z) ++ left_on (done_on (r.part.done + n) r) z
@@ -109,22 +109,22 @@ left-done r z n =
     sym (take-append-drop n (drop r.part.done (text_on r z)))
     ∙ ap (λ l. take n (drop r.part.done (text_on r z)) ++ l) (drop-drop n r.part.done (text_on r z))
 
-settled-done : (r : Rewriting) (d : ℕ) → settled (done_on d r) ≡ settled r
-unfolding settled
-settled-done r d = refl
+part-ended-done : (r : Rewriting) (d : ℕ) → part_ended (done_on d r) ≡ part_ended r
+unfolding part_ended
+part-ended-done r d = refl
 
 pub write-owed : (e : Bool) (r : Rewriting) (z : List ℕ) (n : ℕ) (v : List ℕ)
     → owed e r z v ≡ take n (left_on r z) ++ owed e (done_on (r.part.done + n) r) z v
 write-owed e r z n v =
     let q : Rewriting = done_on (r.part.done + n) r in
-    settle-owed e r z v
-    ∙ ap (λ l. l ++ owed e (settled r) z v) (left-done r z n)
-    ∙ append_assoc (take n (left_on r z)) (left_on q z) (owed e (settled r) z v)
-    ∙ ap (λ l. take n (left_on r z) ++ l) (ap (λ s. left_on q z ++ owed e s z v) (sym (settled-done r (r.part.done + n))) ∙ sym (settle-owed e q z v))
+    end-part-owed e r z v
+    ∙ ap (λ l. l ++ owed e (part_ended r) z v) (left-done r z n)
+    ∙ append_assoc (take n (left_on r z)) (left_on q z) (owed e (part_ended r) z v)
+    ∙ ap (λ l. take n (left_on r z) ++ l) (ap (λ s. left_on q z ++ owed e s z v) (sym (part-ended-done r (r.part.done + n))) ∙ sym (end-part-owed e q z v))
 
-end-settled : (r : Rewriting) → r.part.kind ≡ 0 → end_of (settled r) ≡ end_of r
-unfolding end_of settled
-end-settled r k = rw (eq-eqb r.part.kind 0 k, ne_eqb r.part.kind 2 (λ d. omega arith)) (same (input_ended r.input))
+end-part-ended : (r : Rewriting) → r.part.kind ≡ 0 → end_of (part_ended r) ≡ end_of r
+unfolding end_of part_ended
+end-part-ended r k = rw (eq-eqb r.part.kind 0 k, ne_eqb r.part.kind 2 (λ d. omega arith)) (same (input_ended r.input))
   where
     same : (y : EndedAnswer) → end_to (moved r r.input r.filled no_part) y ≡ end_to r y
     same (ended.Whole i) = refl
@@ -132,9 +132,9 @@ end-settled r k = rw (eq-eqb r.part.kind 0 k, ne_eqb r.part.kind 2 (λ d. omega 
     same ended.Before = refl
 
 -- a byte is read
-read-settled : (r : Rewriting) (z : List ℕ) (b : ℕ) → r.part.kind ≡ 0 → byte_read (settled r) z b ≡ byte_read r z b
-unfolding byte_read settled begun_on height_kept
-read-settled r z b e = rw (ne_eqb r.part.kind 2 (λ d. omega arith)) (same (read_byte 0 r.input b))
+read-part-ended : (r : Rewriting) (z : List ℕ) (b : ℕ) → r.part.kind ≡ 0 → byte_read (part_ended r) z b ≡ byte_read r z b
+unfolding byte_read part_ended begun_on height_kept
+read-part-ended r z b e = rw (ne_eqb r.part.kind 2 (λ d. omega arith)) (same (read_byte 0 r.input b))
   where
     same : (y : StepAnswer) → step_to (moved r r.input r.filled no_part) z y ≡ step_to r z y
     same (steps.More i) = refl
@@ -146,15 +146,15 @@ pub read-owed : (e : Bool) (r : Rewriting) (z : List ℕ) (b : ℕ) (v : List �
     → owed e r z (b ∷ v) ≡ owed e (byte_read r z b).state (byte_read r z b).row v
 unfolding owed
 read-owed e r z b v k =
-    ap (λ l. l ++ owed e (byte_read (settled r) z b).state (byte_read (settled r) z b).row v) (left-none r z k)
-    ∙ ap (λ k. owed e k.state k.row v) (read-settled r z b k)
+    ap (λ l. l ++ owed e (byte_read (part_ended r) z b).state (byte_read (part_ended r) z b).row v) (left-none r z k)
+    ∙ ap (λ k. owed e k.state k.row v) (read-part-ended r z b k)
 
 -- the input ends while nothing is being written: what is owed is what its end brings
 pub end-owed : (r : Rewriting) (z : List ℕ) → r.part.kind ≡ 0 → owed true r z [] ≡ owed false (end_of r) z []
 unfolding owed
 end-owed r z k =
-    ap (λ l. l ++ left_on (end_of (settled r)) z) (left-none r z k)
-    ∙ ap (λ s. left_on s z) (end-settled r k)
+    ap (λ l. l ++ left_on (end_of (part_ended r)) z) (left-none r z k)
+    ∙ ap (λ s. left_on s z) (end-part-ended r k)
     ∙ sym (append-nil (left_on (end_of r) z))
 
 -- and where nothing is being written, nothing is owed
@@ -166,7 +166,7 @@ idle-owed r z k = append-nil (left_on r z) ∙ left-none r z k
 move-owed : {s s' : Kept} {u t : List ℕ} → Move s u t s' → (e : Bool) (v : List ℕ)
     → owed e s.state s.row (u ++ v) ≡ t ++ owed e s'.state s'.row v
 move-owed {s} (partly m h g eu et es) e v = rw (eu, et, es) (write-owed e s.state s.row m v)
-move-owed {s} (wholly h eu et es) e v = rw (eu, et, es) (settle-owed e s.state s.row v)
+move-owed {s} (wholly h eu et es) e v = rw (eu, et, es) (end-part-owed e s.state s.row v)
 move-owed {s} (reads b h eu et es) e v = rw (eu, et, es) (read-owed e s.state s.row b v h)
 
 pub goes-owed : {s s' : Kept} {u t : List ℕ} → Goes Move s u t s' → (e : Bool) (v : List ℕ)

@@ -13,7 +13,7 @@ use Rattle.text.specs.Text.{Wrote}
 use Rattle.picture.specs.Form.{form_head, row_bytes}
 use Rattle.text.specs.Refusal.{refused_line}
 use Rattle.text.proofs.MoveLaws.{one}
-use Rattle.picture.specs.Machine.{kept, part_text, text_on, left_on, settled, done_on, partly, wholly, Writes}
+use Rattle.picture.specs.Machine.{kept, part_text, text_on, left_on, part_ended, done_on, partly, wholly, Writes}
 use Rattle.picture.specs.declared.rewriting.Rewriting.{Rewriting}
 
 -- ---- which text it is
@@ -82,8 +82,8 @@ module _ (r : Rewriting) (z o part : List ℕ) (a n : ℕ) (h : a ≤ length o) 
   unfolding left_on
   wrote = written_in o part a n (drop r.part.done (text_on r z)) h some fits ep
 
-  pub settle-writes : (r' : Rewriting) → 0 < r.part.kind → r' ≡ settled r → n < length o - a → Writes r z o (take a o ++ part) a (a + n) r'
-  settle-writes r' y e g =
+  pub end-part-writes : (r' : Rewriting) → 0 < r.part.kind → r' ≡ part_ended r → n < length o - a → Writes r z o (take a o ++ part) a (a + n) r'
+  end-part-writes r' y e g =
       let all : n ≡ length (left_on r z) = omega (arith, size, length-drop a o) in
       record {
         text = take n (left_on r z);
@@ -131,8 +131,8 @@ module _ (r : Rewriting) (z o part : List ℕ) (a k n : ℕ) (h : a ≤ length o
   ep' : part ≡ paste (drop a o) 0 (drop r.part.done (text_on r z)) n
   ep' = ep ∙ ap (λ l. paste l 0 (drop r.part.done (text_on r z)) n) (mid-length o a k ek)
 
-  pub settle-put : (r' : Rewriting) → 0 < r.part.kind → r' ≡ settled r → n < length o - a → Writes r z o (put_mid a k o part) a (a + n) r'
-  settle-put r' y e g = subst (λ l. Writes r z o l a (a + n) r') (sym (put_back o part a k ek h)) (settle-writes r z o part a n h en' ep' r' y e g)
+  pub end-part-put : (r' : Rewriting) → 0 < r.part.kind → r' ≡ part_ended r → n < length o - a → Writes r z o (put_mid a k o part) a (a + n) r'
+  end-part-put r' y e g = subst (λ l. Writes r z o l a (a + n) r') (sym (put_back o part a k ek h)) (end-part-writes r z o part a n h en' ep' r' y e g)
 
   pub part-put : (r' : Rewriting) → 0 < r.part.kind → r' ≡ done_on (r.part.done + n) r → length o - a ≤ n
       → Writes r z o (put_mid a k o part) a (a + n) r'

@@ -34,7 +34,7 @@ use Rattle.picture.specs.Form.{form_head, row_bytes}
 use Rattle.text.specs.Refusal.{refused_line, answer_line}
 use Rattle.picture.specs.Rewriting.{size_end, picture_of, cells, heights_in, whole_rows, rows_of, body_of, rewriting_of, body_due, due_of}
 use Rattle.pgm.specs.InputSteps.{phased, refuse15, shape_read, next_read, read_byte, input_ended}
-use Rattle.picture.specs.Machine.{part_of, no_part, part_text, rewriting, started, left_on, settled, row_part, height_kept}
+use Rattle.picture.specs.Machine.{part_of, no_part, part_text, rewriting, started, left_on, part_ended, row_part, height_kept}
 use Rattle.text.specs.Moves.{Goes, Session}
 use Rattle.text.proofs.MoveLaws.{session-goes}
 use Rattle.picture.specs.Machine.{Kept, kept, step_to, byte_read, end_to, end_of, owed, Move, busy_on, end_kept}
@@ -48,7 +48,7 @@ use Rattle.picture.specs.declared.rewriting.Rewriting.{Rewriting}
 use Rattle.pgm.proofs.InputCases.{header-case, height-none, phase-2, phase-3, phase-on, end-early, end-over, end-few, end_whole}
 use Rattle.pgm.proofs.InputReads.{at, first_byte, Lasts, second-byte, single-byte}
 use Rattle.picture.proofs.MachineLaws.{begun-room, kept-some, row-whole, row-begun}
-use Rattle.picture.proofs.MachineLaws.{left-none, settle-owed, read-owed, ends_as, end-owed, idle-owed, goes-owed}
+use Rattle.picture.proofs.MachineLaws.{left-none, end-part-owed, read-owed, ends_as, end-owed, idle-owed, goes-owed}
 
 abbrev idle : Input → ℕ → ℕ → ℕ → Rewriting
 idle i W H f = rewriting i W H f no_part
@@ -80,14 +80,14 @@ refused-left : (i : Input) (W H f q : ℕ) (z : List ℕ) → left_on (rewriting
 unfolding left_on part_text
 refused-left i W H f q z = refl
 
-refused-settled : (i : Input) (W H f q : ℕ) → settled (rewriting i W H f (part_of 3 q)) ≡ idle i W H f
-unfolding settled
-refused-settled i W H f q = refl
+refused-part-ended : (i : Input) (W H f q : ℕ) → part_ended (rewriting i W H f (part_of 3 q)) ≡ idle i W H f
+unfolding part_ended
+refused-part-ended i W H f q = refl
 
 refused : (e : Bool) (i : Input) (W H f q : ℕ) (z u : List ℕ) → 3 < i.phase → owed e (rewriting i W H f (part_of 3 q)) z u ≡ refused_line q
 refused e i W H f q z u h =
-    settle-owed e (rewriting i W H f (part_of 3 q)) z u
-    ∙ ap₂ ◌++◌ (refused-left i W H f q z) (ap (λ r. owed e r z u) (refused-settled i W H f q) ∙ after-refusal e i W H f z u h)
+    end-part-owed e (rewriting i W H f (part_of 3 q)) z u
+    ∙ ap₂ ◌++◌ (refused-left i W H f q z) (ap (λ r. owed e r z u) (refused-part-ended i W H f q) ∙ after-refusal e i W H f z u h)
     ∙ append-nil (refused_line q)
 
 -- ---- whole rows
@@ -191,9 +191,9 @@ row-left : (i : Input) (W H f : ℕ) (z : List ℕ) → left_on (rewriting i W H
 unfolding left_on part_text
 row-left i W H f z = refl
 
-row_settled : (i : Input) (W H f : ℕ) → settled (rewriting i W H f (part_of 2 0)) ≡ idle i W H 0
-unfolding settled
-row_settled i W H f = refl
+row-part-ended : (i : Input) (W H f : ℕ) → part_ended (rewriting i W H f (part_of 2 0)) ≡ idle i W H 0
+unfolding part_ended
+row-part-ended i W H f = refl
 
 -- what is owed of the bytes r with n heights to come, f of the begun row in the row area z
 abbrev Owes : Bool → Header → ℕ → ℕ → ℕ → ℕ → List ℕ → Type 0
@@ -233,8 +233,8 @@ module _ (e : Bool) (h : Header) (W H : ℕ) (some : 0 < W) (m n f u : ℕ) (z r
 
   row_ends : f + 1 ≡ W → owed e (rewriting i W H (f + 1) (part_of 2 0)) y r ≡ due
   row_ends d =
-      settle-owed e (rewriting i W H (f + 1) (part_of 2 0)) y r
-      ∙ ap₂ ◌++◌ (row-left i W H (f + 1) y) (ap (λ s. owed e s y r) (row_settled i W H (f + 1)) ∙ g 0 0 y (omega arith) (omega (arith, size)))
+      end-part-owed e (rewriting i W H (f + 1) (part_of 2 0)) y r
+      ∙ ap₂ ◌++◌ (row-left i W H (f + 1) y) (ap (λ s. owed e s y r) (row-part-ended i W H (f + 1)) ∙ g 0 0 y (omega arith) (omega (arith, size)))
       ∙ sym (append_assoc (row_bytes (take W y)) (row_bytes (whole_rows W hs)) says)
       ∙ ap (λ l. l ++ says) (sym (row-append (take W y) (whole_rows W hs)))
       ∙ ap (λ l. row_bytes l ++ says) (sym (one-whole W some (take W y) hs (length-take-le W y (omega (arith, size)))))
@@ -298,9 +298,9 @@ head-left : (i : Input) (W H f : ℕ) (z : List ℕ) → left_on (rewriting i W 
 unfolding left_on part_text
 head-left i W H f z = refl
 
-head-settled : (i : Input) (W H f : ℕ) → settled (rewriting i W H f (part_of 1 0)) ≡ idle i W H f
-unfolding settled
-head-settled i W H f = refl
+head-part-ended : (i : Input) (W H f : ℕ) → part_ended (rewriting i W H f (part_of 1 0)) ≡ idle i W H f
+unfolding part_ended
+head-part-ended i W H f = refl
 
 -- what is due of a picture's header and the bytes after it
 abbrev picture_due : Bool → Read Size → List ℕ
@@ -323,8 +323,8 @@ module _ (e : Bool) (z : List ℕ) (room : max_picture_width ≤ length z) where
       let i : Input = at 3 0 k (w * h) m false 0 in
       let hs : List ℕ = heights_taken m (w * h) r in
       ap (λ s. owed e s z r) (sym (begun-room (idle (early k) 0 0 0) i w h (length z) (part_of 1 0) (omega arith) refl))
-      ∙ settle-owed e (rewriting i w h 0 (part_of 1 0)) z r
-      ∙ ap₂ ◌++◌ (head-left i w h 0 z) (ap (λ s. owed e s z r) (head-settled i w h 0) ∙ heights e k w h a m r (w * h) 0 0 z a (omega arith))
+      ∙ end-part-owed e (rewriting i w h 0 (part_of 1 0)) z r
+      ∙ ap₂ ◌++◌ (head-left i w h 0 z) (ap (λ s. owed e s z r) (head-part-ended i w h 0) ∙ heights e k w h a m r (w * h) 0 0 z a (omega arith))
       ∙ sym (append_assoc (form_head w h) (row_bytes (whole_rows w hs)) (answer_line (refusal_in e m (w * h) r)))
 
   shape : (k : Header) (w h m : ℕ) (r : List ℕ) (t : Bool) → size_fits w h ≡ t
@@ -403,10 +403,10 @@ owed_whole z s room = owed-due true z s room ∙ due-whole s
 
 -- ---- once a refusal or the end of the input came, no byte counts
 rests : (e : Bool) (r : Rewriting) (z v : List ℕ) → 3 < r.input.phase → owed e r z v ≡ left_on r z
-unfolding settled
+unfolding part_ended
 rests e r z v h =
-    settle-owed e r z v
-    ∙ ap (λ l. left_on r z ++ l) (after-refusal e r.input r.width r.height (settled r).filled z v h)
+    end-part-owed e r z v
+    ∙ ap (λ l. left_on r z ++ l) (after-refusal e r.input r.width r.height (part_ended r).filled z v h)
     ∙ append-nil (left_on r z)
 
 pub end-rests : (r : Rewriting) → r.part.kind ≡ 0 → 3 < (end_of r).input.phase

@@ -51,8 +51,8 @@ unfoldable pub left_on : Rewriting → List ℕ → List ℕ
 left_on r z = drop r.part.done (text_on r z)
 
 -- the part is written: after a row the next one begins
-unfoldable pub settled : Rewriting → Rewriting
-settled r = moved r r.input (pick (eqb r.part.kind 2) 0 r.filled) no_part
+unfoldable pub part_ended : Rewriting → Rewriting
+part_ended r = moved r r.input (pick (eqb r.part.kind 2) 0 r.filled) no_part
 
 -- d bytes of the part are written
 abbrev pub done_on : ℕ → Rewriting → Rewriting
@@ -104,8 +104,8 @@ end_of r = pick (eqb r.part.kind 0) (end_to r (input_ended r.input)) r
 -- ---- the text owed
 -- e: the input ends with these bytes; else more may come
 unfoldable pub owed : Bool → Rewriting → List ℕ → List ℕ → List ℕ
-owed e r z [] = left_on r z ++ pick e (left_on (end_of (settled r)) z) []
-owed e r z (b ∷ u) = left_on r z ++ (let k = byte_read (settled r) z b in owed e k.state k.row u)
+owed e r z [] = left_on r z ++ pick e (left_on (end_of (part_ended r)) z) []
+owed e r z (b ∷ u) = left_on r z ++ (let k = byte_read (part_ended r) z b in owed e k.state k.row u)
 
 -- ---- the moves: u is read, t is written, and all else of state and row area is as it was
 -- 0 where nothing is being written
@@ -121,7 +121,7 @@ pub data Move (s : Kept) (u t : List ℕ) (s' : Kept) : Type 0 where
   partly : (m : ℕ) → 0 < busy_on s → m ≤ length (left_in s) → u ≡ [] → t ≡ take m (left_in s)
       → s' ≡ kept (done_on (s.state.part.done + m) s.state) s.row → Move s u t s'
   -- it is written to its end
-  wholly : 0 < busy_on s → u ≡ [] → t ≡ left_in s → s' ≡ kept (settled s.state) s.row → Move s u t s'
+  wholly : 0 < busy_on s → u ≡ [] → t ≡ left_in s → s' ≡ kept (part_ended s.state) s.row → Move s u t s'
   -- a byte is read
   reads : (b : ℕ) → busy_on s ≡ 0 → u ≡ b ∷ [] → t ≡ [] → s' ≡ byte_read s.state s.row b → Move s u t s'
 
@@ -135,7 +135,7 @@ pub record Writes (r : Rewriting) (z o o' : List ℕ) (b b' : ℕ) (r' : Rewriti
   pub text : List ℕ
   pub goes : Goes Move (kept r z) [] text (kept r' z)
   pub wrote : Wrote text b b' o o'
-  pub end : b' < length o → r' ≡ settled r
+  pub end : b' < length o → r' ≡ part_ended r
 
 -- bytes of the piece p are read, from place a to a', at least one
 pub record Reads (s : Kept) (p : List ℕ) (a a' : ℕ) (s' : Kept) : Type 0 where

@@ -38,7 +38,7 @@ pub fn head(width: usize, height: usize, from: usize, out: &mut [u8]) -> Put
 }
 
 // The same, told as a number, 0 or that of a question, and the bytes written in a place of their own; a refused call leaves that as it was.
-pub fn head_told(
+pub fn head_number(
     width: usize,
     height: usize,
     from: usize,

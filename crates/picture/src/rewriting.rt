@@ -3,7 +3,7 @@ ghost use Rattle.std.specs.Prelude.{◌≡◌, true, false, ◌+◌, ◌<◌, �
 ghost use Rattle.numbers.specs.Signal.{pick};
 ghost use Rattle.pgm.specs.Limits.{max_picture_width};
 ghost use Rattle.text.specs.Moves.{Went, Stops};
-ghost use Rattle.picture.specs.Machine.{part_of, started, moved, settled, done_on, row_part, begun_on, kept, height_kept, byte_read, Move, busy_on};
+ghost use Rattle.picture.specs.Machine.{part_of, started, moved, part_ended, done_on, row_part, begun_on, kept, height_kept, byte_read, Move, busy_on};
 ghost use Rattle.picture.specs.Machine.{Reads, Writes, Onward, end_of};
 
 use crate::parts;
@@ -98,8 +98,8 @@ impl Rewriting {
     }
 
     // The part is written.
-    fn settle(self) -> Self
-        ensures { result ≡ settled self }
+    fn end_part(self) -> Self
+        ensures { result ≡ part_ended self }
     {
         let part = self.part;
         self.moved(
@@ -313,7 +313,7 @@ fn write_on(rewriting: Rewriting, row: &[u16], out: &mut [u8], at: usize) -> Wri
     );
     if n < out.len() - at {
         return Written {
-            rewriting: rewriting.settle(),
+            rewriting: rewriting.end_part(),
             place: at + n,
         };
     }

@@ -4,7 +4,7 @@ use Rattle.lifting.specs.Grid.{Side}
 use Rattle.wavelet.specs.Levels.{next}
 use Rattle.level.specs.Level.{prev}
 use Rattle.level.proofs.Places.{prev-is}
-use Rattle.progress.specs.declared.levels.Level.{Level}
+use Rattle.progress.specs.declared.levels.LevelProgress.{LevelProgress}
 use Rattle.progress.specs.Counts.{made, low_rows}
 use Rattle.progress.specs.Levels.{level_at}
 
@@ -22,12 +22,12 @@ module _ (a : ℕ) (W : Side) (s c v m : ℕ) where
 
   -- it is found
   pub walk_end : (i j : ℕ) → v ≤ 1 → i ≡ made a c s m → j ≡ i - 1 →
-      ◌≡◌ {A = Level} (record { width = W.length; x = W.start; rows = m; y = s; set = j }) (level_at a W s c v m)
+      ◌≡◌ {A = LevelProgress} (record { width = W.length; x = W.start; rows = m; y = s; set = j }) (level_at a W s c v m)
   unfolding level_at
   walk_end i j h ei ej = rw (ej ∙ sym (prev-is i) ∙ ap prev ei) (go v h)
     where
       go : (v : ℕ) → v ≤ 1 →
-          ◌≡◌ {A = Level} (record { width = W.length; x = W.start; rows = m; y = s; set = prev (made a c s m) }) (level_at a W s c v m)
+          ◌≡◌ {A = LevelProgress} (record { width = W.length; x = W.start; rows = m; y = s; set = prev (made a c s m) }) (level_at a W s c v m)
       go zero h = refl
       go (suc zero) h = refl
       go (suc (suc v)) h = absurd (omega arith)

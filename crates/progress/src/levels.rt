@@ -9,7 +9,7 @@ use wavelet::sizes;
 
 // Its columns and the first one's coordinate, the rows that it has received and the first one's coordinate, and the number of the set.
 #[derive(Clone, Copy)]
-pub struct Level {
+pub struct LevelProgress {
     pub width: usize,
     pub x: usize,
     pub rows: usize,
@@ -19,7 +19,15 @@ pub struct Level {
 
 // Level v, from 1, the first having w columns from x on and m rows from y on, c steps of the closing being done. Numbers alone: where it stands in the store,
 // the writer carries.
-pub fn level_of(filter: usize, w: usize, x: usize, y: usize, c: usize, v: usize, m: usize) -> Level
+pub fn level_of(
+    filter: usize,
+    w: usize,
+    x: usize,
+    y: usize,
+    c: usize,
+    v: usize,
+    m: usize,
+) -> LevelProgress
     ensures { result ≡ level_at (filter_of filter).ahead (side x w) y c v m }
 {
     let mut width = w;
@@ -37,7 +45,7 @@ pub fn level_of(filter: usize, w: usize, x: usize, y: usize, c: usize, v: usize,
         column = sizes::next_start(column);
         k -= 1;
     }
-    Level {
+    LevelProgress {
         width,
         x: column,
         rows,

@@ -37,7 +37,7 @@ use Rattle.level.specs.Stretch.{local}
 use Rattle.reader.specs.Store.{zeroed}
 use Rattle.reader_steps.specs.Places.{spot, place_of, descend, enter, spot_fed}
 use Rattle.reader_steps.specs.Places as machine
-use Rattle.reader.specs.State.{columns, rows, needs, next, next_row, next_length, unfinished, row_due, draw_due, wants, settles, feeds, moved_to}
+use Rattle.reader.specs.State.{columns, rows, needs, next, next_row, next_length, unfinished, row_due, draw_due, wants, works_due, feeds, moved_to}
 use Rattle.reader.specs.State.{fed_reader, drawn_reader, ended_reader}
 use Rattle.reader.specs.Questions.{counts_fit, store_fits, run_fits, want_question, feed_question, draw_question}
 use Rattle.reader.specs.Calls.{fresh_by, fresh_tolerant, tolerant_reply, fresh, set_up_reply, set_up_store, want_reply, feed_reply}
@@ -182,7 +182,7 @@ module _ (s : Reader) (n m : ℕ) (x : ℕ → ℤ) where
   draw-1 e = rw e
 
   abbrev drawn-late : ℕ
-  drawn-late = pick (draw_due s) (ask (leb s.width m) 12 (ask (fits (settles s x)) 14 0)) 0
+  drawn-late = pick (draw_due s) (ask (leb s.width m) 12 (ask (fits (works_due s x)) 14 0)) 0
 
   draw-fit : counts_fit s ≡ true → asks (early s n) drawn-late ≡ draw_question s n x m
   unfolding draw_question
@@ -204,7 +204,7 @@ module _ (s : Reader) (n m : ℕ) (x : ℕ → ℤ) where
       pub draw-12 : m < s.width → 12 ≡ draw_question s n x m
       draw-12 h = (rw (due, lt-leb s.width m h)) ∙ late-draw
 
-      pub draw-last : s.width ≤ m → ask (fits (settles s x)) 14 0 ≡ draw_question s n x m
+      pub draw-last : s.width ≤ m → ask (fits (works_due s x)) 14 0 ≡ draw_question s n x m
       draw-last h = (rw (due, le-leb s.width m h)) ∙ late-draw
 
 -- ---- what was tried
@@ -235,10 +235,11 @@ module _ (s : Reader) (Q : ℕ) (v x : ℕ → ℤ) where
   unfolding feed_reply feed_store store_after
   feed-end t z e et is = (rw (← e) (ap impossible et), rw (← e) is)
 
-pub fed-reader : (s t : Reader) (p : Spot) → Is (spot_fed s.filter (columns s) (rows s) s.levels (next s).level (next s).set (next s).band) p →
-    t ≡ moved_to s s.drawn (place_of s.filter (rows s) s.drawn (spot p.level p.set p.band)) → t ≡ fed_reader s
+pub fed-reader : (s t : Reader) (p : machine.Place) →
+    p ≡ place_of s.filter (rows s) s.drawn (spot_fed s.filter (columns s) (rows s) s.levels (next s).level (next s).set (next s).band) →
+    t ≡ moved_to s s.drawn p → t ≡ fed_reader s
 unfolding fed_reader
-fed-reader s t p is e = e ∙ ap (λ q. moved_to s s.drawn (place_of s.filter (rows s) s.drawn q)) (spot_of _ p is)
+fed-reader s t p is e = e ∙ ap (moved_to s s.drawn) is
 
 pub drawn-reader : (s t : Reader) (d : ℕ) (p : Spot) → d ≡ s.drawn + 1 → Is (enter s.filter (columns s) (rows s) s.levels d) p →
     t ≡ moved_to s d (place_of s.filter (rows s) d (spot p.level p.set p.band)) → t ≡ drawn_reader s
@@ -258,12 +259,12 @@ module _ (s : Reader) (Q : ℕ) (x z : ℕ → ℤ) where
   unfolding draw_reply draw_store store_after draw_area
   draw-nothing e d = (rw (← e, d), (rw (← e, d), rw (← e, d)))
 
-  pub draw-yes : (t : Reader) (y u : ℕ → ℤ) → 0 ≡ Q → draw_due s ≡ true → t ≡ drawn_reader s → passed y ≡ settles s x →
+  pub draw-yes : (t : Reader) (y u : ℕ → ℤ) → 0 ≡ Q → draw_due s ≡ true → t ≡ drawn_reader s → passed y ≡ works_due s x →
       u ≡ fronted s.width (height_row s y) z →
       (gives (a_row s.width t) ≡ draw_reply s Q) × ((y ≡ draw_store s Q x) × (u ≡ draw_area s Q x z))
   unfolding draw_reply draw_store store_after draw_area
   draw-yes t y u e d et is made =
-      let m = memory-is (settles s x) x y is in
+      let m = memory-is (works_due s x) x y is in
       let area = made ∙ ap (λ (f : ℕ → ℤ). fronted s.width (height_row s f) z) m in
       (rw (← e, d) (ap (λ (r : Reader). gives (a_row s.width r)) et), (rw (← e, d) m, rw (← e, d) area))
 

@@ -35,7 +35,7 @@ use Rattle.reader.specs.Holds.{FeedDue}
 use Rattle.reader.specs.Answers.{done}
 use Rattle.reader_steps.specs.Sets.{ahead, has_row, needed}
 use Rattle.level.specs.Tried.{Tried, failed, passed, fits}
-use Rattle.reader.specs.State.{draw_due, feeds, settles}
+use Rattle.reader.specs.State.{draw_due, feeds, works_due}
 use Rattle.reader.specs.Questions.{stop_fits, feed_question, draw_question}
 use Rattle.reader.specs.Calls.{fresh_by, feed_reply, draw_reply, draw_area}
 use Rattle.reader.specs.Demand3.{Call, want, feed, draw, Given, heights, nothing, Event, wanted, fed, drew, said, given}
@@ -46,7 +46,7 @@ use Rattle.reader.specs.Demand3 as demand
 use Rattle.reader_steps.proofs.ReadyLaws.{ready-enter, ready-back}
 use Rattle.reader_steps.proofs.StepsLeft.{steps_left, left-first}
 use Rattle.level.proofs.TriedRows.{Outcome}
-use Rattle.reader.proofs.Outcomes.{outcome-failed, outcome-passed, settles-outcome, feeds-worked}
+use Rattle.reader.proofs.Outcomes.{outcome-failed, outcome-passed, works-due-outcome, feeds-worked}
 use Rattle.reader.proofs.Holds.{by-outcome, LeavesAt, Held, HeldAt, Worked, first_holds, set-fits, set-has}
 use Rattle.reader.proofs.CallViews.{Limits, here, at, next_of, name_of, Due, View, at-end, at-height, at-row, view, want-says}
 use Rattle.reader.proofs.CallViews.{FeedView, feed-away, feed-onward, feed-view, DrawView, draw-away, draw-idle, draw-onward, draw-view}
@@ -96,9 +96,6 @@ module _ (ad f base spare : ℕ) (W H : Side) (l : ℕ) (lim : Limits ad f base 
 
   pub tall : 0 < H.length
   tall = (within-true 1 max_height H.length lim.high).0
-
-  broad : 0 < W.length
-  broad = (within-true 1 max_width W.length lim.wide).0
 
   pub few : base + suc l ≤ (filter_of f).levels
   unfolding stop_fits
@@ -276,7 +273,7 @@ module _ (ad f base spare : ℕ) (W H : Side) (l : ℕ) (lim : Limits ad f base 
             go (draw-away q z fr says at) = subst (λ i. Draws W (spare + store_by f W (suc l)) e t n a (seen_draw i)) (sym at) (drawn-away q z fr says)
             go (draw-idle live z says at) = subst (λ i. Draws W (spare + store_by f W (suc l)) e t n a (seen_draw i)) (sym at) (drawn-idle z says)
             go (draw-onward live due is-height head to-draw says at) = subst (λ i. Draws W (spare + store_by f W (suc l)) e t n a (seen_draw i)) (sym at)
-                (tried (fits (settles s x)))
+                (tried (fits (works_due s x)))
               where
                 tried : (u : Bool) → Draws W (spare + store_by f W (suc l)) e t n a (seen_draw (ask u 14 0))
                 tried true = drawn-goes to-draw says
@@ -383,9 +380,6 @@ module _ (ad f base spare : ℕ) (W H : Side) (l : ℕ) (lim : Limits ad f base 
             left-then : List Step
             left-then = steps_left f W H l d (beyond f W H (suc l) k u (code c))
 
-            named-same : ◌≡◌ {A = List Step} (step.feed (name_of f W H l k u c) ∷ left-then) (step.feed y ∷ t')
-            named-same = sym head ∙ first
-
             name-is : name_of f W H l k u c ≡ y
             name-is = cc
 
@@ -437,10 +431,10 @@ module _ (ad f base spare : ℕ) (W H : Side) (l : ℕ) (lim : Limits ad f base 
         shown = draw-view ad f base spare W H l lim d p kept.drawn_le kept.level-le kept.band-le kept.back-le n e kept.lives t x a viewed
 
         draw-decides : e ≡ false → d < H.length → next_of f W H l d p ≡ spot 0 0 4 →
-            Outcome (SetsFit ad f base W H (suc l) P 0 d) (λ _. SetsFit ad f base W H (suc l) P 0 d) (settles r' x)
+            Outcome (SetsFit ad f base W H (suc l) P 0 d) (λ _. SetsFit ad f base W H (suc l) P 0 d) (works_due r' x)
         draw-decides live due is-height =
             by-outcome _ _ _ _ _ (λ fit _. fit) (λ m q. sets-fit P 0 d 4 m (unfold has_row in refl) q)
-            (settles-outcome ad f base spare W H l d p kept.level-le (kept.ready due) P x ((kept.rows P has).holds live due) e (spot 0 0 4) is-height)
+            (works-due-outcome ad f base spare W H l d p kept.level-le (kept.ready due) P x ((kept.rows P has).holds live due) e (spot 0 0 4) is-height)
 
         -- another answer than v is not what was seen
         not-said : (v u : Reply Given) → event (draw n a) (world ad f base spare W H l lim d p e x) ≡ drew a v after → (u ≡ v → ⊥) → (q : ℕ) →
@@ -480,9 +474,9 @@ module _ (ad f base spare : ℕ) (W H : Side) (l : ℕ) (lim : Limits ad f base 
             go : Shown → SetsFit ad f base W H (suc l) P 0 d
             go (draw-away q z fr says at) = absurd (not-said _ (refused q) passes (no_row q) q (away-says q z fr) at)
             go (draw-idle live z says at) = absurd (not-said _ (gives nothing) passes no-heights 0 (idle-says z) at)
-            go (draw-onward live due is-height head to-draw says at) = tried (settles r' x) refl
+            go (draw-onward live due is-height head to-draw says at) = tried (works_due r' x) refl
               where
-                tried : (v : Tried) → settles r' x ≡ v → SetsFit ad f base W H (suc l) P 0 d
+                tried : (v : Tried) → works_due r' x ≡ v → SetsFit ad f base W H (suc l) P 0 d
                 tried failed z = absurd (not-said _ (refused 14) passes (no_row 14) 14 stop-says (at ∙ fits-no _ z))
                 tried (passed m) z = outcome-passed m (subst (Outcome (SetsFit ad f base W H (suc l) P 0 d) _) z (draw-decides live due is-height))
 
@@ -498,9 +492,9 @@ module _ (ad f base spare : ℕ) (W H : Side) (l : ℕ) (lim : Limits ad f base 
             go : Shown → ⊥
             go (draw-away q z fr says at) = not-said _ (refused q) ends (other q fr) q (away-says q z fr) at
             go (draw-idle live z says at) = not-said _ (gives nothing) ends (no_answer nothing) 0 (idle-says z) at
-            go (draw-onward live due is-height head to-draw says at) = tried (settles r' x) refl
+            go (draw-onward live due is-height head to-draw says at) = tried (works_due r' x) refl
               where
-                tried : (v : Tried) → settles r' x ≡ v → ⊥
+                tried : (v : Tried) → works_due r' x ≡ v → ⊥
                 tried failed z = outcome-failed (subst (Outcome (SetsFit ad f base W H (suc l) P 0 d) _) z (draw-decides live due is-height)) fit
                 tried (passed m) z = not-said _ (gives (heights W.length)) ends (no_answer (heights W.length)) 0 (row-says to-draw) (at ∙ fits-yes _ m z)
 

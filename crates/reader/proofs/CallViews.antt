@@ -25,7 +25,7 @@ use Rattle.reader_steps.specs.Sets.{ahead}
 use Rattle.reader_steps.specs.Asked.{asked}
 use Rattle.level.specs.Tried.{fits}
 use Rattle.reader_steps.specs.Places.{Spot, spot, Place, spot_of, next_up, beyond, enter, Ready}
-use Rattle.reader.specs.State.{next, next_row, next_length, unfinished, row_due, draw_due, wants, settles, feeds}
+use Rattle.reader.specs.State.{next, next_row, next_length, unfinished, row_due, draw_due, wants, works_due, feeds}
 use Rattle.filters.specs.Figures.{store_by}
 use Rattle.reader.specs.Admission.{Admits}
 use Rattle.reader.specs.Questions.{counts_inside, counts_fit, stop_fits, store_fits, run_fits, set_up_question, tolerant_question}
@@ -296,7 +296,7 @@ module _ (ad f base spare : ℕ) (W H : Side) (l : ℕ) where
             draw_question (here d p e) n x a.size ≡ 0 → DrawView e t x a
         draw-onward : e ≡ false → d < H.length → next_of f W H l d p ≡ spot 0 0 4 → t ≡ draw d ∷ steps_left f W H l (suc d) (enter f W H (suc l) (suc d)) →
             draw_due (here d p e) ≡ true → draw_says W (spare + store_by f W (suc l)) e t n a.size ≡ gives (heights W.length) →
-            draw_question (here d p e) n x a.size ≡ ask (fits (settles (here d p e) x)) 14 0 → DrawView e t x a
+            draw_question (here d p e) n x a.size ≡ ask (fits (works_due (here d p e) x)) 14 0 → DrawView e t x a
 
       drawn-long : Room ≡ true → (e : Bool) → Lives e → (t : List Step) (x : ℕ → ℤ) (a : Area) → View f W H l d p t → DrawView e t x a
       unfolding draw_question draw_says draw_gives

@@ -31,7 +31,7 @@ use Rattle.reader.specs.Holds.{Tested, M, FeedDue}
 use Rattle.level.specs.Tried.{Tried, passed, bind, onto}
 use Rattle.level.specs.Stands.{SetHasBy, SetFitsBy}
 use Rattle.reader.specs.Store.{stretch_at, from, behind, fed_at, worked_at}
-use Rattle.reader.specs.Machine.{settled, finished, fed_on}
+use Rattle.reader.specs.Machine.{due_worked, finished, fed_on}
 use Rattle.reader_steps.proofs.Looks.{named-code, code_lt, first-le}
 use Rattle.reader_steps.proofs.OpenedSets.{last-is, first-low, low-is, side-long, odd-first, makes-yes, makes-not, row-makes, row_next, opens-yes}
 use Rattle.reader_steps.proofs.OpenedSets.{opened-row, row-taking, taking-row, taking-has, needed-next, needed-on, needed-from}
@@ -716,8 +716,8 @@ module _ (ad f base : ℕ) (W H : Side) (l : ℕ) (P : Rows) where
 
   pub work-due-holds : (d lev n b : ℕ) (x : ℕ → ℤ) → lev ≤ suc l → Ready f W H (suc l) d (spot lev n b) → Held lev n b x →
       Outcome (NextFits d (next_up f W H (suc l) lev n b)) (HeldNext d (next_up f W H (suc l) lev n b))
-      (settled ad f base W H (suc l) (next_up f W H (suc l) lev n b).level lev n x)
-  unfolding next_up settled band_at next_band look first_code
+      (due_worked ad f base W H (suc l) (next_up f W H (suc l) lev n b).level lev n x)
+  unfolding next_up due_worked band_at next_band look first_code
   work-due-holds d zero n b x h r s = goes x (subst (λ i. Held 0 i 4 x) (top-is r) (record {
     below = s.below;
     before = λ k _ q. absurd (omega arith);
@@ -749,9 +749,9 @@ module _ (ad f base : ℕ) (W H : Side) (l : ℕ) (P : Rows) where
 
       on : those p (bands_from b) ≡ [] →
           ((y : ℕ → ℤ) → Held k (waiting f H k n) 1 y → Outcome (NextFits d to) (HeldNext d to)
-          (settled ad f base W H (suc l) to.level k (waiting f H k n) y)) →
+          (due_worked ad f base W H (suc l) to.level k (waiting f H k n) y)) →
           Outcome (NextFits d to) (HeldNext d to)
-          (pick (ltb to.level (suc k)) (bind (worked_at ad f base W H (suc l) k n x) (settled ad f base W H (suc l) to.level k (waiting f H k n)))
+          (pick (ltb to.level (suc k)) (bind (worked_at ad f base W H (suc l) k n x) (due_worked ad f base W H (suc l) to.level k (waiting f H k n)))
           (passed x))
       on e ih = rw (lt-ltb to.level (suc k) (omega (arith, next_le k (waiting f H k n) 1)))
           (bind-outcome (worked_at ad f base W H (suc l) k n x) _
@@ -761,12 +761,12 @@ module _ (ad f base : ℕ) (W H : Side) (l : ℕ) (P : Rows) where
       go : (xs : List Band) → those p (bands_from b) ≡ xs →
           (first_code (those p (bands_from b)) ≡ 4 →
           (y : ℕ → ℤ) → Held k (waiting f H k n) 1 y
-          → Outcome (NextFits d to) (HeldNext d to) (settled ad f base W H (suc l) to.level k (waiting f H k n) y)) →
+          → Outcome (NextFits d to) (HeldNext d to) (due_worked ad f base W H (suc l) to.level k (waiting f H k n) y)) →
           Outcome (NextFits d (pick (ltb (first_code xs) 4) (spot (suc k) n (first_code xs)) to))
           (HeldNext d (pick (ltb (first_code xs) 4) (spot (suc k) n (first_code xs)) to))
           (pick (ltb (pick (ltb (first_code xs) 4) (spot (suc k) n (first_code xs)) to).level (suc k))
           (bind (worked_at ad f base W H (suc l) k n x)
-          (settled ad f base W H (suc l) (pick (ltb (first_code xs) 4) (spot (suc k) n (first_code xs)) to).level k (waiting f H k n))) (passed x))
+          (due_worked ad f base W H (suc l) (pick (ltb (first_code xs) 4) (spot (suc k) n (first_code xs)) to).level k (waiting f H k n))) (passed x))
       go [] e ih = on e (ih (ap first_code e))
       go (c ∷ cs) e ih = rw (lt-ltb (code c) 4 (code_lt c), le-ltb (suc k) (suc k) (omega arith)) (goes x (holds-up k n b x c cs e s))
 

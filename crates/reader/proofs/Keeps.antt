@@ -22,7 +22,7 @@ use Rattle.reader.specs.Rebuilt.{Rows, part_at}
 use Rattle.level.specs.Tried.{Tried, failed, passed, fits, memory}
 use Rattle.reader_steps.specs.Sets.{ahead, needed, waits_at}
 use Rattle.reader_steps.specs.Places.{Spot, spot, Place, place, place_of, spot_fed, beyond, descend, enter, Ready}
-use Rattle.reader.specs.State.{columns, needs, next, next_row, next_length, settles, feeds, draw_due, fed_reader, drawn_reader, ended_reader}
+use Rattle.reader.specs.State.{columns, needs, next, next_row, next_length, works_due, feeds, draw_due, fed_reader, drawn_reader, ended_reader}
 use Rattle.reader.specs.Admission.{Admits}
 use Rattle.reader.specs.Questions.{counts_inside, counts_fit, stop_fits, store_fits, set_up_question, feed_question, draw_question}
 use Rattle.lifting.specs.Halves.{fronted}
@@ -40,7 +40,7 @@ use Rattle.reader.proofs.CallViews.{Limits, here, at, next_of, name_of, Due, vie
 use Rattle.reader.proofs.CallViews.{DrawView, draw-away, draw-idle, draw-onward}
 use Rattle.reader.proofs.CallViews.{draw-view}
 use Rattle.reader.proofs.QuestionLaws.{admission-in}
-use Rattle.reader.proofs.Outcomes.{outcome-failed, outcome-passed, settles-outcome, feeds-outcome, row_out}
+use Rattle.reader.proofs.Outcomes.{outcome-failed, outcome-passed, works-due-outcome, feeds-outcome, row_out}
 
 -- ---- question 1, part by part
 pub record Inside (ad f base spare : ℕ) (W H : Side) (l d : ℕ) (p : Place) (e : Bool) : Type 0 where
@@ -304,7 +304,7 @@ module _ (ad f base spare : ℕ) (W H : Side) (l d : ℕ) (p : Place) (e : Bool)
       level-le : p.level ≤ suc l
       at-height : next_of f W H l d p ≡ spot 0 0 4
       to-draw : draw_due (s ad f base spare W H l d p e) ≡ true
-      asks : o₀ ≡ ask (fits (settles (s ad f base spare W H l d p e) x)) 14 0
+      asks : o₀ ≡ ask (fits (works_due (s ad f base spare W H l d p e) x)) 14 0
 
     -- what a draw was asked that gave a row, or 14
     drawing : (d < H.length → Ready f W H (suc l) d (at f W H l d p)) → (eqb o₀ 0 ≡ false → eqb o₀ 14 ≡ false → ⊥)
@@ -328,12 +328,12 @@ module _ (ad f base spare : ℕ) (W H : Side) (l d : ℕ) (p : Place) (e : Bool)
             record { at_top = λ h. (i.admits h).4; due = due; broad = broad; level-le = i.level-le; at-height = at-height; to-draw = to-draw; asks = at }
 
     -- the store, the area and the reader that a draw of a row leaves
-    drawn-store : (y : ℕ → ℤ) → draw_due (s ad f base spare W H l d p e) ≡ true → settles (s ad f base spare W H l d p e) x ≡ passed y → draw_store
+    drawn-store : (y : ℕ → ℤ) → draw_due (s ad f base spare W H l d p e) ≡ true → works_due (s ad f base spare W H l d p e) x ≡ passed y → draw_store
         (s ad f base spare W H l d p e) 0 x ≡ y
     unfolding draw_store store_after memory
     drawn-store y u k = rw (u, k) refl
 
-    drawn-area : (y : ℕ → ℤ) → draw_due (s ad f base spare W H l d p e) ≡ true → settles (s ad f base spare W H l d p e) x ≡ passed y →
+    drawn-area : (y : ℕ → ℤ) → draw_due (s ad f base spare W H l d p e) ≡ true → works_due (s ad f base spare W H l d p e) x ≡ passed y →
         draw_area (s ad f base spare W H l d p e) 0 x a.numbers ≡ fronted W.length (height_row (s ad f base spare W H l d p e) y) a.numbers
     unfolding draw_area memory
     drawn-area y u k = rw (u, k) refl
@@ -342,8 +342,8 @@ module _ (ad f base spare : ℕ) (W H : Side) (l d : ℕ) (p : Place) (e : Bool)
     unfolding drawn_reader
     drawn-reader = refl
 
-    same_test : (u : Tried) (r : ℕ) → o₀ ≡ r → o₀ ≡ ask (fits (settles (s ad f base spare W H l d p e) x)) 14 0
-        → settles (s ad f base spare W H l d p e) x ≡ u →
+    same_test : (u : Tried) (r : ℕ) → o₀ ≡ r → o₀ ≡ ask (fits (works_due (s ad f base spare W H l d p e) x)) 14 0
+        → works_due (s ad f base spare W H l d p e) x ≡ u →
         ask (fits u) 14 0 ≡ r
     same_test u r z k h = sym (ap (λ w. ask (fits w) 14 0) h) ∙ sym k ∙ z
 
@@ -352,13 +352,13 @@ module _ (ad f base spare : ℕ) (W H : Side) (l d : ℕ) (p : Place) (e : Bool)
     draw-at = record { passed = on; ended = stopped }
       where
         outcome-of : (o : Drawing) (P : Rows) → Holds P (s ad f base spare W H l d p e) x → (u : Tried) →
-            settles (s ad f base spare W H l d p e) x ≡ u → Outcome (NextFits ad f base W H l P d (spot 0 0 4)) (Held ad f base W H l P 0 d 4) u
+            works_due (s ad f base spare W H l d p e) x ≡ u → Outcome (NextFits ad f base W H l P d (spot 0 0 4)) (Held ad f base W H l P 0 d 4) u
         outcome-of o P h u z = subst (Outcome (NextFits ad f base W H l P d (spot 0 0 4)) _) z
-            (settles-outcome ad f base spare W H l d p o.level-le (h.ready o.due) P x (held ad f base spare W H l d p e P x o.due h) e (spot 0 0 4)
+            (works-due-outcome ad f base spare W H l d p o.level-le (h.ready o.due) P x (held ad f base spare W H l d p e P x o.due h) e (spot 0 0 4)
             o.at-height)
 
         tried : (o : Drawing) → o₀ ≡ 0 → (t : Reader) → t ≡ drawn_reader (s ad f base spare W H l d p e) → (P : Rows) →
-            Holds P (s ad f base spare W H l d p e) x → (u : Tried) → settles (s ad f base spare W H l d p e) x ≡ u →
+            Holds P (s ad f base spare W H l d p e) x → (u : Tried) → works_due (s ad f base spare W H l d p e) x ≡ u →
             Holds P t (draw_store (s ad f base spare W H l d p e) o₀ x)
             × ((c : ℕ) → c < W.length → draw_area (s ad f base spare W H l d p e) o₀ x a.numbers c ≡ drawn_as base (part_at ad f base W H P (suc l) 0 d c))
         tried o z t same P h failed k = absurd (omega (arith, same_test failed 0 z o.asks k, ask-failed))
@@ -379,10 +379,10 @@ module _ (ad f base spare : ℕ) (W H : Side) (l d : ℕ) (p : Place) (e : Bool)
             let k = heights-only (s ad f base spare W H l d p e) o₀ m t r in
             let o = drawing h.ready (λ z _. subst T (sym (ap (λ j. eqb j 0) k.0) ∙ z) tt)
             (λ z. omega (arith, k.0)) (λ z. omega (arith, k.0)) (λ z _. k.2 z) in
-            tried o k.0 t k.1 P h (settles (s ad f base spare W H l d p e) x) refl
+            tried o k.0 t k.1 P h (works_due (s ad f base spare W H l d p e) x) refl
 
         not-fit : (o : Drawing) → o₀ ≡ 14 → (P : Rows) → Holds P (s ad f base spare W H l d p e) x → DrawnFits P (s ad f base spare W H l d p e) →
-            (u : Tried) → settles (s ad f base spare W H l d p e) x ≡ u → ⊥
+            (u : Tried) → works_due (s ad f base spare W H l d p e) x ≡ u → ⊥
         not-fit o z P h due failed k = outcome-failed (outcome-of o P h failed k) (λ _. due)
         not-fit o z P h due (passed y) k = omega (arith, same_test (passed y) 14 z o.asks k, ask-passed y)
 
@@ -392,7 +392,7 @@ module _ (ad f base spare : ℕ) (W H : Side) (l d : ℕ) (p : Place) (e : Bool)
             let z = drawn_fourteen (s ad f base spare W H l d p e) o₀ t r in
             let o = drawing h.ready (λ _ y. subst T (sym (ap (λ j. eqb j 14) z) ∙ y) tt)
             (λ y. omega (arith, z)) (λ y. omega (arith, z)) (λ _ y. omega (arith, z, y)) in
-            not-fit o z P h due (settles (s ad f base spare W H l d p e) x) refl
+            not-fit o z P h due (works_due (s ad f base spare W H l d p e) x) refl
 
 -- ---- every state: one of no levels passes no question 1
 abbrev at-levels : ℕ → Reader → Reader

@@ -22,9 +22,9 @@ use Rattle.reader_steps.specs.Asked.{kept_at}
 use Rattle.reader.specs.Rebuilt.{Rows, bands_by, rebuilt, bands_at, part_at}
 use Rattle.level.specs.Tried.{failed, passed, bind}
 use Rattle.reader_steps.specs.Places.{Spot, Place, beyond, Ready}
-use Rattle.reader.specs.Machine.{settled, fed_on}
+use Rattle.reader.specs.Machine.{due_worked, fed_on}
 use Rattle.reader.specs.Holds.{FeedDue}
-use Rattle.reader.specs.State.{next, settles, feeds}
+use Rattle.reader.specs.State.{next, works_due, feeds}
 use Rattle.reader.specs.Calls.{height_row}
 use Rattle.reader.specs.Limited.{shown, drawn_as}
 use Rattle.level.proofs.TriedRows.{Outcome, stops, goes, bind-outcome}
@@ -75,30 +75,30 @@ band-named ad f base W H l P k HH r h = refl
 module _ (ad f base spare : ℕ) (W H : Side) (l d : ℕ) (p : Place) (level-le : p.level ≤ suc l) (ready : Ready f W H (suc l) d (at f W H l d p)) (P : Rows)
     (x : ℕ → ℤ)
     (held : HeldAt ad f base W H l P (at f W H l d p) x) where
-  pub settles-outcome : (e : Bool) (q : Spot) → next_of f W H l d p ≡ q →
-      Outcome (NextFits ad f base W H l P d q) (HeldNext ad f base W H l P d q) (settles (here ad f base spare W H l d p e) x)
-  unfolding settles next
-  settles-outcome e q z =
+  pub works-due-outcome : (e : Bool) (q : Spot) → next_of f W H l d p ≡ q →
+      Outcome (NextFits ad f base W H l P d q) (HeldNext ad f base W H l P d q) (works_due (here ad f base spare W H l d p e) x)
+  unfolding works_due next
+  works-due-outcome e q z =
       subst (λ u. Outcome (NextFits ad f base W H l P d u) (HeldNext ad f base W H l P d u)
-      (settled ad f base W H (suc l) (next_of f W H l d p).level p.level (at f W H l d p).set x)) z
+      (due_worked ad f base W H (suc l) (next_of f W H l d p).level p.level (at f W H l d p).set x)) z
       (work-due-holds ad f base W H l P d p.level (at f W H l d p).set p.band x level-le ready held)
 
   pub feeds-worked : (e : Bool) (k n : ℕ) (c : Band) → Due f W H l d p k n c → (v : ℕ → ℤ) →
       ((i : ℕ) → i < band_columns W (suc k) c → v i ≡ P (name_of f W H l k n c) i) →
       Outcome (FeedDue ad f base W H (suc l) P k n (code c)) (FedHeld ad f base W H l P k n (code c)) (feeds (here ad f base spare W H l d p e) v x)
-  unfolding feeds settles next band_columns
+  unfolding feeds works_due next band_columns
   feeds-worked e k n c o v row =
       let z : suc k - 1 ≡ k = omega arith in
       let ask = asked-has (eqb (suc k) (suc l)) (side_at k W) (side_at k H) n c o.asks in
       let row' : (i : ℕ) → i < count (across c) (side_at k W) → v i ≡ P (name_of f W H l k n c) i = rw z at row in
       let named = band-named ad f base W H l P k c (set_row (side_at k H) c n) ask.0 in
       let set = subst (λ q. Outcome (NextFits ad f base W H l P d q) (HeldNext ad f base W H l P d q)
-      (settled ad f base W H (suc l) q.level p.level (at f W H l d p).set x)) o.is
+      (due_worked ad f base W H (suc l) q.level p.level (at f W H l d p).set x)) o.is
       (work-due-holds ad f base W H l P d p.level (at f W H l d p).set p.band x level-le ready held) in
       subst (λ q. Outcome (FeedDue ad f base W H (suc l) P k n (code c)) (FedHeld ad f base W H l P k n (code c))
-      (bind (settled ad f base W H (suc l) q.level p.level (at f W H l d p).set x) (fed_on ad f base W H (suc l) q.level q.set q.band v)))
+      (bind (due_worked ad f base W H (suc l) q.level p.level (at f W H l d p).set x) (fed_on ad f base W H (suc l) q.level q.set q.band v)))
       (sym o.is)
-      (bind-outcome (settled ad f base W H (suc l) (suc k) p.level (at f W H l d p).set x) _
+      (bind-outcome (due_worked ad f base W H (suc l) (suc k) p.level (at f W H l d p).set x) _
       (by-outcome _ _ _ _ _ (λ due. due.above) (λ y h. h) set)
       (λ y h. fed-holds ad f base W H l P d k n c v y (omega (arith, o.below)) o.ready (λ i b. row' i b ∙ ap (λ (w : ℕ → ℤ). w i) (sym named)) h))
 

@@ -40,7 +40,7 @@ use Rattle.reader_steps.specs.Places.{has_cells, Spot, spot, Place, place_of, la
 use Rattle.level.specs.Tried.{Tried, failed, passed, fits, memory}
 use Rattle.reader.specs.Holds.{FeedDue}
 use Rattle.reader.specs.State as state
-use Rattle.reader.specs.State.{settles, feeds, draw_due, fed_reader, drawn_reader, ended_reader}
+use Rattle.reader.specs.State.{works_due, feeds, draw_due, fed_reader, drawn_reader, ended_reader}
 use Rattle.reader.specs.Limited.{drawn_as}
 use Rattle.reader.specs.Questions.{run_fits, feed_question, draw_question}
 use Rattle.reader.specs.Calls.{feed_reply, feed_store, store_after, draw_reply, draw_store, draw_area, height_row}
@@ -53,8 +53,8 @@ use Rattle.reader_steps.proofs.ReadyLaws.{ready-beyond, ready-enter, ready-back,
 use Rattle.reader_steps.proofs.StepsLeft.{steps_left, left-done}
 use Rattle.level.proofs.TriedRows.{Outcome}
 use Rattle.reader.proofs.Holds.{Live, Fits, NextFits, Held, HeldAt, enter-holds, height-fit, sets-fitting, due-fitting, sets-tested}
-use Rattle.reader.proofs.TolerantGoes.{tolerant-settles, tolerant-feeds}
-use Rattle.reader.proofs.Outcomes.{outcome-failed, outcome-passed, settles-outcome, feeds-outcome, row_out}
+use Rattle.reader.proofs.TolerantGoes.{tolerant-works-due, tolerant-feeds}
+use Rattle.reader.proofs.Outcomes.{outcome-failed, outcome-passed, works-due-outcome, feeds-outcome, row_out}
 use Rattle.reader.proofs.CallViews.{Limits, here, at, next_of, name_of, Due, View, view, FeedView, feed-away, feed-onward, feed-view}
 use Rattle.reader.proofs.CallViews.{DrawView, draw-away, draw-idle, draw-onward}
 use Rattle.reader.proofs.CallViews.{draw-view}
@@ -334,18 +334,19 @@ module _ (ad f base spare : ℕ) (W H : Side) (l : ℕ) where
 
         module _ (live : e ≡ false) (due : d < H.length) (at-height : next_of f W H l d p ≡ spot 0 0 4)
             (head : t ≡ step.draw d ∷ steps_left f W H l (suc d) (enter f W H (suc l) (suc d))) (to-draw : draw_due s ≡ true) where
-          settles-is : (P : Rows) → All (HasFedRow W P) fs → Outcome (NextFits ad f base W H l P d (spot 0 0 4)) (Held ad f base W H l P 0 d 4) (settles s x)
-          settles-is P has = settles-outcome ad f base spare W H l d p kept.level-le (kept.ready due) P x ((kept.rows P has).holds live due) e (spot 0 0 4)
+          works-due-is : (P : Rows) → All (HasFedRow W P) fs → Outcome (NextFits ad f base W H l P d (spot 0 0 4)) (Held ad f base W H l P 0 d 4) (works_due s x)
+          works-due-is P has = works-due-outcome ad f base spare W H l d p kept.level-le (kept.ready due) P x ((kept.rows P has).holds live due) e
+              (spot 0 0 4)
               at-height
 
           -- 14
           abbrev zeros-drawn : ℕ → ℤ
           zeros-drawn = draw_store s 14 x
 
-          never-drawn : 0 < ad → settles s x ≡ failed → ⊥
-          never-drawn more = tolerant-settles s more lim.admits x
+          never-drawn : 0 < ad → works_due s x ≡ failed → ⊥
+          never-drawn more = tolerant-works-due s more lim.admits x
 
-          stopped : settles s x ≡ failed → Kept d p true zeros-drawn t fs ds
+          stopped : works_due s x ≡ failed → Kept d p true zeros-drawn t fs ds
           stopped z₁ = record {
             lives = λ more. absurd (never-drawn more z₁);
             drawn_le = kept.drawn_le;
@@ -364,17 +365,17 @@ module _ (ad f base spare : ℕ) (W H : Side) (l : ℕ) where
                   shows = old.shows;
                   has = old.has;
                   holds = λ z _. absurd (true≢false z);
-                  refuses = λ _ all. outcome-failed (subst (Outcome (NextFits ad f base W H l P d (spot 0 0 4)) _) z₁ (settles-is P has))
+                  refuses = λ _ all. outcome-failed (subst (Outcome (NextFits ad f base W H l P d (spot 0 0 4)) _) z₁ (works-due-is P has))
                       (λ _. sets-fitting ad f base W H l P all 0 d);
                 };
           }
 
-          drawn-stops : settles s x ≡ failed → DrawnTo 14
+          drawn-stops : works_due s x ≡ failed → DrawnTo 14
           unfolding draw_reply ends left_by goes_on fed_by drawn_by ended_reader
           drawn-stops z₁ = rw (append-nil ds, append-nil fs) (reached d p true zeros-drawn t fs ds (stopped z₁))
 
           -- the row is given
-          module _ (y : ℕ → ℤ) (made : settles s x ≡ passed y) where
+          module _ (y : ℕ → ℤ) (made : works_due s x ≡ passed y) where
             abbrev out : ℕ → ℤ
             out = fronted W.length (height_row s y) a.numbers
 
@@ -426,7 +427,7 @@ module _ (ad f base spare : ℕ) (W H : Side) (l : ℕ) where
               rows = λ P has.
                   let old = kept.rows P has in
                   let h : Held ad f base W H l P 0 d 4 y = outcome-passed y
-                  (subst (Outcome (NextFits ad f base W H l P d (spot 0 0 4)) _) made (settles-is P has)) in
+                  (subst (Outcome (NextFits ad f base W H l P d (spot 0 0 4)) _) made (works-due-is P has)) in
                   record {
                     fit = λ r c b q. elim (ℕ_discrete r d) [
                       | yes z ↦ rw z (height-fit ad f base W H l P d y due wide h at_top c q)
@@ -459,9 +460,9 @@ module _ (ad f base spare : ℕ) (W H : Side) (l : ℕ) where
                 (draw_question s n x a.size)
             go (draw-away q z fr _ at) = subst DrawnTo (sym at) (drawn-away q z fr)
             go (draw-idle live z _ at) = subst DrawnTo (sym at) (drawn-idle z)
-            go (draw-onward live due at-height head to-draw _ at) = subst DrawnTo (sym at) (tried (settles s x) refl)
+            go (draw-onward live due at-height head to-draw _ at) = subst DrawnTo (sym at) (tried (works_due s x) refl)
               where
-                tried : (o : Tried) → settles s x ≡ o → DrawnTo (ask (fits o) 14 0)
+                tried : (o : Tried) → works_due s x ≡ o → DrawnTo (ask (fits o) 14 0)
                 tried failed z = unfold fits in drawn-stops live due at-height head to-draw z
                 tried (passed y) z = unfold fits in drawn-goes live due at-height head to-draw y z
 

@@ -22,7 +22,7 @@ use Rattle.reader.specs.declared.run_steps.Place.{Place}
 use Rattle.reader.specs.declared.runs.Tally.{Tally}
 use Rattle.reader.specs.Answers.{Handed, a_row}
 use Rattle.reader.specs.Answers as answer
-use Rattle.reader.specs.State.{columns, needs, next, next_length, unfinished, row_due, draw_due, settles, feeds, fed_reader, drawn_reader, ended_reader}
+use Rattle.reader.specs.State.{columns, needs, next, next_length, unfinished, row_due, draw_due, works_due, feeds, fed_reader, drawn_reader, ended_reader}
 use Rattle.reader.specs.Calls.{height_row}
 use Rattle.reader.specs.Calls as call
 use Rattle.reader.specs.Last as last
@@ -436,7 +436,7 @@ module _ (n m : ℕ) (v : ℕ → ℤ) (k : ℕ) (d : Tally) (s : Reader) (x z :
       abbrev o₂ : Run
       o₂ = run_at d' (reader_at s q) y z'
 
-      last-draw : E ≡ ask (fits (settles s x)) 14 0
+      last-draw : E ≡ ask (fits (works_due s x)) 14 0
       last-draw = draw-asked ∙ sym (draw-last s n free x fit store-asked draws h)
 
       drew-passes : q.ended ≡ false → d'.used ≡ d.used → d'.rows ≡ d.rows + 1 → Turned n m v k p o₂ e no

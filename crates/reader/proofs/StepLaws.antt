@@ -21,14 +21,14 @@ use Rattle.wavelet.specs.View.{band_columns}
 use Rattle.reader.specs.declared.Reader.{Reader}
 use Rattle.reader.specs.declared.walk.Level.{Level}
 use Rattle.reader_steps.specs.declared.places.Spot.{Spot}
-use Rattle.reader_steps.specs.Sets.{has_row, row_of, taking, first_row, makes, waiting}
+use Rattle.reader_steps.specs.Sets.{has_row, row_of, taking, first_row, makes, waiting, needed}
 use Rattle.reader_steps.specs.Asked.{named}
 use Rattle.level.specs.Tried.{failed, passed}
 use Rattle.reader.specs.Store.{fed_at}
-use Rattle.reader_steps.specs.Places.{spot, band_at, next_up, last_of_set, past, beyond, descend, begins, spot_fed}
-use Rattle.reader.specs.Machine.{settled, finished, fed_on}
+use Rattle.reader_steps.specs.Places.{spot, place, place_of, band_at, next_up, past, beyond, descend, begins, spot_fed}
+use Rattle.reader.specs.Machine.{due_worked, finished, fed_on}
 use Rattle.reader_steps.specs.Places as machine
-use Rattle.reader.specs.State.{columns, rows, spot_now, next, next_row, next_length, settles, feeds}
+use Rattle.reader.specs.State.{columns, rows, spot_now, next, next_row, next_length, works_due, feeds}
 use Rattle.reader.specs.declared.walk.Next.{Next}
 use Rattle.reader.specs.Inside.{Counts, IsLevel, Is, IsNext}
 use Rattle.level.proofs.WorkLaws.{bind-failed, bind-passed}
@@ -37,6 +37,13 @@ use Rattle.reader.proofs.PartLaws.{level-wide, level-high}
 
 pub spot_of : (q : machine.Spot) (p : Spot) → Is q p → spot p.level p.set p.band ≡ q
 spot_of q p is = rw (is.level, is.set, is.band)
+
+-- ---- a level once more
+pub at_copy : {f d k : ℕ} {W H : Side} {l m : Level} → m ≡ l → IsLevel f W H d k l → IsLevel f W H d k m
+at_copy {f} {d} {k} {W} {H} e is = subst (λ (i : Level). IsLevel f W H d k i) (sym e) is
+
+pub set-copy : {n : ℕ} {l m : Level} → m ≡ l → l.set ≡ n → m.set ≡ n
+set-copy e is = ap (λ (i : Level). i.set) e ∙ is
 
 -- ---- the row wanted is of a level walked to, and of a band
 pub record Near (k : ℕ) (p : machine.Spot) : Type 0 where
@@ -58,10 +65,10 @@ module _ (s : Reader) where
   unfolding next
   near = up_in s.filter _ _ _ s.level (spot_now s).set s.band
 
-  pub settles-is : (to n : ℕ) → to ≡ (next s).level → n ≡ (spot_now s).set → (x : ℕ → ℤ) →
-      settled s.admission s.filter s.stop (columns s) (rows s) s.levels to s.level n x ≡ settles s x
-  unfolding settles
-  settles-is to n e f x = ap₂ (λ i j. settled s.admission s.filter s.stop (columns s) (rows s) s.levels i s.level j x) e f
+  pub works-due-is : (to n : ℕ) → to ≡ (next s).level → n ≡ (spot_now s).set → (x : ℕ → ℤ) →
+      due_worked s.admission s.filter s.stop (columns s) (rows s) s.levels to s.level n x ≡ works_due s x
+  unfolding works_due
+  works-due-is to n e f x = ap₂ (λ i j. due_worked s.admission s.filter s.stop (columns s) (rows s) s.levels i s.level j x) e f
 
   pub next-draw : s.level ≡ 0 → (next s).level ≡ 0
   next-draw e = omega (arith, near.within)
@@ -101,11 +108,11 @@ module _ (s : Reader) where
     unfolding next_row
     number_is l r at set e = cc (e, level-high s.filter (columns s) (rows s) s.drawn (p.level - 1) l at, set, is.level, is.band, is.set)
 
-    pub feed-failed : (v x : ℕ → ℤ) → failed ≡ settles s x → failed ≡ feeds s v x
+    pub feed-failed : (v x : ℕ → ℤ) → failed ≡ works_due s x → failed ≡ feeds s v x
     unfolding feeds
     feed-failed v x e = bind-failed _ _ e
 
-    pub feed-on : (v x y : ℕ → ℤ) (n : ℕ) → 0 < p.level → n ≡ p.set → passed y ≡ settles s x →
+    pub feed-on : (v x y : ℕ → ℤ) (n : ℕ) → 0 < p.level → n ≡ p.set → passed y ≡ works_due s x →
         finished s.admission s.filter s.stop (columns s) (rows s) s.levels (p.level - 1) n p.band
         (fed_at s.filter (columns s) (rows s) (p.level - 1) n p.band v y) ≡ feeds s v x
     unfolding feeds
@@ -163,16 +170,18 @@ begins-level f W H L k n h = go (has_row H (suc k) n)
     go true = omega (arith, descend-level f (L - suc k) (suc k) (side_at (suc k) W) (side_at (suc k) H) n (row_of H (suc k) n))
     go false = omega arith
 
-pub fed-level : (f : ℕ) (W H : Side) (L k n c : ℕ) → k ≤ L → (spot_fed f W H L k n c).level ≤ L
-unfolding spot_fed beyond past
-fed-level f W H L zero n c h = omega arith
-fed-level f W H L (suc k) n c h = go (last_of_set W H L k n c) (makes f (side_at k H) n)
+pub past-level : (f : ℕ) (W H : Side) (L k n : ℕ) → k < L → (past f W H L k n).level ≤ L
+unfolding past
+past-level f W H L k n h = go (makes f (side_at k H) n)
   where
-    go : (t u : Bool) →
-        (pick t (pick u (spot k (waiting f H k n) 1) (begins f W H L (suc k) (suc n))) (spot (suc k) n (c + 1))).level ≤ L
-    go true true = omega arith
-    go true false = begins-level f W H L k (suc n) (omega arith)
-    go false u = omega arith
+    go : (u : Bool) → (pick u (spot k (waiting f H k n) 1) (begins f W H L (suc k) (suc n))).level ≤ L
+    go true = omega arith
+    go false = begins-level f W H L k (suc n) h
+
+-- ---- a place as a state keeps it, with the last set of its level at hand
+pub kept_back : (f : ℕ) (H : Side) (d k n b last back : ℕ) (q : machine.Spot) → last ≡ needed f H 0 d k → back ≡ last - n → spot k n b ≡ q →
+    place k back b ≡ place_of f H d q
+kept_back f H d k n b last back q l e is = ap (λ (i : ℕ). place k i b) (e ∙ ap (λ (i : ℕ). i - n) l) ∙ ap (place_of f H d) is
 
 -- ---- past a set, as the code has it
 pub past-begin : (f : ℕ) (W H : Side) (L k m n : ℕ) → 0 < k → m ≡ n → makes f (side_at (k - 1) H) m ≡ false → begins f W H L k (m + 1) ≡ past f W H L (k - 1) n
@@ -197,3 +206,18 @@ past_top f W H L k m n r l one h e high er u =
     let row : r ≡ waiting f H 0 m = er ∙ ap (λ (S : Side). first_row f S m) (high ∙ ap (λ (i : ℕ). side_at i H) z) ∙ unfold waiting taking side_at in refl in
     let g : makes f (side_at 0 H) m ≡ true = ap (λ (i : ℕ). makes f (side_at i H) m) (sym z) ∙ u in
     past-finer f W H L 0 m n r e row g ∙ ap (λ (i : ℕ). past f W H L i n) (sym z)
+
+-- where the next set begins, as the code finds it from l, the level of n once more
+module _ (s : Reader) (n : Next) (some : 0 < n.spot.level) (at : IsLevel s.filter (columns s) (rows s) s.drawn (n.spot.level - 1) n.at)
+    (same : n.at.set ≡ n.spot.set) where
+  pub begun-past : (l : Level) (b : Bool) (q : Spot) → l ≡ n.at → b ≡ makes s.filter (side n.at.y n.at.height) n.at.set → b ≡ false →
+      Is (pick (leb (first_set (side l.y l.height) lo) (n.at.set + 1))
+      (descend s.filter (s.levels - n.spot.level) n.spot.level (levels.next (side l.x l.width)) (levels.next (side l.y l.height))
+      (n.at.set + 1) (n.at.set + 1 - first_set (side l.y l.height) lo))
+      (spot n.spot.level (n.at.set + 1) 1)) q →
+      spot q.level q.set q.band ≡ past s.filter (columns s) (rows s) s.levels (n.spot.level - 1) n.spot.set
+  begun-past l b q e made none is =
+      spot_of _ q is
+      ∙ begins-at s.filter (columns s) (rows s) s.levels s.drawn n.spot.level (n.at.set + 1) l some (at_copy e at)
+      ∙ past-begin s.filter (columns s) (rows s) s.levels n.spot.level n.at.set n.spot.set some same
+      (sym (ap (λ (S : Side). makes s.filter S n.at.set) (level-high _ _ _ _ _ n.at at)) ∙ sym made ∙ none)

@@ -18,8 +18,8 @@ use Rattle.level.specs.Tried.{Tried, passed, bind, onto, memory}
 use Rattle.reader.specs.Admission.{work_by}
 use Rattle.reader.specs.Store.{stretch_at, from, behind, zeroed, fed_at, worked_at}
 use Rattle.reader_steps.specs.Places.{has_set, last_of_set}
-use Rattle.reader.specs.Machine.{settled, finished, fed_on}
-use Rattle.reader.specs.State.{columns, rows, needs, spot_now, next, settles, feeds, draw_due}
+use Rattle.reader.specs.Machine.{due_worked, finished, fed_on}
+use Rattle.reader.specs.State.{columns, rows, needs, spot_now, next, works_due, feeds, draw_due}
 use Rattle.reader.specs.Questions.{set_up_question, feed_question, draw_question}
 use Rattle.reader.specs.Calls.{set_up_store, store_after, feed_store, draw_store}
 use Rattle.areas.proofs.AreaLaws.{front_rest}
@@ -64,13 +64,13 @@ module _ (ad f base : ℕ) (W H : Side) (L : ℕ) where
       go true = put-past k x _ h (admission-worked ad f (base + k) (side_at k W) (side_at k H) (eqb (suc k) L) n (from (stretch_at f W k) x))
       go false = goes (kept-none N x)
 
-  settled-past : (to k n : ℕ) (x : ℕ → ℤ) → k ≤ L → Keeps N x (settled ad f base W H L to k n x)
-  unfolding settled
-  settled-past to zero n x h = goes (kept-none N x)
-  settled-past to (suc k) n x h = go (ltb to (suc k)) (λ y. settled-past to k (waiting f H k n) y (omega arith))
+  due-worked-past : (to k n : ℕ) (x : ℕ → ℤ) → k ≤ L → Keeps N x (due_worked ad f base W H L to k n x)
+  unfolding due_worked
+  due-worked-past to zero n x h = goes (kept-none N x)
+  due-worked-past to (suc k) n x h = go (ltb to (suc k)) (λ y. due-worked-past to k (waiting f H k n) y (omega arith))
     where
-      go : (t : Bool) → ((y : ℕ → ℤ) → Keeps N y (settled ad f base W H L to k (waiting f H k n) y)) →
-          Keeps N x (pick t (bind (worked_at ad f base W H L k n x) (settled ad f base W H L to k (waiting f H k n))) (passed x))
+      go : (t : Bool) → ((y : ℕ → ℤ) → Keeps N y (due_worked ad f base W H L to k (waiting f H k n) y)) →
+          Keeps N x (pick t (bind (worked_at ad f base W H L k n x) (due_worked ad f base W H L to k (waiting f H k n))) (passed x))
       go true ih = bound N x _ _ (worked-at-past k n x (omega arith)) ih
       go false ih = goes (kept-none N x)
 
@@ -92,14 +92,14 @@ module _ (ad f base : ℕ) (W H : Side) (L : ℕ) where
 
 -- ---- a reader whose level is one of its own
 module _ (s : Reader) (deep : s.level ≤ s.levels) where
-  settles-past : (x : ℕ → ℤ) → Keeps (store_by s.filter (columns s) s.levels) x (settles s x)
-  unfolding settles
-  settles-past x = settled-past s.admission s.filter s.stop (columns s) (rows s) s.levels (next s).level s.level (spot_now s).set x deep
+  works-due-past : (x : ℕ → ℤ) → Keeps (store_by s.filter (columns s) s.levels) x (works_due s x)
+  unfolding works_due
+  works-due-past x = due-worked-past s.admission s.filter s.stop (columns s) (rows s) s.levels (next s).level s.level (spot_now s).set x deep
 
   feeds-past : (v x : ℕ → ℤ) → Keeps (store_by s.filter (columns s) s.levels) x (feeds s v x)
   unfolding feeds
   feeds-past v x =
-      bound (store_by s.filter (columns s) s.levels) x (settles s x) _ (settles-past x)
+      bound (store_by s.filter (columns s) s.levels) x (works_due s x) _ (works-due-past x)
       (λ y. fed-past s.admission s.filter s.stop (columns s) (rows s) s.levels (next s).level (next s).set (next s).band v y
       (omega (arith, (near s).within)))
 
@@ -146,13 +146,13 @@ feed_surplus s n m x v j p = after-past s (feed_question s n x m v) (memory x (f
 pub draw_surplus : (s : Reader) (n m : ℕ) (x : ℕ → ℤ) (j : ℕ) → needs s ≤ j →
     draw_store s (draw_question s n x m) x j ≡ x j
 unfolding draw_store
-draw_surplus s n m x j p = after-past s (draw_question s n x m) (pick (draw_due s) (memory x (settles s x)) x) x j p passes
+draw_surplus s n m x j p = after-past s (draw_question s n x m) (pick (draw_due s) (memory x (works_due s x)) x) x j p passes
   where
-    passes : draw_question s n x m ≡ 0 → pick (draw_due s) (memory x (settles s x)) x j ≡ x j
+    passes : draw_question s n x m ≡ 0 → pick (draw_due s) (memory x (works_due s x)) x j ≡ x j
     passes e = go (draw_due s)
       where
-        go : (t : Bool) → pick t (memory x (settles s x)) x j ≡ x j
+        go : (t : Bool) → pick t (memory x (works_due s x)) x j ≡ x j
         go true =
             let c = counts-in s (draw-counts s n m x (λ z. omega (arith, e, z)) (λ z. omega (arith, e, z))) in
-            remembered (store_by s.filter (columns s) s.levels) x (settles s x) (settles-past s c.at x) j (omega arith)
+            remembered (store_by s.filter (columns s) s.levels) x (works_due s x) (works-due-past s c.at x) j (omega arith)
         go false = refl

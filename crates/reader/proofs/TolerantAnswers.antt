@@ -23,7 +23,7 @@ use Rattle.filters.proofs.PlainFigures.{levels-exactly}
 use Rattle.level.specs.Tried.{fits}
 use Rattle.reader.specs.declared.Reader.{Reader}
 use Rattle.reader.specs.Answers.{Reply, gives, refused, Want, row, draw_now, done, ended}
-use Rattle.reader.specs.State.{next, next_row, next_length, unfinished, row_due, draw_due, needs, wants, settles, feeds}
+use Rattle.reader.specs.State.{next, next_row, next_length, unfinished, row_due, draw_due, needs, wants, works_due, feeds}
 use Rattle.reader.specs.Questions as levels
 use Rattle.reader.specs.Questions.{store_fits, run_fits, tolerant_question}
 use Rattle.reader.specs.Calls as levels-call
@@ -33,7 +33,7 @@ use Rattle.reader.specs.Tolerant.{TolerantAsks, Tolerates, NeverEnds}
 use Rattle.reader.proofs.QuestionLaws.{counts-in}
 use Rattle.reader.proofs.LastLaws.{last-in}
 use Rattle.reader.proofs.SetUpPasses.{store-fits-exactly}
-use Rattle.reader.proofs.TolerantGoes.{settles-goes, feeds-goes, goes-fits}
+use Rattle.reader.proofs.TolerantGoes.{works-due-goes, feeds-goes, goes-fits}
 
 -- ---- the set-up
 module _ (w h L n : ℕ) where
@@ -135,8 +135,8 @@ module _ (s : Reader) (other : s.admission ≡ 0 → ⊥) where
     unfolding levels.draw_question
     drawn false e = one (levels.counts_fit s) _ e
     drawn true e =
-        go (levels.counts_fit s) (store_fits (needs s) n) (not s.ended) (draw_due s) (leb s.width m) (fits (settles s x)) (ap not (lives e))
-        (goes-fits _ (settles-goes s some (counts-in s e).admits x))
+        go (levels.counts_fit s) (store_fits (needs s) n) (not s.ended) (draw_due s) (leb s.width m) (fits (works_due s x)) (ap not (lives e))
+        (goes-fits _ (works-due-goes s some (counts-in s e).admits x))
       where
         go : (a b c d e f : Bool) → c ≡ true → f ≡ true →
             (let q = ask a 1 (ask b 5 (ask c 9 (pick d (ask e 12 (ask f 14 0)) 0))) in (q ≡ 9 → ⊥) × (q ≡ 14 → ⊥))

@@ -1,4 +1,4 @@
--- A tolerant reader never gives 14: whatever stands in its store and whatever is fed, every set is worked out (`tolerant-settles`, `tolerant-feeds`). Assumes
+-- A tolerant reader never gives 14: whatever stands in its store and whatever is fed, every set is worked out (`tolerant-works-due`, `tolerant-feeds`). Assumes
 -- nothing.
 use mathlib.Core.Path.{◌≡◌, refl, sym, ap, subst, ◌∙◌}
 use mathlib.Core.Bool.{Bool, true, false}
@@ -19,9 +19,9 @@ use Rattle.reader_steps.proofs.CellLaws.{cells_are}
 use Rattle.reader.specs.declared.Reader.{Reader}
 use Rattle.reader.specs.Admission.{work_by, Admits}
 use Rattle.reader.specs.Store.{stretch_at, from, behind, fed_at, worked_at}
-use Rattle.reader.specs.Machine.{settled, finished, fed_on}
+use Rattle.reader.specs.Machine.{due_worked, finished, fed_on}
 use Rattle.reader.specs.State as state
-use Rattle.reader.specs.State.{columns, rows, spot_now, settles, feeds}
+use Rattle.reader.specs.State.{columns, rows, spot_now, works_due, feeds}
 use Rattle.reader.proofs.AdmissionLaws.{Goes, goes_bind, goes-pick, tolerant-goes}
 
 -- every level starts where the map does
@@ -66,11 +66,11 @@ module _ (a f b : ℕ) (W H : Side) (L : ℕ) (more : 0 < a) (is : Admits a f b 
           (set-inside (side_at k W) (side_at k H) n down e))
       go false e = (x, refl)
 
-  settled-goes : (to k n : ℕ) (x : ℕ → ℤ) → Goes (settled a f b W H L to k n x)
-  unfolding settled
-  settled-goes to zero n x = (x, refl)
-  settled-goes to (suc k) n x =
-      goes-pick (ltb to (suc k)) _ _ (goes_bind _ _ (worked-goes k n x) (λ y. settled-goes to k (waiting f H k n) y)) (x, refl)
+  due-worked-goes : (to k n : ℕ) (x : ℕ → ℤ) → Goes (due_worked a f b W H L to k n x)
+  unfolding due_worked
+  due-worked-goes to zero n x = (x, refl)
+  due-worked-goes to (suc k) n x =
+      goes-pick (ltb to (suc k)) _ _ (goes_bind _ _ (worked-goes k n x) (λ y. due-worked-goes to k (waiting f H k n) y)) (x, refl)
 
   fed-goes : (k n c : ℕ) (v x : ℕ → ℤ) → Goes (fed_on a f b W H L k n c v x)
   unfolding fed_on finished
@@ -87,21 +87,21 @@ unfolding fits
 goes-fits t g = ap fits g.1
 
 module _ (s : Reader) (more : 0 < s.admission) (is : Admits s.admission s.filter s.stop (columns s) (rows s)) where
-  pub settles-goes : (x : ℕ → ℤ) → Goes (settles s x)
-  unfolding settles
-  settles-goes x =
-      settled-goes s.admission s.filter s.stop (columns s) (rows s) s.levels more is (state.next s).level (spot_now s).level (spot_now s).set x
+  pub works-due-goes : (x : ℕ → ℤ) → Goes (works_due s x)
+  unfolding works_due
+  works-due-goes x =
+      due-worked-goes s.admission s.filter s.stop (columns s) (rows s) s.levels more is (state.next s).level (spot_now s).level (spot_now s).set x
 
   pub feeds-goes : (v x : ℕ → ℤ) → Goes (feeds s v x)
   unfolding feeds
   feeds-goes v x =
-      goes_bind _ _ (settles-goes x)
+      goes_bind _ _ (works-due-goes x)
       (λ y. fed-goes s.admission s.filter s.stop (columns s) (rows s) s.levels more is (state.next s).level (state.next s).set
       (state.next s).band
       v y)
 
-  pub tolerant-settles : (x : ℕ → ℤ) → settles s x ≡ failed → ⊥
-  tolerant-settles x = goes-not _ (settles-goes x)
+  pub tolerant-works-due : (x : ℕ → ℤ) → works_due s x ≡ failed → ⊥
+  tolerant-works-due x = goes-not _ (works-due-goes x)
 
   pub tolerant-feeds : (v x : ℕ → ℤ) → feeds s v x ≡ failed → ⊥
   tolerant-feeds v x = goes-not _ (feeds-goes v x)

@@ -1,6 +1,6 @@
 -- The walk over the levels: the row wanted, the sets worked out on the way, the place after a row. Assumes nothing.
 use mathlib.Core.Bool.{Bool, true, false}
-use mathlib.Core.Path.{◌≡◌, refl, sym, ap, ◌∙◌}
+use mathlib.Core.Path.{◌≡◌, refl, sym, ap, subst, ◌∙◌}
 use Prim.Native.Nat.{ℕ, zero, suc, ◌+◌, ◌-◌, ◌≤◌, ◌<◌}
 use native.Mathlib.Omega.{arith}
 use native.Mathlib.Numerals.{add-one}
@@ -16,8 +16,8 @@ use Rattle.reader.specs.declared.walk.Next.{Next}
 use Rattle.reader_steps.specs.Sets.{waiting}
 use Rattle.reader_steps.specs.Asked.{next_band}
 use Rattle.reader.specs.Store.{worked_at}
-use Rattle.reader_steps.specs.Places.{spot, band_at, last_of_set, next_up, past, beyond}
-use Rattle.reader.specs.Machine.{settled, finished}
+use Rattle.reader_steps.specs.Places.{spot, band_at, last_of_set, next_up}
+use Rattle.reader.specs.Machine.{due_worked, finished}
 use Rattle.reader_steps.specs.Places as machine
 use Rattle.reader.specs.Inside.{IsLevel, Is, IsNext}
 use Rattle.reader.proofs.PartLaws.{level-wide, level-high}
@@ -82,32 +82,37 @@ module _ (f : ℕ) (W H : Side) (L : ℕ) where
       IsNext f W H d q (record { spot = record { level = k; set = l.set; band = c }; at = l })
   up_next d q k c l is e = record { spot = is-spot q (record { level = k; set = l.set; band = c }) e; at = λ h. is; set = λ h. refl }
 
+  -- as `row_of` gives it
+  pub row_next : (d : ℕ) (q : machine.Spot) (k c : ℕ) (l : Level) (n : Next) → n ≡ record { spot = record { level = k; set = l.set; band = c }; at = l } →
+      IsLevel f W H d (k - 1) l → spot k l.set c ≡ q → IsNext f W H d q n
+  row_next d q k c l n made is e = subst (λ (i : Next). IsNext f W H d q i) (sym made) (up_next d q k c l is e)
+
 module _ (ad f base : ℕ) (W H : Side) (L : ℕ) where
   -- ---- the sets on the way
-  pub work-due-none : (to k n : ℕ) (x : ℕ → ℤ) → k ≤ to → passed x ≡ settled ad f base W H L to k n x
-  unfolding settled
+  pub work-due-none : (to k n : ℕ) (x : ℕ → ℤ) → k ≤ to → passed x ≡ due_worked ad f base W H L to k n x
+  unfolding due_worked
   work-due-none to zero n x h = refl
   work-due-none to (suc k) n x h = rw (le-ltb to (suc k) h)
 
-  pub work-due-failed : (to k n : ℕ) (x : ℕ → ℤ) → to < k → failed ≡ worked_at ad f base W H L (k - 1) n x → failed ≡ settled ad f base W H L to k n x
-  unfolding settled
+  pub work-due-failed : (to k n : ℕ) (x : ℕ → ℤ) → to < k → failed ≡ worked_at ad f base W H L (k - 1) n x → failed ≡ due_worked ad f base W H L to k n x
+  unfolding due_worked
   work-due-failed to zero n x h e = absurd (omega arith)
   work-due-failed to (suc k) n x h e =
       let i : suc k - 1 ≡ k = omega arith in
       rw (lt-ltb to (suc k) h) (bind-failed _ _ (e ∙ ap (λ (j : ℕ). worked_at ad f base W H L j n x) i))
 
   pub work-due-on : (to k n m : ℕ) (x y : ℕ → ℤ) → to < k → (0 < k - 1 → m ≡ waiting f H (k - 1) n) → passed y ≡ worked_at ad f base W H L (k - 1) n x →
-      settled ad f base W H L to (k - 1) m y ≡ settled ad f base W H L to k n x
-  unfolding settled
+      due_worked ad f base W H L to (k - 1) m y ≡ due_worked ad f base W H L to k n x
+  unfolding due_worked
   work-due-on to zero n m x y h w e = absurd (omega arith)
   work-due-on to (suc k) n m x y h w e =
       let i : suc k - 1 ≡ k = omega arith in
       rw (lt-ltb to (suc k) h, i)
-      (same k (rw i at w) ∙ bind-passed _ (settled ad f base W H L to k (waiting f H k n)) y (e ∙ ap (λ (j : ℕ). worked_at ad f base W H L j n x) i))
+      (same k (rw i at w) ∙ bind-passed _ (due_worked ad f base W H L to k (waiting f H k n)) y (e ∙ ap (λ (j : ℕ). worked_at ad f base W H L j n x) i))
     where
-      same : (k : ℕ) → (0 < k → m ≡ waiting f H k n) → settled ad f base W H L to k m y ≡ settled ad f base W H L to k (waiting f H k n) y
+      same : (k : ℕ) → (0 < k → m ≡ waiting f H k n) → due_worked ad f base W H L to k m y ≡ due_worked ad f base W H L to k (waiting f H k n) y
       same zero w = refl
-      same (suc k) w = ap (λ (i : ℕ). settled ad f base W H L to (suc k) i y) (w (omega arith))
+      same (suc k) w = ap (λ (i : ℕ). due_worked ad f base W H L to (suc k) i y) (w (omega arith))
 
   -- ---- the set that a row completes, and the place after it
   module _ (k n c : ℕ) (t : Bool) (x : ℕ → ℤ) (is : t ≡ last_of_set W H L k n c) where
@@ -118,13 +123,3 @@ module _ (ad f base : ℕ) (W H : Side) (L : ℕ) where
     pub finish-set : t ≡ true → worked_at ad f base W H L k n x ≡ finished ad f base W H L k n c x
     unfolding finished
     finish-set e = let u : last_of_set W H L k n c ≡ true = sym is ∙ e in rw u
-
-module _ (f : ℕ) (W H : Side) (L : ℕ) where
-  -- the place after it
-  pub beyond-more : (k n c j : ℕ) (t : Bool) → t ≡ last_of_set W H L k n c → j ≡ k + 1 → t ≡ false → spot j n (c + 1) ≡ beyond f W H L k n c
-  unfolding beyond
-  beyond-more k n c j t is e h = rw (← is, h, e, add-one k)
-
-  pub beyond-set : (k n c : ℕ) (t : Bool) → t ≡ last_of_set W H L k n c → t ≡ true → past f W H L k n ≡ beyond f W H L k n c
-  unfolding beyond
-  beyond-set k n c t is h = rw (← is, h)

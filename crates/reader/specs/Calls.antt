@@ -12,7 +12,7 @@ use Rattle.reader.specs.Limited.{shown}
 use Rattle.reader.specs.Store.{zeroed}
 use Rattle.reader.specs.Answers.{Reply, gives, refused, impossible, Want, Handed, a_row, nothing}
 use Rattle.reader_steps.specs.Places.{place_of, enter}
-use Rattle.reader.specs.State.{columns, needs, wants, settles, feeds, draw_due, fed_reader, drawn_reader, ended_reader}
+use Rattle.reader.specs.State.{columns, needs, wants, works_due, feeds, draw_due, fed_reader, drawn_reader, ended_reader}
 
 -- ---- set-up
 -- a fresh reader with the admission a of the filter f, of the columns W and the rows H of level b of a map, at L levels, with e spare numbers: nothing drawn,
@@ -80,7 +80,7 @@ draw_reply s q =
     (pick (eqb q 14) (impossible (ended_reader s)) (refused q))
 
 unfoldable pub draw_store : Reader → ℕ → (ℕ → ℤ) → ℕ → ℤ
-draw_store s q x = store_after s q (pick (draw_due s) (memory x (settles s x)) x) x
+draw_store s q x = store_after s q (pick (draw_due s) (memory x (works_due s x)) x) x
 
 -- the height row that stands in the store x: row d of level 1
 unfoldable pub height_row : Reader → (ℕ → ℤ) → ℕ → ℤ
@@ -88,4 +88,4 @@ height_row s x c = shown s.stop ((back_of s.filter).made (columns s) s.y s.drawn
 
 -- the output area z afterwards
 unfoldable pub draw_area : Reader → ℕ → (ℕ → ℤ) → (ℕ → ℤ) → ℕ → ℤ
-draw_area s q x z = pick (eqb q 0) (pick (draw_due s) (fronted s.width (height_row s (memory x (settles s x))) z) z) z
+draw_area s q x z = pick (eqb q 0) (pick (draw_due s) (fronted s.width (height_row s (memory x (works_due s x))) z) z) z

@@ -33,21 +33,21 @@ M a f = record {
 -- `band`, finer ones wait
 module _ (P : Rows) (s : Reader) where
   -- level k + 1 is one of the reader's, and not empty
-  pub record Level (k : ℕ) : Type 0 where
+  pub record HasLevel (k : ℕ) : Type 0 where
     pub inside : k < s.levels
     pub cells : has_cells (side_at k (columns s)) (side_at k (rows s)) ≡ true
 
   pub record Holds (x : ℕ → ℤ) : Type 0 where
     pub ready : s.drawn < s.height → Ready s.filter (columns s) (rows s) s.levels s.drawn (spot_now s)
-    pub below : s.drawn < s.height → has_row (rows s) s.level (spot_now s).set ≡ true → (k : ℕ) → Level k → s.level ≤ k →
+    pub below : s.drawn < s.height → has_row (rows s) s.level (spot_now s).set ≡ true → (k : ℕ) → HasLevel k → s.level ≤ k →
         (M s.admission s.filter).Leaves (s.stop + k) (side_at k (columns s)) (side_at k (rows s))
         (bands_at s.admission s.filter s.stop (columns s) (rows s) P s.levels k)
         (needed s.filter (rows s) s.level (spot_now s).set (suc k)) (from (stretch_at s.filter (columns s) k) x)
-    pub before : s.drawn < s.height → (k : ℕ) → Level k → suc k ≤ s.level →
+    pub before : s.drawn < s.height → (k : ℕ) → HasLevel k → suc k ≤ s.level →
         (M s.admission s.filter).Before (s.stop + k) (side_at k (columns s)) (side_at k (rows s))
         (bands_at s.admission s.filter s.stop (columns s) (rows s) P s.levels k)
         (waits_at s.filter (rows s) s.level (spot_now s).set (suc k)) (from (stretch_at s.filter (columns s) k) x)
-    pub got : s.drawn < s.height → (k : ℕ) → Level k → suc k ≡ s.level → (c : Band) → kept_at (eqb (suc k) s.levels) c ≡ true → code c < s.band →
+    pub got : s.drawn < s.height → (k : ℕ) → HasLevel k → suc k ≡ s.level → (c : Band) → kept_at (eqb (suc k) s.levels) c ≡ true → code c < s.band →
         (M s.admission s.filter).Got (side_at k (columns s)) (side_at k (rows s))
         (bands_at s.admission s.filter s.stop (columns s) (rows s) P s.levels k) (spot_now s).set
         (from (stretch_at s.filter (columns s) k) x) c

@@ -11,9 +11,9 @@ use Rattle.reader.specs.Store.{fed_at, worked_at}
 -- of the columns W and the rows H of level b of a map, at L levels
 module _ (a f b : ℕ) (W H : Side) (L : ℕ) where
   -- The sets passed on the way from one level down to another, the coarsest first: those "without a fed row of its own". Each is worked out.
-  unfoldable pub settled : ℕ → ℕ → ℕ → (ℕ → ℤ) → Tried
-  settled to zero n x = passed x
-  settled to (suc k) n x = pick (ltb to (suc k)) (bind (worked_at a f b W H L k n x) (settled to k (waiting f H k n))) (passed x)
+  unfoldable pub due_worked : ℕ → ℕ → ℕ → (ℕ → ℤ) → Tried
+  due_worked to zero n x = passed x
+  due_worked to (suc k) n x = pick (ltb to (suc k)) (bind (worked_at a f b W H L k n x) (due_worked to k (waiting f H k n))) (passed x)
 
   -- "A set completed by a fed row is worked out in that feed"
   unfoldable pub finished : ℕ → ℕ → ℕ → (ℕ → ℤ) → Tried

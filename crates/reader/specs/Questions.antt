@@ -12,7 +12,7 @@ use Rattle.filters.specs.Figures.{store_by}
 use Rattle.reader.specs.declared.Reader.{Reader}
 use Rattle.level.specs.Tried.{fits}
 use Rattle.reader_steps.specs.Sets.{ahead}
-use Rattle.reader.specs.State.{needs, next, next_length, row_due, draw_due, settles, feeds}
+use Rattle.reader.specs.State.{needs, next, next_length, row_due, draw_due, works_due, feeds}
 
 -- the numbers of a stop: the levels up to it and those to work out are the filter's; a level that is left out is no wider than a map, so without a stop
 -- nothing is spare
@@ -132,6 +132,6 @@ draw_question s n x m =
     (ask (not s.ended) 9
     (pick (draw_due s)
     (ask (leb s.width m) 12
-    (ask (fits (settles s x)) 14
+    (ask (fits (works_due s x)) 14
     0))
     0)))

@@ -11,7 +11,7 @@ use Rattle.reader.specs.declared.walk.Level.{Level}
 use Rattle.reader.specs.declared.run_steps.Place.{Place}
 use Rattle.reader.specs.declared.runs.Tally.{Tally}
 use Rattle.reader.specs.Store.{zeroed}
-use Rattle.reader.specs.State.{columns, rows, needs, settles, feeds, fed_reader, drawn_reader, ended_reader}
+use Rattle.reader.specs.State.{columns, rows, needs, works_due, feeds, fed_reader, drawn_reader, ended_reader}
 use Rattle.reader.specs.Calls.{height_row}
 use Rattle.reader.specs.Inside.{Collected, IsLevel}
 use Rattle.reader.specs.Questions.{counts_fit}
@@ -72,8 +72,8 @@ pub record FedTo (s : Reader) (v x y : ℕ → ℤ) (p : Place) : Type 0 where
   pub own : Own (reader_at s p) p.at
 
 pub record DrawnTo (s : Reader) (x y z z' : ℕ → ℤ) (p : Place) : Type 0 where
-  pub passes : p.ended ≡ false → (passed y ≡ settles s x) × (reader_at s p ≡ drawn_reader s) × (z' ≡ fronted s.width (height_row s y) z)
-  pub ends : p.ended ≡ true → (failed ≡ settles s x) × (reader_at s p ≡ ended_reader s) × (y ≡ zeroed (needs s) x) × (z' ≡ z)
+  pub passes : p.ended ≡ false → (passed y ≡ works_due s x) × (reader_at s p ≡ drawn_reader s) × (z' ≡ fronted s.width (height_row s y) z)
+  pub ends : p.ended ≡ true → (failed ≡ works_due s x) × (reader_at s p ≡ ended_reader s) × (y ≡ zeroed (needs s) x) × (z' ≡ z)
   pub own : Own (reader_at s p) p.at
 
 -- ---- a run

@@ -10,7 +10,7 @@ use Rattle.reader_steps.specs.Asked.{named}
 use Rattle.reader.specs.Answers.{Want, row, draw_now, done, ended}
 use Rattle.level.specs.Tried.{Tried, bind}
 use Rattle.reader_steps.specs.Places.{Spot, Place, place, spot_of, place_of, next_up, spot_fed, enter}
-use Rattle.reader.specs.Machine.{settled, fed_on}
+use Rattle.reader.specs.Machine.{due_worked, fed_on}
 use Rattle.filters.specs.Figures.{store_by}
 
 -- the columns and rows that it reads: its map's, with a stop those of the map's low-low part there (document 02, Q-6)
@@ -60,12 +60,12 @@ module _ (s : Reader) where
       done)
 
   -- the sets that wait, worked out
-  unfoldable pub settles : (ℕ → ℤ) → Tried
-  settles x = settled s.admission s.filter s.stop (columns s) (rows s) s.levels next.level spot_now.level spot_now.set x
+  unfoldable pub works_due : (ℕ → ℤ) → Tried
+  works_due x = due_worked s.admission s.filter s.stop (columns s) (rows s) s.levels next.level spot_now.level spot_now.set x
 
   -- "ahead of that call's own work": then the run v is fed
   unfoldable pub feeds : (ℕ → ℤ) → (ℕ → ℤ) → Tried
-  feeds v x = bind (settles x) (fed_on s.admission s.filter s.stop (columns s) (rows s) s.levels next.level next.set next.band v)
+  feeds v x = bind (works_due x) (fed_on s.admission s.filter s.stop (columns s) (rows s) s.levels next.level next.set next.band v)
 
   -- ---- the reader after it
   abbrev pub moved_to : ℕ → Place → Reader

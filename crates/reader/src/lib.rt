@@ -17,7 +17,7 @@ ghost use Rattle.wavelet.specs.Shape as shape;
 ghost use Rattle.filters.specs.Filters.{filter_of};
 ghost use Rattle.areas.specs.Areas.{heights_at};
 ghost use Rattle.lifting.specs.Halves.{fronted};
-ghost use Rattle.reader_steps.specs.Places.{spot, place_of};
+ghost use Rattle.reader_steps.specs.Places.{spot, place, place_of};
 ghost use Rattle.filters.specs.Figures.{store_by};
 ghost use Rattle.reader.specs.Store.{zeroed};
 ghost use Rattle.reader.specs.Inside.{Counts, Small, Due};
@@ -33,6 +33,7 @@ ghost use Rattle.reader.specs.Calls.{draw_reply, draw_store, draw_area, height_r
 use areas::copies;
 use reader_steps::places;
 use reader_steps::places::{Sides, Spot};
+use steps::Standing;
 use synthesis::back;
 use walk::Next;
 use wavelet::shape::Shape;
@@ -292,14 +293,7 @@ impl Reader {
         let l = steps::own_level(self);
         let c = steps::own_band(self, l);
         if c < 4 {
-            return self.want_for(Next {
-                spot: Spot {
-                    level: self.level,
-                    set: l.set,
-                    band: c,
-                },
-                at: l,
-            });
+            return self.want_for(walk::row_of(self.level, l, c));
         }
         self.want_for(walk::next_up(
             self.filter,
@@ -310,7 +304,7 @@ impl Reader {
             self.levels,
             self.drawn,
             self.level,
-            l,
+            walk::copied(l),
             self.band,
         ))
     }
@@ -373,7 +367,8 @@ impl Reader {
         }
         let complete = steps::completes(self, next);
         if steps::feed_row(self, store, next, complete, run) {
-            return Fed::Passed(self.moved(self.drawn, steps::spot_fed(self, next, complete)));
+            let p = steps::standing_fed(self, next, complete);
+            return Fed::Passed(self.placed(self.drawn, p));
         }
         Fed::Impossible(self.ending(store))
     }
@@ -454,6 +449,20 @@ impl Reader {
         requires { Small (columns self) (rows self) drawn × (p.level ≤ max_levels) }
         ensures { result ≡ moved_to self drawn (place_of self.filter (rows self) drawn (spot p.level p.set p.band)) }
     {
+        self.placed(
+            drawn,
+            Standing {
+                level: p.level,
+                back: steps::back_of(self, drawn, p),
+                band: p.band,
+            },
+        )
+    }
+
+    // The same, with its sets counted back.
+    fn placed(self, drawn: usize, p: Standing) -> Reader
+        ensures { result ≡ moved_to self drawn (place p.level p.back p.band) }
+    {
         Reader {
             width: self.width,
             height: self.height,
@@ -462,7 +471,7 @@ impl Reader {
             y: self.y,
             drawn,
             level: p.level,
-            back: steps::back_of(self, drawn, p),
+            back: p.back,
             band: p.band,
             ended: false,
             filter: self.filter,
@@ -473,7 +482,7 @@ impl Reader {
     }
 
     // The reader ended by 14: the needed part of the line store is zeroed, its other numbers stay.
-    pub fn ending(self, store: &mut [i32]) -> Reader
+    fn ending(self, store: &mut [i32]) -> Reader
         requires { Counts self × (needs self ≤ length store.old) }
         ensures value { result ≡ ended_reader self }
         ensures store_after { at store.new ≡ zeroed (needs self) (at store.old) }

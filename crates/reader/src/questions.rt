@@ -263,5 +263,5 @@ pub fn draw_due(s: Reader) -> bool
     if s.level == 0 {
         return true;
     }
-    steps::next_of(s).spot.level == 0
+    steps::next_up(s).spot.level == 0
 }

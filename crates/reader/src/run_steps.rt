@@ -15,7 +15,7 @@ ghost use Rattle.level.specs.Rebuilding.{Kept};
 ghost use Rattle.reader_steps.specs.Asked.{named};
 ghost use Rattle.reader_steps.specs.Places.{spot, past, spot_fed, enter};
 ghost use Rattle.reader.specs.Store.{fed_at, zeroed};
-ghost use Rattle.reader.specs.State.{columns, rows, needs, next, next_length, settles, feeds, ended_reader};
+ghost use Rattle.reader.specs.State.{columns, rows, needs, next, next_length, works_due, feeds, ended_reader};
 ghost use Rattle.reader.specs.Calls.{height_row};
 ghost use Rattle.reader.specs.Inside.{Counts, Small, Is, IsLevel, Due, Completing};
 ghost use Rattle.reader.specs.RunSteps.{reader_at, Own, place_fits, IsPlace, FedTo, DrawnTo};
@@ -119,6 +119,22 @@ fn kept(m: Level, drawn: usize, p: Spot) -> Place
     }
 }
 
+// A place without a level.
+fn on_top(drawn: usize, p: Spot) -> Place
+    ensures { (result.drawn ≡ drawn) × (result.level ≡ 0) × (result.back ≡ drawn - p.set) × (result.band ≡ p.band) × (result.ended ≡ false) }
+{
+    let none = walk::no_row();
+    let l = none.at;
+    Place {
+        drawn,
+        level: 0,
+        back: sets::less(drawn, p.set),
+        band: p.band,
+        ended: false,
+        at: l,
+    }
+}
+
 // A place whose level is to be found.
 fn placed(
     filter: usize,
@@ -133,16 +149,7 @@ fn placed(
     ensures { IsPlace filter (side x width) (side y height) drawn (spot p.level p.set p.band) result }
 {
     if p.level == 0 {
-        let none = walk::no_row();
-        let l = none.at;
-        return Place {
-            drawn,
-            level: 0,
-            back: sets::less(drawn, p.set),
-            band: p.band,
-            ended: false,
-            at: l,
-        };
+        return on_top(drawn, p);
     }
     let m = walk::level_at(filter, x, width, y, height, drawn, p.level - 1);
     kept(m, drawn, p)
@@ -158,17 +165,19 @@ pub fn next_from(s: Reader, l: Level) -> Next
     }
     let c = steps::own_band(s, l);
     if c < 4 {
-        return Next {
-            spot: Spot {
-                level: s.level,
-                set: l.set,
-                band: c,
-            },
-            at: l,
-        };
+        return walk::row_of(s.level, l, c);
     }
     walk::next_up(
-        s.filter, s.x, s.width, s.y, s.height, s.levels, s.drawn, s.level, l, s.band,
+        s.filter,
+        s.x,
+        s.width,
+        s.y,
+        s.height,
+        s.levels,
+        s.drawn,
+        s.level,
+        walk::copied(l),
+        s.band,
     )
 }
 
@@ -196,35 +205,10 @@ fn put_row(
     copies::copy(run, &mut store[a..e]);
 }
 
-// Where the reader goes on after the set of n is worked out: to the next finer level, if a row is made that waits, else to the next set.
-fn spot_past(s: Reader, n: Next) -> Spot
-    requires { Counts s × Due s n × (0 < n.spot.level) }
-    ensures { Is (past s.filter (columns s) (rows s) s.levels (n.spot.level - 1) n.spot.set) result }
-{
-    let k = n.spot.level - 1;
-    if !sets::is_making(s.filter, n.at.y, n.at.height, n.at.set) {
-        return walk::begin(s.filter, s.levels, n.spot.level, n.at, n.at.set + 1);
-    }
-    let r = sets::first_row(s.filter, n.at.y, n.at.height, n.at.set);
-    if k == 0 {
-        return Spot {
-            level: 0,
-            set: r,
-            band: 1,
-        };
-    }
-    let m = walk::finer(s.filter, s.x, s.width, s.y, s.height, s.drawn, k, n.at);
-    Spot {
-        level: k,
-        set: m.set,
-        band: 1,
-    }
-}
-
 // The sets that wait, down to the level of the row wanted, worked out; most often none does.
 fn work_due(s: Reader, l: Level, store: &mut [i32], to: usize) -> bool
     requires { Counts s × Own s l × (to ≡ (next s).level) × (store_by s.filter (columns s) s.levels ≤ length store.old) }
-    ensures store_after { outcome result (at store.new) ≡ settles s (at store.old) }
+    ensures store_after { outcome result (at store.new) ≡ works_due s (at store.old) }
     ensures kept { Kept (store_by s.filter (columns s) s.levels) (at store.old) (at store.new) }
 {
     if s.level <= to {
@@ -242,7 +226,7 @@ fn work_due(s: Reader, l: Level, store: &mut [i32], to: usize) -> bool
         s.drawn,
         store,
         s.level,
-        l,
+        walk::copied(l),
         to,
     )
 }
@@ -286,7 +270,7 @@ fn feed_row(s: Reader, l: Level, store: &mut [i32], n: Next, complete: bool, run
         s.drawn,
         store,
         k,
-        n.at,
+        walk::copied(n.at),
     )
 }
 
@@ -307,22 +291,63 @@ fn ending(s: Reader, l: Level, store: &mut [i32]) -> Place
     }
 }
 
-// Where the reader goes on after the row of n: another band of the set, or past the set.
-fn place_past(s: Reader, n: Next, complete: bool) -> Place
+// Where the reader is after the set of n is worked out: at the next finer level, if a row is made that waits, else at the next set.
+fn place_past(s: Reader, n: Next) -> Place
+    requires { Counts s × Due s n × (0 < n.spot.level) }
+    ensures { IsPlace s.filter (columns s) (rows s) s.drawn
+        (past s.filter (columns s) (rows s) s.levels (n.spot.level - 1) n.spot.set) result }
+{
+    let k = n.spot.level - 1;
+    if !sets::is_making(s.filter, n.at.y, n.at.height, n.at.set) {
+        let q = walk::begin(
+            s.filter,
+            s.levels,
+            n.spot.level,
+            walk::copied(n.at),
+            n.at.set + 1,
+        );
+        return placed(s.filter, s.x, s.width, s.y, s.height, s.drawn, q);
+    }
+    if k == 0 {
+        let r = sets::first_row(s.filter, n.at.y, n.at.height, n.at.set);
+        return on_top(
+            s.drawn,
+            Spot {
+                level: 0,
+                set: r,
+                band: 1,
+            },
+        );
+    }
+    let m = walk::finer(
+        s.filter,
+        s.x,
+        s.width,
+        s.y,
+        s.height,
+        s.drawn,
+        k,
+        walk::copied(n.at),
+    );
+    kept(
+        m,
+        s.drawn,
+        Spot {
+            level: k,
+            set: m.set,
+            band: 1,
+        },
+    )
+}
+
+// Where the reader is after the row of n: at another band of the set, or past the set.
+fn place_fed(s: Reader, n: Next, complete: bool) -> Place
     requires { Counts s × Due s n × (0 < n.spot.level) × Completing s n complete }
     ensures { IsPlace s.filter (columns s) (rows s) s.drawn
         (spot_fed s.filter (columns s) (rows s) s.levels (next s).level (next s).set (next s).band) result }
 {
     if complete {
-        return placed(
-            s.filter,
-            s.x,
-            s.width,
-            s.y,
-            s.height,
-            s.drawn,
-            spot_past(s, n),
-        );
+        return place_past(s, n);
     }
     kept(
         n.at,
@@ -343,7 +368,7 @@ pub fn feed(s: Reader, l: Level, store: &mut [i32], n: Next, run: &[i32]) -> Pla
 {
     let complete = steps::completes(s, n);
     if feed_row(s, l, store, n, complete, run) {
-        return place_past(s, n, complete);
+        return place_fed(s, n, complete);
     }
     ending(s, l, store)
 }

@@ -5,15 +5,18 @@ ghost use Rattle.numbers.specs.Signal.{at};
 ghost use Rattle.areas.specs.Areas.{heights_at};
 ghost use Rattle.calls.specs.Lists.{seen};
 ghost use Rattle.reader.specs.State.{needs, next};
-ghost use Rattle.reader.specs.Questions.{counts_fit};
+ghost use Rattle.reader.specs.Questions.{counts_fit, want_question};
 ghost use Rattle.reader.specs.Inside.{Due};
+ghost use Rattle.reader.specs.Answers.{of_wanted};
+ghost use Rattle.reader.specs.Calls.{want_reply};
+ghost use Rattle.reader.specs.Reading as all;
 ghost use Rattle.reader.specs.Last as last;
 ghost use Rattle.reader.specs.Runs.{begin, run_question, run_reply, progress, of_ran, left_by};
 ghost use Rattle.reader.specs.RunSteps.{reader_at, Own, Formed, run_at, where_some, Turned, Over};
 
 use crate::run_steps::Place;
 use crate::walk::Next;
-use crate::{Reader, last, limited, questions, run_steps, steps};
+use crate::{Reader, Wanted, last, limited, questions, run_steps, steps, walk};
 use areas::copies;
 
 // The numbers used and the height rows drawn.
@@ -281,6 +284,40 @@ fn go(s: Reader, p: Place, store: &mut [i32], run: &[i32], out: &mut [u16]) -> T
         t = one_turn(run_steps::reader_at(s, q), q, store, run, out, d);
     }
     t
+}
+
+// What a reader wants, for a caller that keeps one over many calls of its own (the loader of ground files). The reader's own call has its steps inside, which
+// the compiler would take out of it if both called one function.
+pub fn want(s: Reader) -> Wanted
+    ensures { of_wanted result ≡ all.want_reply s (all.want_question s) }
+{
+    if s.levels == 0 {
+        return last::want(s);
+    }
+    want_level(s)
+}
+
+fn want_level(s: Reader) -> Wanted
+    ensures { of_wanted result ≡ want_reply s (want_question s) }
+{
+    if !questions::counts_fit(s) {
+        return Wanted::Refused(1);
+    }
+    if s.ended {
+        return Wanted::Ended;
+    }
+    if s.height <= s.drawn {
+        return Wanted::Done;
+    }
+    if s.level == 0 {
+        return Wanted::Draw;
+    }
+    let l = steps::own_level(s);
+    let c = steps::own_band(s, l);
+    if c < 4 {
+        return s.want_for(walk::row_of(s.level, l, c));
+    }
+    s.want_for(steps::next_up(s))
 }
 
 // Questions 1, 5 and 9.

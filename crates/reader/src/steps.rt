@@ -6,9 +6,9 @@ ghost use Rattle.level.specs.Tried.{outcome};
 ghost use Rattle.wavelet.specs.Limits.{max_levels};
 ghost use Rattle.filters.specs.Figures.{store_by};
 ghost use Rattle.reader_steps.specs.Sets.{needed};
-ghost use Rattle.reader_steps.specs.Places.{spot, place_of, past, spot_fed};
-ghost use Rattle.reader.specs.State.{columns, rows, next, next_row, next_length, settles, feeds};
-ghost use Rattle.reader.specs.Inside.{Counts, Small, Is, Collected, Due, Completing};
+ghost use Rattle.reader_steps.specs.Places.{spot, place, place_of, past, spot_fed};
+ghost use Rattle.reader.specs.State.{columns, rows, next, next_row, next_length, works_due, feeds};
+ghost use Rattle.reader.specs.Inside.{Counts, Small, Collected, Due, Completing};
 ghost use Rattle.level.specs.Rebuilding.{Kept};
 
 use crate::walk::{Level, Next};
@@ -55,17 +55,38 @@ pub fn next_of(s: Reader) -> Next
     let l = own_level(s);
     let c = own_band(s, l);
     if c < 4 {
-        return Next {
-            spot: Spot {
-                level: s.level,
-                set: l.set,
-                band: c,
-            },
-            at: l,
-        };
+        return walk::row_of(s.level, l, c);
     }
     walk::next_up(
-        s.filter, s.x, s.width, s.y, s.height, s.levels, s.drawn, s.level, l, s.band,
+        s.filter,
+        s.x,
+        s.width,
+        s.y,
+        s.height,
+        s.levels,
+        s.drawn,
+        s.level,
+        walk::copied(l),
+        s.band,
+    )
+}
+
+// The same of a reader that collects a level, by the rare walk alone.
+pub fn next_up(s: Reader) -> Next
+    requires { Counts s × (0 < s.level) }
+    ensures { Due s result }
+{
+    walk::next_up(
+        s.filter,
+        s.x,
+        s.width,
+        s.y,
+        s.height,
+        s.levels,
+        s.drawn,
+        s.level,
+        own_level(s),
+        s.band,
     )
 }
 
@@ -107,7 +128,7 @@ pub fn completes(s: Reader, n: Next) -> bool
 // The sets that wait, down to the level of the row wanted, worked out; most often none does.
 pub fn work_due(s: Reader, store: &mut [i32], to: usize) -> bool
     requires { Counts s × (to ≡ (next s).level) × (store_by s.filter (columns s) s.levels ≤ length store.old) }
-    ensures store_after { outcome result (at store.new) ≡ settles s (at store.old) }
+    ensures store_after { outcome result (at store.new) ≡ works_due s (at store.old) }
     ensures kept { Kept (store_by s.filter (columns s) s.levels) (at store.old) (at store.new) }
 {
     if s.level <= to {
@@ -130,10 +151,10 @@ pub fn work_due(s: Reader, store: &mut [i32], to: usize) -> bool
     )
 }
 
-// The same before a draw, where no row is wanted. A function of its own: each call then has its settling inside.
+// The same before a draw, where no row is wanted. A function of its own: each call then has this work inside.
 pub fn work_all_due(s: Reader, store: &mut [i32]) -> bool
     requires { Counts s × (0 ≡ (next s).level) × (store_by s.filter (columns s) s.levels ≤ length store.old) }
-    ensures store_after { outcome result (at store.new) ≡ settles s (at store.old) }
+    ensures store_after { outcome result (at store.new) ≡ works_due s (at store.old) }
     ensures kept { Kept (store_by s.filter (columns s) s.levels) (at store.old) (at store.new) }
 {
     if s.level == 0 {
@@ -195,48 +216,79 @@ pub fn feed_row(s: Reader, store: &mut [i32], n: Next, complete: bool, run: &[i3
         s.drawn,
         store,
         k,
-        n.at,
+        walk::copied(n.at),
     )
 }
 
-// Where the reader goes on after the set of n is worked out: to the next finer level, if a row is made that waits, else to the next set.
-fn spot_past(s: Reader, n: Next) -> Spot
+// Where a reader is: its level, how many sets the one collected is before the last that the row waited for needs, and the first band that may be next.
+#[derive(Clone, Copy)]
+pub struct Standing {
+    pub level: usize,
+    pub back: usize,
+    pub band: usize,
+}
+
+// Where the reader is after the set of n is worked out: at the next finer level, if a row is made that waits, else at the next set.
+fn standing_past(s: Reader, n: Next) -> Standing
     requires { Counts s × Due s n × (0 < n.spot.level) }
-    ensures { Is (past s.filter (columns s) (rows s) s.levels (n.spot.level - 1) n.spot.set) result }
+    ensures { place result.level result.back result.band ≡
+        place_of s.filter (rows s) s.drawn (past s.filter (columns s) (rows s) s.levels (n.spot.level - 1) n.spot.set) }
 {
     let k = n.spot.level - 1;
     if !sets::is_making(s.filter, n.at.y, n.at.height, n.at.set) {
-        return walk::begin(s.filter, s.levels, n.spot.level, n.at, n.at.set + 1);
+        let q = walk::begin(
+            s.filter,
+            s.levels,
+            n.spot.level,
+            walk::copied(n.at),
+            n.at.set + 1,
+        );
+        return Standing {
+            level: q.level,
+            back: back_of(s, s.drawn, q),
+            band: q.band,
+        };
     }
-    let r = sets::first_row(s.filter, n.at.y, n.at.height, n.at.set);
     if k == 0 {
-        return Spot {
+        let r = sets::first_row(s.filter, n.at.y, n.at.height, n.at.set);
+        return Standing {
             level: 0,
-            set: r,
+            back: sets::less(s.drawn, r),
             band: 1,
         };
     }
-    let m = walk::finer(s.filter, s.x, s.width, s.y, s.height, s.drawn, k, n.at);
-    Spot {
+    let m = walk::finer(
+        s.filter,
+        s.x,
+        s.width,
+        s.y,
+        s.height,
+        s.drawn,
+        k,
+        walk::copied(n.at),
+    );
+    Standing {
         level: k,
-        set: m.set,
+        back: sets::less(m.last, m.set),
         band: 1,
     }
 }
 
-// Where the reader goes on after that row: another band of the set, or past the set.
-pub fn spot_fed(s: Reader, n: Next, complete: bool) -> Spot
+// Where the reader is after that row: at another band of the set, or past the set.
+pub fn standing_fed(s: Reader, n: Next, complete: bool) -> Standing
     requires { Counts s × Due s n × (0 < n.spot.level) × Completing s n complete }
-    ensures { Is (spot_fed s.filter (columns s) (rows s) s.levels (next s).level (next s).set (next s).band) result }
+    ensures { place result.level result.back result.band ≡
+        place_of s.filter (rows s) s.drawn
+        (spot_fed s.filter (columns s) (rows s) s.levels (next s).level (next s).set (next s).band) }
 {
     if !complete {
-        return Spot {
+        return Standing {
             level: n.spot.level,
-            set: n.spot.set,
+            back: sets::less(n.at.last, n.at.set),
             band: n.spot.band + 1,
         };
     }
-    spot_past(s, n)
+    standing_past(s, n)
 }
 
 // The last set of a level that row d needs; of level 0 row d.

@@ -20,7 +20,7 @@ ghost use Rattle.reader.specs.Admission.{work_by, Admits};
 ghost use Rattle.reader.specs.Store.{fed_at, worked_at, zeroed};
 ghost use Rattle.reader_steps.specs.Sets.{waiting};
 ghost use Rattle.reader_steps.specs.Places.{spot, band_at, next_up, descend};
-ghost use Rattle.reader.specs.Machine.{settled};
+ghost use Rattle.reader.specs.Machine.{due_worked};
 ghost use Rattle.reader.specs.Inside.{Small, IsLevel, IsAt, Is, IsNext};
 
 use areas::copies;
@@ -109,6 +109,21 @@ pub fn at_set(l: Level, n: usize) -> Level
     }
 }
 
+// A level once more, for a rare step that is a function of its own: what is handed to one lies in memory from the beginning of the call on.
+pub fn copied(l: Level) -> Level
+    ensures { result ≡ l }
+{
+    Level {
+        start: l.start,
+        x: l.x,
+        width: l.width,
+        y: l.y,
+        height: l.height,
+        set: l.set,
+        last: l.last,
+    }
+}
+
 // Level k, at the set that waits while l, level k + 1, is at its own.
 pub fn finer(
     filter: usize,
@@ -165,6 +180,20 @@ pub fn no_row() -> Next
             set: 0,
             last: 0,
         },
+    }
+}
+
+// The row of a band of the set of l, this level.
+pub fn row_of(level: usize, l: Level, band: usize) -> Next
+    ensures { result ≡ record { spot = record { level = level; set = l.set; band = band }; at = l } }
+{
+    Next {
+        spot: Spot {
+            level,
+            set: l.set,
+            band,
+        },
+        at: l,
     }
 }
 
@@ -333,7 +362,7 @@ pub fn work_due(
         (0 < from → IsLevel filter (side x width) (side y height) drawn (from - 1) l) ×
         (store_by filter (side x width) levels ≤ length store.old) × Admits admission filter base (side x width) (side y height) }
     ensures store_after { outcome result (at store.new) ≡
-        settled admission filter base (side x width) (side y height) levels to from l.set (at store.old) }
+        due_worked admission filter base (side x width) (side y height) levels to from l.set (at store.old) }
     ensures kept { Kept (store_by filter (side x width) levels) (at store.old) (at store.new) }
 {
     let mut k = from;

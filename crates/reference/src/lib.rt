@@ -4,5 +4,5 @@
 pub mod area;
 pub mod heights;
 pub mod order;
-pub mod t800;
 pub mod tally;
+pub mod transform;

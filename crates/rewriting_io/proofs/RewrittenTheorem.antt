@@ -19,7 +19,7 @@ use Rattle.pgm.specs.Limits.{max_picture_width}
 use Rattle.pgm.specs.InputSteps.{read_byte}
 use Rattle.pgm.proofs.InputCases.{phase-on}
 use Rattle.picture.specs.Rewriting.{rewriting_of, due_of}
-use Rattle.picture.specs.Machine.{started, Kept, kept, settled, step_to, byte_read, end_kept, Move, partly, wholly, reads, busy_on}
+use Rattle.picture.specs.Machine.{started, Kept, kept, part_ended, step_to, byte_read, end_kept, Move, partly, wholly, reads, busy_on}
 use Rattle.picture.proofs.RewritingTheorem.{end-rests, moves-prefix, moves-over, moves-whole, moves-partly}
 use Rattle.rounds.specs.Machine.{Machine}
 use Rattle.rounds.specs.Rounds.{most_rounds, over, failed, ends, Rounds, Ran, Run, before, after}
@@ -34,13 +34,13 @@ unfolding byte_read
 byte-rests s b h =
     rw (sym (phase-on 0 s.state.input b (λ e. omega arith) (λ e. omega arith) (λ e. omega arith) (λ e. omega arith))) h
 
-settled-rests : (s : Kept) → 3 < s.state.input.phase → 3 < (settled s.state).input.phase
-unfolding settled
-settled-rests s h = h
+part-ended-rests : (s : Kept) → 3 < s.state.input.phase → 3 < (part_ended s.state).input.phase
+unfolding part_ended
+part-ended-rests s h = h
 
 rests : {s s' : Kept} {u t : List ℕ} → 3 < s.state.input.phase → Move s u t s' → 3 < s'.state.input.phase
 rests h (partly m x y eu et es) = rw (ap (λ q. q.state.input.phase) es) h
-rests {s} h (wholly x eu et es) = rw (ap (λ q. q.state.input.phase) es) (settled-rests s h)
+rests {s} h (wholly x eu et es) = rw (ap (λ q. q.state.input.phase) es) (part-ended-rests s h)
 rests {s} h (reads b x eu et es) = rw (ap (λ q. q.state.input.phase) es) (byte-rests s b h)
 
 pub rewriting-laws : MachineLaws rewriting_machine

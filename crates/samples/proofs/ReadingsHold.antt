@@ -60,10 +60,10 @@ unfolding signal.windowed signal.spliced signal.stored word.wrap32 tests.every l
     back.stands_of back.row_place_of columns.row_before columns.row_after columns.row_by_four columns.along_of columns.unupdated_of columns.even_of
     columns.odd_of work.own_even work.pair_of work.even_done work.pair_made work.first_made work.pair_before work.pairs_made work.last_made work.rest_made
     work.most_made work.rows_made work.set_made work.set_worked calls.fresh_by calls.set_up_store calls.feed_reply calls.store_after calls.feed_store
-    calls.draw_reply calls.draw_store calls.height_row calls.draw_area demand.event demand.next machine.settled machine.finished machine.fed_on
+    calls.draw_reply calls.draw_store calls.height_row calls.draw_area demand.event demand.next machine.due_worked machine.finished machine.fed_on
     gate.counts_fit gate.counts_inside gate.stop_fits gate.admission_fits gate.store_fits gate.run_fits gate.feed_question gate.draw_question state.next state.next_row
     state.next_length
     state.unfinished
-    state.row_due state.draw_due state.wants state.settles state.feeds state.fed_reader state.drawn_reader state.ended_reader store.stretch_at store.from
+    state.row_due state.draw_due state.wants state.works_due state.feeds state.fed_reader state.drawn_reader state.ended_reader store.stretch_at store.from
     store.behind store.zeroed store.fed_at places.has_set store.worked_at outcome
 readings-hold = also refl (also refl (also refl (also refl (also refl none))))

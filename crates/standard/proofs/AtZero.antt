@@ -101,14 +101,6 @@ module _ (keep : ℤ → ℤ) (W H : ℕ) (g : Grid) where
       (approximation-zero k) b r c p q)
 
 -- ---- the plane
-pub half-at-zero : (N i : ℕ) → half_at (side 0 N) i ≡ plane.half_at N i
-unfolding half_at plane.half_at
-half-at-zero N i = simp (count-zero lo N)
-
-pub place-in-zero : (N i : ℕ) → place_in (side 0 N) i ≡ plane.place_in N i
-unfolding place_in plane.place_in
-place-in-zero N i = simp (count-zero lo N)
-
 pub in-corner-zero : (W H r c : ℕ) → in_corner (side 0 W) (side 0 H) r c ≡ both (ltb r (line.count lo H)) (ltb c (line.count lo W))
 unfolding in_corner
 in-corner-zero W H r c = simp (count-zero lo W, count-zero lo H)

@@ -5,8 +5,8 @@ ghost use Rattle.states.specs.LoaderAnswers.{taken_number, loaded_words, taken_o
 ghost use Rattle.states.specs.LoaderState.{is_loader, loader_of, loader_words};
 
 use crate::array;
+use ground_loader::coming::Coming;
 use ground_loader::loader::{Loaded, Loader, LoaderDrawn};
-use ground_loader::rows::Coming;
 use reader::Reader;
 
 // Is this the state array of a loader?

@@ -12,22 +12,22 @@ use Rattle.numbers.specs.Signal.{pick, both}
 use Rattle.numbers.specs.Word.{wrap32}
 use Rattle.lifting.specs.Line.{predicted, updated}
 use Rattle.lifting.specs.Rows.{rows_changed}
-use Rattle.strokes.specs.Strokes.{stretch_in}
+use Rattle.strokes.specs.Strokes.{span_in}
 use Rattle.strokes.specs.Local.{row_after, row_before, last_done, turn_done, unread_before, unread_past, used_in}
 use Rattle.strokes.specs.declared.direction.Direction.{Direction}
 
 -- ---- question 19 in one direction
 module _ (first n end : ℕ) where
-  pub in-none : n < 1 → false ≡ stretch_in first n end
-  unfolding stretch_in
+  pub in-none : n < 1 → false ≡ span_in first n end
+  unfolding span_in
   in-none b = simp (lt-leb 1 n b)
 
-  pub in-long : end < n → false ≡ stretch_in first n end
-  unfolding stretch_in
+  pub in-long : end < n → false ≡ span_in first n end
+  unfolding span_in
   in-long b = simp (le-leb 1 n (omega arith), lt-leb (first + n) end (omega arith))
 
-  pub in-fits : 1 ≤ n → n ≤ end → leb first (end - n) ≡ stretch_in first n end
-  unfolding stretch_in
+  pub in-fits : 1 ≤ n → n ≤ end → leb first (end - n) ≡ span_in first n end
+  unfolding span_in
   in-fits a b =
       elim (dec_lt (end - n) first) [
         | yes p ↦ simp (le-leb 1 n a, lt-leb first (end - n) p, lt-leb (first + n) end (omega arith))

@@ -37,7 +37,7 @@ use Rattle.map_levels.proofs.GridSweep.{within_in, row_room}
 use Rattle.map_levels.proofs.LevelCalls.{moved-part}
 use Rattle.map_levels.proofs.CallLaws.{map-rows, map-doubling, map-places, heights-map}
 use Rattle.strokes.specs.Reach.{Span, in_reach}
-use Rattle.strokes.specs.Strokes.{column_span, row_span, mended_cell, mended_plane, stretch_in, lies_in}
+use Rattle.strokes.specs.Strokes.{column_span, row_span, mended_cell, mended_plane, span_in, lies_in}
 use Rattle.strokes.specs.Local.{Lies, Placed, Agrees, widened_of, grid_mended, changed_of, unread_before, unread_past, read_of, patch, patch_copied}
 use Rattle.strokes.proofs.PatchLaws.{patch-in}
 use Rattle.strokes.proofs.CoverLaws.{Held}
@@ -47,8 +47,8 @@ use Rattle.strokes.proofs.DirectionLaws.{widened-placed}
 use Rattle.strokes.proofs.BandLaws.{first-held}
 
 -- ---- where the rectangle lies
-stretch-yes : (f n N : ℕ) → stretch_in f n N ≡ true → (1 ≤ n) × (f + n ≤ N)
-unfolding stretch_in
+stretch-yes : (f n N : ℕ) → span_in f n N ≡ true → (1 ≤ n) × (f + n ≤ N)
+unfolding span_in
 stretch-yes f n N e = let k = both_yes _ _ e in (leb-true 1 n k.0, leb-true (f + n) N k.1)
 
 pub lies-yes : (q : Rectangle) (W H : ℕ) → lies_in q W H ≡ true → (1 ≤ q.width) × (q.left + q.width ≤ W) × (1 ≤ q.height) × (q.top + q.height ≤ H)

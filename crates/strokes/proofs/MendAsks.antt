@@ -12,12 +12,12 @@ use borrow.Author.Tests.{le-leb}
 use Rattle.wavelet.specs.Asks.{Asks, Passes, Width, Height, Levels, MapAsks}
 use Rattle.wavelet.proofs.AskLaws.{asked, passed, went, shape-passed, shape-went}
 use Rattle.map_questions.proofs.MapAsks.{sizes-ask}
-use Rattle.strokes.specs.Strokes.{stretch_in, lies_in, InMap, mend_question}
+use Rattle.strokes.specs.Strokes.{span_in, lies_in, InMap, mend_question}
 use Rattle.strokes.specs.declared.rectangle.Rectangle.{Rectangle}
 use Rattle.strokes.proofs.MapCall.{lies-yes}
 
 lies-exactly : (q : Rectangle) (W H : ℕ) → lies_in q W H ≡ true ↔ InMap q W H
-unfolding lies_in stretch_in
+unfolding lies_in span_in
 lies-exactly q W H = (
   λ e. lies-yes q W H e,
   λ h. simp (le-leb 1 q.width h.0, le-leb (q.left + q.width) W h.1, le-leb 1 q.height h.2, le-leb (q.top + q.height) H h.3),

@@ -31,12 +31,12 @@ unfoldable pub mended_plane : ℕ → ℕ → ℕ → Rectangle → (ℕ → ℤ
 mended_plane L W H q g z = flat W (mended_cell L W H q (cells W g) (cells W z))
 
 -- n places from the first on are some, and lie below the end
-unfoldable pub stretch_in : ℕ → ℕ → ℕ → Bool
-stretch_in first n end = both (leb 1 n) (leb (first + n) end)
+unfoldable pub span_in : ℕ → ℕ → ℕ → Bool
+span_in first n end = both (leb 1 n) (leb (first + n) end)
 
 -- question 19: "Refused: 19, after 5, if the rectangle is empty or leaves the map."
 unfoldable pub lies_in : Rectangle → ℕ → ℕ → Bool
-lies_in q W H = both (stretch_in q.left q.width W) (stretch_in q.top q.height H)
+lies_in q W H = both (span_in q.left q.width W) (span_in q.top q.height H)
 
 -- the same in plain numbers
 abbrev pub InMap : Rectangle → ℕ → ℕ → Type 0

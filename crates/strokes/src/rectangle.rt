@@ -1,6 +1,6 @@
 // The rectangle of a stroke, and question 19.
 ghost use Rattle.std.specs.Prelude.{◌≡◌};
-ghost use Rattle.strokes.specs.Strokes.{stretch_in, lies_in};
+ghost use Rattle.strokes.specs.Strokes.{span_in, lies_in};
 
 #[repr(C)]
 #[derive(Clone, Copy)]
@@ -12,8 +12,8 @@ pub struct Rectangle {
 }
 
 // Whether n places from `first` on are some, and lie below `end`: without a sum that could wrap.
-fn stretch_in(first: usize, n: usize, end: usize) -> bool
-    ensures { result ≡ stretch_in first n end }
+fn span_in(first: usize, n: usize, end: usize) -> bool
+    ensures { result ≡ span_in first n end }
 {
     if n == 0 {
         return false;
@@ -28,8 +28,8 @@ fn stretch_in(first: usize, n: usize, end: usize) -> bool
 pub fn lies_in(q: Rectangle, width: usize, height: usize) -> bool
     ensures { result ≡ lies_in q width height }
 {
-    if stretch_in(q.left, q.width, width) {
-        return stretch_in(q.top, q.height, height);
+    if span_in(q.left, q.width, width) {
+        return span_in(q.top, q.height, height);
     }
     false
 }

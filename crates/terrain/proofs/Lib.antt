@@ -3,8 +3,11 @@ pub mod Steady
 pub mod WordLaws
 pub mod MovedWords
 pub mod WriterListsHold
+pub mod PieceLaws
+pub mod WriterRunsHold
 pub mod TurnsListsHold
 pub mod ReaderListsHold
+pub mod ReaderRunsHold
 pub mod TolerantListsHold
 pub mod StopListsHold
 pub mod RoundTripsHold

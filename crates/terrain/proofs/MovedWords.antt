@@ -12,7 +12,8 @@ use Rattle.numbers.specs.Signal.{pick}
 use Rattle.numbers.proofs.Sweep as sweep
 use Rattle.reader.specs.declared.Reader.{Reader}
 use Rattle.reader.specs.Answers.{Reply, gives, refused, impossible, Handed, a_row, nothing}
-use Rattle.reader.specs.State.{draw_due, fed_reader, drawn_reader, ended_reader}
+use Rattle.reader_steps.specs.Places.{Place, place, place_of, spot_fed, enter}
+use Rattle.reader.specs.State.{columns, rows, next, draw_due, moved_to, fed_reader, drawn_reader, ended_reader}
 use Rattle.reader.specs.Calls as levels
 use Rattle.reader.specs.Last as last
 use Rattle.reader.specs.Reading.{by, feed_question, draw_question, feed_reply, draw_reply}
@@ -50,6 +51,20 @@ record Stays (s t : Reader) : Type 0 where
   spare : t.spare ≡ s.spare
   admission : t.admission ≡ s.admission
   ended : t.ended ≡ false
+
+stays : (s : Reader) (d : ℕ) (p : Place) → Stays s (moved_to s d p)
+stays s d p = record {
+  width = refl;
+  height = refl;
+  levels = refl;
+  x = refl;
+  y = refl;
+  filter = refl;
+  stop = refl;
+  spare = refl;
+  admission = refl;
+  ended = refl;
+}
 
 words-moved : (s : List ℕ) → length s ≡ 16 → is_reader s ≡ true → (t : Reader) → Stays (reader_of s) t → moved_words t s ≡ reader_words t
 words-moved s size is t e =
@@ -90,36 +105,14 @@ feed-stays s t q e = stays_by s.levels (last.feed_reply s q) (levels.feed_reply 
     without : last.feed_reply s q ≡ gives t → Stays s t
     without e =
         let g : last.moved_to s s.drawn 4 ≡ t = last-given (eqb q 0) (last.moved_to s s.drawn 4) t q e in
-        rw (← g) (record {
-          width = refl;
-          height = refl;
-          levels = refl;
-          x = refl;
-          y = refl;
-          filter = refl;
-          stop = refl;
-          spare = refl;
-          admission = refl;
-          ended
-              = refl;
-        })
+        rw (← g) (stays s s.drawn (place 0 0 4))
 
     with-levels : levels.feed_reply s q ≡ gives t → Stays s t
     with-levels e =
         let g : fed_reader s ≡ t = given (eqb q 0) (eqb q 14) (fed_reader s) t (ended_reader s) q e in
-        rw (← g) (record {
-          width = refl;
-          height = refl;
-          levels = refl;
-          x = refl;
-          y = refl;
-          filter = refl;
-          stop = refl;
-          spare = refl;
-          admission = refl;
-          ended
-              = refl;
-        })
+        rw (← g) (stays s s.drawn
+        (place_of s.filter (rows s) s.drawn
+        (spot_fed s.filter (columns s) (rows s) s.levels (next s).level (next s).set (next s).band)))
 
 row_is : (b : Bool) (n m : ℕ) (r t : Reader) → pick b (a_row n r) nothing ≡ a_row m t → r ≡ t
 row_is true n m r t e = cc
@@ -134,37 +127,14 @@ draw-stays s t n q e = handed-by s.levels n (last.draw_reply s q) (levels.draw_r
         let to = last.moved_to s (suc s.drawn) 0 in
         let g = last-given (eqb q 0) (pick (last.draw_due s) (a_row s.width to) nothing) (a_row n t) q e in
         let h : to ≡ t = row_is (last.draw_due s) s.width n to t g in
-        rw (← h) (record {
-          width = refl;
-          height = refl;
-          levels = refl;
-          x = refl;
-          y = refl;
-          filter = refl;
-          stop = refl;
-          spare = refl;
-          admission = refl;
-          ended
-              = refl;
-        })
+        rw (← h) (stays s (suc s.drawn) (place 0 0 0))
 
     with-levels : levels.draw_reply s q ≡ gives (a_row n t) → Stays s t
     with-levels e =
         let g = given (eqb q 0) (eqb q 14) (pick (draw_due s) (a_row s.width (drawn_reader s)) nothing) (a_row n t) (ended_reader s) q e in
         let h : drawn_reader s ≡ t = row_is (draw_due s) s.width n (drawn_reader s) t g in
-        rw (← h) (record {
-          width = refl;
-          height = refl;
-          levels = refl;
-          x = refl;
-          y = refl;
-          filter = refl;
-          stop = refl;
-          spare = refl;
-          admission = refl;
-          ended
-              = refl;
-        })
+        rw (← h) (stays s (suc s.drawn)
+        (place_of s.filter (rows s) (suc s.drawn) (enter s.filter (columns s) (rows s) s.levels (suc s.drawn))))
 
 -- r is what the call answered
 module _ (s : List ℕ) (size : length s ≡ 16) (n : ℕ) (x : ℕ → ℤ) where

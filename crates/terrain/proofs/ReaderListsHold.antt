@@ -82,7 +82,7 @@ module _ (w : World) where
   seen-told (rattle.feed n a) q z = rw (reader-is w.reader, reader-back w.reader) (feed-told a q z (feeds n a))
   seen-told (rattle.draw n a) q z = rw (reader-is w.reader, reader-back w.reader) (draw-told a (rattle.area_after w n a) q z (draws n a))
 
-  leaves-next : (d : CCall) → leaves (mine d) (holding w) ≡ holding (next d.call w)
+  pub leaves-next : (d : CCall) → leaves (mine d) (holding w) ≡ holding (next d.call w)
   unfolding leaves
   leaves-next d = go d.call
     where
@@ -139,7 +139,7 @@ module _ (r : Reader) where
 
 -- ---- a stray: 1, and nothing changes
 module _ (s : List ℕ) (x : ℕ → ℤ) (off : holds_reader s ≡ false) where
-  turned-away : {A : Type 0} (a b : A) → (counts_fit (reader_of s) ≡ false → a ≡ b) → pick (is_reader s) a b ≡ b
+  pub turned-away : {A : Type 0} (a b : A) → (counts_fit (reader_of s) ≡ false → a ≡ b) → pick (is_reader s) a b ≡ b
   turned-away a b = pick-off (is_reader s) (counts_fit (reader_of s)) a b off
 
   want-off : c.wanting s ≡ refused 1
@@ -159,19 +159,19 @@ module _ (s : List ℕ) (x : ℕ → ℤ) (off : holds_reader s ≡ false) where
     turned-away _ _ (λ z. (draw-no (reader_of s) z n x a.size a.numbers).2),
   )
 
-  stray-told : (k : Call) (q : List ℕ) (z : ℕ) → seen_of s x k q z ≡ told q z (turned k)
+  pub stray-told : (k : Call) (q : List ℕ) (z : ℕ) → seen_of s x k q z ≡ told q z (turned k)
   unfolding seen_of told turned
   stray-told rattle.want q z = rw want-off refl
   stray-told (rattle.feed n a) q z = rw (feed-off n a).0 refl
   stray-told (rattle.draw n a) q z = rw ((draw-off n a).0, (draw-off n a).2) refl
 
-  stray-array : (k : Call) → array_after s x k ≡ s
+  pub stray-array : (k : Call) → array_after s x k ≡ s
   unfolding array_after
   stray-array rattle.want = refl
   stray-array (rattle.feed n a) = rw (feed-off n a).0 refl
   stray-array (rattle.draw n a) = rw (draw-off n a).0 refl
 
-  stray-store : (k : Call) → after.store_after s x k ≡ x
+  pub stray-store : (k : Call) → after.store_after s x k ≡ x
   unfolding after.store_after
   stray-store rattle.want = refl
   stray-store (rattle.feed n a) = (feed-off n a).1

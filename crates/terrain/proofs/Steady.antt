@@ -60,7 +60,7 @@ offer-steady s n run x t e =
     subst (λ (k : Took). Steady s k.writer) g (offered-steady s.level run s x)
 
 -- a draw changes what waits and how many steps are closed, and by the heights that it moves on the rows and the column
-pub record Settled (s t : Writer) : Type 0 where
+pub record SameMap (s t : Writer) : Type 0 where
   pub width : t.width ≡ s.width
   pub levels : t.levels ≡ s.levels
   pub x : t.x ≡ s.x
@@ -68,26 +68,26 @@ pub record Settled (s t : Writer) : Type 0 where
   pub filter : t.filter ≡ s.filter
   pub finished : t.finished ≡ s.finished
 
-settled-way : (s : Writer) (b : Bool) (p q : Taking) → Settled s p.writer → Settled s q.writer → Settled s (pick b p q).writer
-settled-way s true p q a e = a
-settled-way s false p q a e = e
+same_way : (s : Writer) (b : Bool) (p q : Taking) → SameMap s p.writer → SameMap s q.writer → SameMap s (pick b p q).writer
+same_way s true p q a e = a
+same_way s false p q a e = e
 
-moved-settled : (v : ℕ) (s : Writer) (x : Memory) → Settled s (moved_on v s x).writer
+moved_same : (v : ℕ) (s : Writer) (x : Memory) → SameMap s (moved_on v s x).writer
 unfolding moved_on moving
-moved-settled zero s x =
-    settled-way s (ltb s.column s.width) _ _ (record { width = refl; levels = refl; x = refl; y = refl; filter = refl; finished = refl })
+moved_same zero s x =
+    same_way s (ltb s.column s.width) _ _ (record { width = refl; levels = refl; x = refl; y = refl; filter = refl; finished = refl })
     (record { width = refl; levels = refl; x = refl; y = refl; filter = refl; finished = refl })
-moved-settled (suc v) s x = record { width = refl; levels = refl; x = refl; y = refl; filter = refl; finished = refl }
+moved_same (suc v) s x = record { width = refl; levels = refl; x = refl; y = refl; filter = refl; finished = refl }
 
-drawn-settled : (s : Writer) (x : Memory) → Settled s (drawn_on s x).writer
-drawn-settled s x =
-    let a = moved-settled (after_draw s x).out.level (waits s.finished s (after_draw s x)) (after_draw s x).out.store in
+drawn-same : (s : Writer) (x : Memory) → SameMap s (drawn_on s x).writer
+drawn-same s x =
+    let a = moved_same (after_draw s x).out.level (waits s.finished s (after_draw s x)) (after_draw s x).out.store in
     record { width = a.width; levels = a.levels; x = a.x; y = a.y; filter = a.filter; finished = a.finished }
 
-pub draw-steady : (s : Writer) (n k : ℕ) (x : Memory) (r : BandRow) (t : Writer) → draw_reply s n k x ≡ gives (a_row r t) → Settled s t
+pub draw-steady : (s : Writer) (n k : ℕ) (x : Memory) (r : BandRow) (t : Writer) → draw_reply s n k x ≡ gives (a_row r t) → SameMap s t
 unfolding draw_reply
 draw-steady s n k x r t e = last s.level (given (draw_question s n k) _ (a_row r t) e)
   where
-    last : (v : ℕ) → handed v s x ≡ a_row r t → Settled s t
+    last : (v : ℕ) → handed v s x ≡ a_row r t → SameMap s t
     last zero e = let z : ◌≡◌ {A = ℕ} 0 1 = cc in absurd (omega arith)
-    last (suc v) e = let z : (drawn_on s x).writer ≡ t = cc in subst (Settled s) z (drawn-settled s x)
+    last (suc v) e = let z : (drawn_on s x).writer ≡ t = cc in subst (SameMap s) z (drawn-same s x)

@@ -18,7 +18,7 @@ use Rattle.states.specs.States.{flag, zero_next, zero_to, is_state}
 use Rattle.states.specs.WriterState.{is_writer, writer_of, offered_words, drawn_words, writer_words}
 use Rattle.states.specs.WriterAnswers.{took_words, handed_words}
 use Rattle.terrain.specs.WriterCalls.{offered, state_took, drawn, state_handed}
-use Rattle.terrain.proofs.Steady.{Steady, offer-steady, Settled, draw-steady}
+use Rattle.terrain.proofs.Steady.{Steady, offer-steady, SameMap, draw-steady}
 
 -- sixteen words, spelt out
 pub spelt : (s : List ℕ) → length s ≡ 16 →
@@ -86,7 +86,7 @@ module _ (s : List ℕ) (size : length s ≡ 16) (is : is_writer s ≡ true) whe
       let g : flag t.finished ≡ get_or s 5 0 = ap flag e.finished ∙ f.turned in
       ap (offered_words t) (spelt s size) ∙ cc (f.kind, e.width, e.levels, e.x, e.y, e.filter, e.closed, g, f.thirteen, f.fourteen, f.fifteen)
 
-  words-drawn : (t : Writer) → Settled (writer_of s) t → drawn_words t s ≡ writer_words t
+  words-drawn : (t : Writer) → SameMap (writer_of s) t → drawn_words t s ≡ writer_words t
   words-drawn t e =
       let f = fixed s is in
       let g : flag t.finished ≡ get_or s 5 0 = ap flag e.finished ∙ f.turned in

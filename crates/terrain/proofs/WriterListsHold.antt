@@ -92,7 +92,7 @@ module _ (w : World) where
   seen-told (rattle.finish n) z q = rw (writer-is w.writer, writer-back w.writer) (finish-told z q (finishes n))
   seen-told rattle.look z q = rw (writer-is w.writer, writer-back w.writer) (look-told z q (waits_reply w.writer))
 
-  leaves-next : (d : CCall) → leaves (mine d) (holding w) ≡ holding (next d.call w)
+  pub leaves-next : (d : CCall) → leaves (mine d) (holding w) ≡ holding (next d.call w)
   unfolding leaves
   leaves-next d = go d.call
     where
@@ -110,13 +110,13 @@ module _ (w : World) where
           (ap (memories (finish_store w.writer n w.store)) (finished-left w.writer (finishes n)))
       go rattle.look = unfold array_after store_after next in refl
 
-  shows-told : (d : CCall) → shows (mine d) (holding w) ≡ tell d (event d.call w)
+  pub shows-told : (d : CCall) → shows (mine d) (holding w) ≡ tell d (event d.call w)
   unfolding shows
   shows-told d = seen-told d.call d.taken d.row
 
 -- ---- a stray: 1, and nothing changes
 module _ (s : List ℕ) (x : Memory) (off : holds_writer s ≡ false) where
-  turned-away : {A : Type 0} (a b : A) → (in_ranges (writer_of s) ≡ false → a ≡ b) → pick (is_writer s) a b ≡ b
+  pub turned-away : {A : Type 0} (a b : A) → (in_ranges (writer_of s) ≡ false → a ≡ b) → pick (is_writer s) a b ≡ b
   turned-away a b = pick-off (is_writer s) (in_ranges (writer_of s)) a b off
 
   offer-off : (n : ℕ) (run : List ℕ) → (c.offered s n run x ≡ refused 1) × (c.offered_store s n run x ≡ x)
@@ -136,21 +136,21 @@ module _ (s : List ℕ) (x : Memory) (off : holds_writer s ≡ false) where
   unfolding waits_reply waits_question
   look-off = turned-away _ _ (λ z. rw z refl)
 
-  stray-told : (k : Call) (z : ℕ) (q : List ℕ) → seen_of s x k z q ≡ told z q (turned k)
+  pub stray-told : (k : Call) (z : ℕ) (q : List ℕ) → seen_of s x k z q ≡ told z q (turned k)
   unfolding seen_of told turned
   stray-told (rattle.offer n run) z q = rw (offer-off n run).0 refl
   stray-told (rattle.draw n a) z q = rw ((draw-off n a).0, (draw-off n a).2) refl
   stray-told (rattle.finish n) z q = rw (finish_off n).0 refl
   stray-told rattle.look z q = rw look-off refl
 
-  stray-array : (k : Call) → array_after s x k ≡ s
+  pub stray-array : (k : Call) → array_after s x k ≡ s
   unfolding array_after
   stray-array (rattle.offer n run) = rw (offer-off n run).0 refl
   stray-array (rattle.draw n a) = rw (draw-off n a).0 refl
   stray-array (rattle.finish n) = rw (finish_off n).0 refl
   stray-array rattle.look = refl
 
-  stray-store : (k : Call) → store_after s x k ≡ x
+  pub stray-store : (k : Call) → store_after s x k ≡ x
   unfolding store_after
   stray-store (rattle.offer n run) = (offer-off n run).1
   stray-store (rattle.draw n a) = (draw-off n a).1

@@ -1,8 +1,11 @@
 pub mod Memories
+pub mod Pieces
 pub mod WriterCalls
 pub mod WriterLists
+pub mod WriterRuns
 pub mod ReaderCalls
 pub mod ReaderLists
+pub mod ReaderRuns
 pub mod TolerantLists
 pub mod StopLists
 pub mod Version

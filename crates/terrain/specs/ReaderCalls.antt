@@ -1,7 +1,8 @@
 -- What the C calls on a reader answer, and what they leave: what `reader` says of the call on the reader that the state array holds, and 1 where it holds none.
 -- s is the state array, n the length of the line store and x what stands in it; an answer's number is `reader`'s.
-use Rattle.std.specs.Prelude.{List, [], ◌∷◌, ℕ, ℤ}
-use Rattle.numbers.specs.Signal.{pick}
+use Rattle.std.specs.Prelude.{List, [], ◌∷◌, ℕ, ℤ, length}
+use Rattle.numbers.specs.Signal.{at, pick}
+use Rattle.areas.specs.Areas.{heights_at}
 use Rattle.reader.specs.declared.Reader.{Reader}
 use Rattle.reader.specs.Answers.{Reply, gives, refused, impossible, Want, row, draw_now, done, ended, Handed, a_row, nothing}
 use Rattle.reader.specs.Reading.{want_question, feed_question, draw_question, want_reply, feed_reply, feed_store, draw_reply, draw_store, draw_area}
@@ -85,3 +86,7 @@ state_drawn (impossible r) s = reader_words r
 -- ---- a run of m numbers v, into an area of k heights that holds z
 abbrev pub running : List ℕ → ℕ → ℕ → (ℕ → ℤ) → ℕ → (ℕ → ℤ) → (ℕ → ℤ) → lists.Reply Run
 running s n m v k x z = pick (is_reader s) (run_reply (reader_of s) n m v k x z) (lists.refused 1)
+
+-- the same of the areas as they are lent
+abbrev pub run_on : List ℕ → List ℤ → List ℤ → List ℕ → lists.Reply Run
+run_on s store run out = running s (length store) (length run) (at run) (length out) (at store) (heights_at out)

@@ -1,7 +1,7 @@
 -- What the C calls on a writer answer, and what they leave: what `writer` says of the call on the writer that the state array holds, and 1 where it
 -- holds none. s is the state array, n the length of the line store and x what stands in it.
-use Rattle.std.specs.Prelude.{List, [], ◌∷◌, ℕ, ℤ}
-use Rattle.numbers.specs.Signal.{pick}
+use Rattle.std.specs.Prelude.{List, [], ◌∷◌, ℕ, ℤ, length}
+use Rattle.numbers.specs.Signal.{at, pick}
 use Rattle.calls.specs.Lists.{Reply, gives, refused}
 use Rattle.writer.specs.declared.Writer.{Writer}
 use Rattle.writer.specs.Answers.{Took, Handed, a_row, nothing}
@@ -59,3 +59,7 @@ finished_store s n x = pick (is_writer s) (finish_store (writer_of s) n x) x
 -- ---- a run of the heights hs, into an output area of k numbers that holds z and an area for names that holds l
 abbrev pub ran : List ℕ → ℕ → List ℕ → ℕ → (ℕ → ℤ) → (ℕ → ℤ) → List ℕ → Reply Run
 ran s n hs k x z l = pick (is_writer s) (run_reply (writer_of s) n hs k x z l) (refused 1)
+
+-- the same of a line store and an output area as they are lent
+abbrev pub run_on : List ℕ → List ℤ → List ℕ → List ℤ → List ℕ → Reply Run
+run_on s store hs out l = ran s (length store) hs (length out) (at store) (at out) l

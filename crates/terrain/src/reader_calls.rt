@@ -11,7 +11,7 @@ ghost use Rattle.calls.specs.Lists.{seen};
 ghost use Rattle.reader.specs.Runs.{progress, left_by};
 ghost use Rattle.states.specs.ReaderAnswers.{count_of, ran_number, ran_words, counts_of};
 ghost use Rattle.terrain.specs.ReaderCalls.{state_of, stopping, tolerating, sizing, size_number, columns_of, rows_of, wanting};
-ghost use Rattle.terrain.specs.ReaderCalls.{running, want_of, feeding, feeding_store, drawing, drawing_store, drawing_area, state_drawn};
+ghost use Rattle.terrain.specs.ReaderCalls.{run_on, want_of, feeding, feeding_store, drawing, drawing_store, drawing_area, state_drawn};
 
 use reader::stops::LevelSize;
 use reader::{Reader, SetUp, Wanted, runs, stops};
@@ -202,21 +202,16 @@ pub extern "C" fn terrain_reader_run(
     out: &mut [u16],
     counts: &mut [u64; 2],
 ) -> u32
-    ensures value { result ≡ ran_number (seen progress (running state.old (length store.old) (length run.now)
-        (at run.now)
-        (length out.old) (at store.old) (heights_at out.old))) }
-    ensures state_after { state.new ≡ ran_words (seen progress (running state.old (length store.old) (length run.now)
-        (at run.now)
-        (length out.old) (at store.old) (heights_at out.old))) state.old }
+    ensures value { result ≡ ran_number (seen progress
+        (run_on state.old store.old run.now out.old)) }
+    ensures state_after { state.new ≡ ran_words (seen progress
+        (run_on state.old store.old run.now out.old)) state.old }
     ensures store_after { at store.new ≡ left_by (λ p. p.world.store) (at store.old)
-        (running state.old (length store.old) (length run.now) (at run.now)
-        (length out.old) (at store.old) (heights_at out.old)) }
+        (run_on state.old store.old run.now out.old) }
     ensures out_after { heights_at out.new ≡ left_by (λ p. p.area) (heights_at out.old)
-        (running state.old (length store.old) (length run.now) (at run.now)
-        (length out.old) (at store.old) (heights_at out.old)) }
-    ensures counts_after { counts.new ≡ counts_of (seen progress (running state.old (length store.old)
-        (length run.now) (at run.now)
-        (length out.old) (at store.old) (heights_at out.old))) counts.old }
+        (run_on state.old store.old run.now out.old) }
+    ensures counts_after { counts.new ≡ counts_of (seen progress
+        (run_on state.old store.old run.now out.old)) counts.old }
 {
     if !reader_state::is_reader(state) {
         return 1;

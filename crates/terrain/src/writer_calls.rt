@@ -8,7 +8,7 @@ ghost use Rattle.writer.specs.Calls.{set_up_reply, set_up_store};
 ghost use Rattle.writer.specs.Runs.{progress, left_by};
 ghost use Rattle.states.specs.WriterAnswers.{number, taken_of, row_of, ran_words, counts_of};
 ghost use Rattle.terrain.specs.WriterCalls.{state_of, offered, offered_store, state_took, drawn, drawn_store, drawn_area, state_handed};
-ghost use Rattle.terrain.specs.WriterCalls.{waiting, look_of, finished, finished_store, ran};
+ghost use Rattle.terrain.specs.WriterCalls.{waiting, look_of, finished, finished_store, run_on};
 
 use states::writer_state;
 use wavelet::shape::Shape;
@@ -160,19 +160,18 @@ pub extern "C" fn terrain_writer_run(
     names: &mut [u64],
     counts: &mut [u64; 3],
 ) -> u32
-    ensures value { result ≡ number (seen progress (ran state.old (length store.old) heights.now (length out.old)
-        (at store.old) (at out.old) names.old)) }
-    ensures state_after { state.new ≡ ran_words (seen progress (ran state.old (length store.old) heights.now
-        (length out.old) (at store.old) (at out.old) names.old)) state.old }
-    ensures store_after { at store.new ≡ left_by (λ p. p.world.store) (at store.old) (ran state.old
-        (length store.old) heights.now (length out.old) (at store.old) (at out.old)
-        names.old) }
-    ensures out_after { at out.new ≡ left_by (λ p. p.area) (at out.old) (ran state.old (length store.old)
-        heights.now (length out.old) (at store.old) (at out.old) names.old) }
-    ensures names_after { names.new ≡ left_by (λ p. p.names) names.old (ran state.old (length store.old)
-        heights.now (length out.old) (at store.old) (at out.old) names.old) }
-    ensures counts_after { counts.new ≡ counts_of (seen progress (ran state.old (length store.old) heights.now
-        (length out.old) (at store.old) (at out.old) names.old)) counts.old }
+    ensures value { result ≡ number (seen progress
+        (run_on state.old store.old heights.now out.old names.old)) }
+    ensures state_after { state.new ≡ ran_words (seen progress
+        (run_on state.old store.old heights.now out.old names.old)) state.old }
+    ensures store_after { at store.new ≡ left_by (λ p. p.world.store) (at store.old)
+        (run_on state.old store.old heights.now out.old names.old) }
+    ensures out_after { at out.new ≡ left_by (λ p. p.area) (at out.old)
+        (run_on state.old store.old heights.now out.old names.old) }
+    ensures names_after { names.new ≡ left_by (λ p. p.names) names.old
+        (run_on state.old store.old heights.now out.old names.old) }
+    ensures counts_after { counts.new ≡ counts_of (seen progress
+        (run_on state.old store.old heights.now out.old names.old)) counts.old }
 {
     if !writer_state::is_writer(state) {
         return 1;

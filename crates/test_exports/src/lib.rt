@@ -11,15 +11,14 @@ ghost use Rattle.numbers.specs.Signal.{at, pick, both};
 ghost use Rattle.numbers.specs.Word.{wrap32};
 ghost use Rattle.lifting.specs.Line.{predicted, unpredicted, updated, unupdated};
 ghost use Rattle.lifting.specs.Grid.{side};
-ghost use Rattle.lifting.specs.Halves.{fronted};
-ghost use Rattle.lifting.specs.GridHalves.{lifted_in_place, unlifted_in_place, has_line_in, forward_into, backward_into, highs_laid};
+ghost use Rattle.lifting.specs.GridHalves.{lifted_in_place, unlifted_in_place, has_line_in, forward_into, backward_into};
 ghost use Rattle.lifting.specs.Rows.{rows_fit, rows_changed};
 ghost use Rattle.lifting.specs.Pairs.{pair_fits, pair_lifted, pair_copied};
 
-use lifting::{halves, line, pairs, rows};
+use lifting::{line, pairs, rows};
 
 #[unsafe(no_mangle)]
-pub extern "C" fn kernel_predict_row(
+pub extern "C" fn five_three_predict_row(
     area: &mut [i32],
     stride: usize,
     width: usize,
@@ -35,7 +34,7 @@ pub extern "C" fn kernel_predict_row(
 }
 
 #[unsafe(no_mangle)]
-pub extern "C" fn kernel_update_row(
+pub extern "C" fn five_three_update_row(
     area: &mut [i32],
     stride: usize,
     width: usize,
@@ -50,7 +49,7 @@ pub extern "C" fn kernel_update_row(
 }
 
 #[unsafe(no_mangle)]
-pub extern "C" fn kernel_unupdate_row(
+pub extern "C" fn five_three_unupdate_row(
     area: &mut [i32],
     stride: usize,
     width: usize,
@@ -66,7 +65,7 @@ pub extern "C" fn kernel_unupdate_row(
 }
 
 #[unsafe(no_mangle)]
-pub extern "C" fn kernel_unpredict_row(
+pub extern "C" fn five_three_unpredict_row(
     area: &mut [i32],
     stride: usize,
     width: usize,
@@ -82,7 +81,7 @@ pub extern "C" fn kernel_unpredict_row(
 }
 
 #[unsafe(no_mangle)]
-pub extern "C" fn kernel_lift_pair(
+pub extern "C" fn five_three_lift_pair(
     area: &mut [i32],
     stride: usize,
     width: usize,
@@ -99,7 +98,7 @@ pub extern "C" fn kernel_lift_pair(
 }
 
 #[unsafe(no_mangle)]
-pub extern "C" fn kernel_lift_and_copy(
+pub extern "C" fn five_three_lift_and_copy(
     area: &mut [i32],
     stride: usize,
     width: usize,
@@ -116,14 +115,14 @@ pub extern "C" fn kernel_lift_and_copy(
 }
 
 #[unsafe(no_mangle)]
-pub extern "C" fn kernel_lift(line: &mut [i32], start: usize)
+pub extern "C" fn five_three_lift(line: &mut [i32], start: usize)
     ensures { at line.new ≡ lifted_in_place (side start (length line.old)) (at line.old) }
 {
     line::lift(line, start);
 }
 
 #[unsafe(no_mangle)]
-pub extern "C" fn kernel_unlift(line: &mut [i32], start: usize) -> u32
+pub extern "C" fn five_three_unlift(line: &mut [i32], start: usize) -> u32
     ensures value { result ≡ pick (has_line_in (side start (length line.old)) (at line.old)) 0 14 }
     ensures line_after { at line.new ≡ pick (has_line_in (side start (length line.old)) (at line.old))
         (unlifted_in_place (side start (length line.old)) (at line.old)) (at line.old) }
@@ -132,7 +131,7 @@ pub extern "C" fn kernel_unlift(line: &mut [i32], start: usize) -> u32
 }
 
 #[unsafe(no_mangle)]
-pub extern "C" fn kernel_forward(line: &[i32], start: usize, out: &mut [i32]) -> u32
+pub extern "C" fn five_three_forward(line: &[i32], start: usize, out: &mut [i32]) -> u32
     ensures value { result ≡ pick (leb (length line.now) (length out.old)) 0 5 }
     ensures out_after { at out.new ≡ pick (leb (length line.now) (length out.old))
         (forward_into (side start (length line.now)) (at line.now) (at out.old)) (at out.old) }
@@ -141,7 +140,7 @@ pub extern "C" fn kernel_forward(line: &[i32], start: usize, out: &mut [i32]) ->
 }
 
 #[unsafe(no_mangle)]
-pub extern "C" fn kernel_backward(coefficients: &[i32], start: usize, out: &mut [i32]) -> u32
+pub extern "C" fn five_three_backward(coefficients: &[i32], start: usize, out: &mut [i32]) -> u32
     ensures value { result ≡ pick (leb (length coefficients.now) (length out.old))
         (pick (has_line_in (side start (length coefficients.now)) (at coefficients.now)) 0 14) 5 }
     ensures out_after { at out.new ≡ pick (both (leb (length coefficients.now) (length out.old))
@@ -149,18 +148,4 @@ pub extern "C" fn kernel_backward(coefficients: &[i32], start: usize, out: &mut 
         (backward_into (side start (length coefficients.now)) (at coefficients.now) (at out.old)) (at out.old) }
 {
     line::backward(coefficients, start, out) as u32
-}
-
-#[unsafe(no_mangle)]
-pub extern "C" fn kernel_unlift_by(row: &[i32], start: usize, out: &mut [i32]) -> u32
-    ensures value { result ≡ pick (leb (length row.now) (length out.old))
-        (pick (has_line_in (side start (length row.now)) (highs_laid (side start (length row.now)) (at row.now)
-        (at out.old))) 0 14) 5 }
-    ensures out_after { at out.new ≡ pick (both (leb (length row.now) (length out.old))
-        (has_line_in (side start (length row.now)) (highs_laid (side start (length row.now)) (at row.now)
-        (at out.old)))) (fronted (length row.now)
-        (unlifted_in_place (side start (length row.now)) (highs_laid (side start (length row.now)) (at row.now)
-        (at out.old))) (at out.old)) (at out.old) }
-{
-    halves::unlift_by(row, start, out) as u32
 }

@@ -33,8 +33,8 @@ module _ (W H : Side) (k : ℕ) (b : Band) (p : 0 < k) where
   columns-in = extent-end (across b) k W p
 
   -- and its row r is a stretch of the plane
-  pub stretch-in : (r : ℕ) → 0 < band_columns W k b → r < band_rows H k b → band_start W H k b r + band_columns W k b ≤ W.length * H.length
-  stretch-in r n h =
+  pub band-row-in : (r : ℕ) → 0 < band_columns W k b → r < band_rows H k b → band_start W H k b r + band_columns W k b ≤ W.length * H.length
+  band-row-in r n h =
       let c = columns-in in
       let e : band_columns W k b ≡ suc (band_columns W k b - 1) = omega arith in
       let q =

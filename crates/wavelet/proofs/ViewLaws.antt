@@ -20,11 +20,11 @@ use Rattle.wavelet.specs.Levels.{side_at}
 use Rattle.wavelet.specs.View.{band_rows, band_columns, band_start, Kept}
 use Rattle.wavelet.specs.Questions.{ask, within, size_question, Sized}
 use Rattle.wavelet.specs.ViewCall.{named, kept_at, band_row_exists, view_question, view_start, view_length, view_row, view_place}
-use Rattle.wavelet.specs.Span.{Answer, gives, refused, kept_span, stretch_of, span_of}
+use Rattle.wavelet.specs.Span.{Answer, gives, refused, kept_span, band_row_span, span_of}
 use Rattle.wavelet.proofs.SideLaws.{size-le, length_back, count-le, count-sum}
 use Rattle.wavelet.proofs.LimitLaws.{width_small, height-small}
 use Rattle.wavelet.proofs.QuestionLaws.{within-true, sized, size-no, size-yes}
-use Rattle.wavelet.proofs.BandPlaces.{stretch-in}
+use Rattle.wavelet.proofs.BandPlaces.{band-row-in}
 
 -- ---- the code of a band
 pub named-at {ℓ} : {A : Type ℓ} (b : Band) (f : Band → A) (z : A) → named (code b) f z ≡ f b
@@ -114,9 +114,9 @@ module _ (W H : Side) (L k : ℕ) (b : Band) (r : ℕ) where
   unfolding band_row_exists
   exists-is e d = rw (e, d)
 
-  stretch-at : stretch_of W H L k (code b) r ≡ pick (band_row_exists W H L k b r) (gives (band_start W H k b r) (band_columns W k b)) (refused 6)
-  unfolding stretch_of view_start view_length
-  stretch-at = rw (named-at b (λ a. band_row_exists W H L k a r) false, named-at b (λ a. band_start W H k a r) 0, named-at b (band_columns W k) 0)
+  band-row-span-at : band_row_span W H L k (code b) r ≡ pick (band_row_exists W H L k b r) (gives (band_start W H k b r) (band_columns W k b)) (refused 6)
+  unfolding band_row_span view_start view_length
+  band-row-span-at = rw (named-at b (λ a. band_row_exists W H L k a r) false, named-at b (λ a. band_start W H k a r) 0, named-at b (band_columns W k) 0)
 
   kept-is : within 1 L k ≡ true → kept_at L k b ≡ true →
       kept_span r (band_rows H k b) (band_start W H k b r) (band_columns W k b) ≡ pick (band_row_exists W H L k b r) (gives (band_start W H k b r) (band_columns W k b))
@@ -126,14 +126,14 @@ module _ (W H : Side) (L k : ℕ) (b : Band) (r : ℕ) where
 
   -- an arm of the match: what it chose is the band's
   pub arm : (c rows start n : ℕ) → c ≡ code b → within 1 L k ≡ true → kept_at L k b ≡ true → rows ≡ band_rows H k b → start ≡ band_start W H k b r →
-      n ≡ band_columns W k b → kept_span r rows start n ≡ stretch_of W H L k c r
+      n ≡ band_columns W k b → kept_span r rows start n ≡ band_row_span W H L k c r
   arm c rows start n e l d er es en =
       ap (λ (x : ℕ). kept_span r x start n) er
       ∙ ap (λ (x : ℕ). kept_span r (band_rows H k b) x n) es
       ∙ ap (λ (x : ℕ). kept_span r (band_rows H k b) (band_start W H k b r) x) en
       ∙ kept-is l d
-      ∙ sym stretch-at
-      ∙ ap (λ (x : ℕ). stretch_of W H L k x r) (sym e)
+      ∙ sym band-row-span-at
+      ∙ ap (λ (x : ℕ). band_row_span W H L k x r) (sym e)
 
 -- the sides of levels k − 1 and k, as the code works them out, are within the plane
 pub side-in : (L k : ℕ) (S : Side) (n low : ℕ) → within 1 L k ≡ true → n ≡ (side_at (k - 1) S).length → low ≡ (side_at k S).length → (low ≤ n) × (n ≤ S.length)
@@ -158,19 +158,19 @@ module _ (W H : Side) (L k c r w h low top : ℕ) (ew : w ≡ (side_at (k - 1) W
   bottom-is : h - top ≡ count hi (side_at (k - 1) H)
   bottom-is = omega (arith, count-sum (side_at (k - 1) H), top-is)
 
-  pub arm-LL : c ≡ 0 → L ≤ k → kept_span r top (r * W.length) low ≡ stretch_of W H L k c r
+  pub arm-LL : c ≡ 0 → L ≤ k → kept_span r top (r * W.length) low ≡ band_row_span W H L k c r
   unfolding code kept_at band_rows band_columns band_start across down
   arm-LL e g = arm W H L k LL r c top (r * W.length) low e l (eq-eqb k L (omega (arith, (within-true 1 L k l).1))) top-is refl low-is
 
-  pub arm-HL : c ≡ 1 → kept_span r top (r * W.length + low) (w - low) ≡ stretch_of W H L k c r
+  pub arm-HL : c ≡ 1 → kept_span r top (r * W.length + low) (w - low) ≡ band_row_span W H L k c r
   unfolding code kept_at band_rows band_columns band_start across down
   arm-HL e = arm W H L k HL r c top (r * W.length + low) (w - low) e l refl top-is (omega arith) right_is
 
-  pub arm-LH : c ≡ 2 → kept_span r (h - top) ((top + r) * W.length) low ≡ stretch_of W H L k c r
+  pub arm-LH : c ≡ 2 → kept_span r (h - top) ((top + r) * W.length) low ≡ band_row_span W H L k c r
   unfolding code kept_at band_rows band_columns band_start across down
   arm-LH e = arm W H L k LH r c (h - top) ((top + r) * W.length) low e l refl bottom-is (ap (λ (x : ℕ). (x + r) * W.length) et) low-is
 
-  pub arm-HH : c ≡ 3 → kept_span r (h - top) ((top + r) * W.length + low) (w - low) ≡ stretch_of W H L k c r
+  pub arm-HH : c ≡ 3 → kept_span r (h - top) ((top + r) * W.length + low) (w - low) ≡ band_row_span W H L k c r
   unfolding code kept_at band_rows band_columns band_start across down
   arm-HH e =
       arm W H L k HH r c (h - top) ((top + r) * W.length + low) (w - low) e l refl bottom-is
@@ -178,24 +178,24 @@ module _ (W H : Side) (L k c r w h low top : ℕ) (ew : w ≡ (side_at (k - 1) W
 
 -- where no band's row exists
 module _ (W H : Side) (L k c r : ℕ) where
-  no_row : named c (λ b. band_row_exists W H L k b r) false ≡ false → refused 6 ≡ stretch_of W H L k c r
-  unfolding stretch_of
+  no_row : named c (λ b. band_row_exists W H L k b r) false ≡ false → refused 6 ≡ band_row_span W H L k c r
+  unfolding band_row_span
   no_row e = ap (λ (t : Bool). pick t (gives (view_start W H k c r) (view_length W k c)) (refused 6)) (sym e)
 
-  pub refused-level : within 1 L k ≡ false → refused 6 ≡ stretch_of W H L k c r
+  pub refused-level : within 1 L k ≡ false → refused 6 ≡ band_row_span W H L k c r
   refused-level h = no_row (named_none c (λ b. band_row_exists W H L k b r) λ b. not-level W H L k b r h)
 
-  pub refused-row : H.length ≤ r → refused 6 ≡ stretch_of W H L k c r
+  pub refused-row : H.length ≤ r → refused 6 ≡ band_row_span W H L k c r
   refused-row h = no_row (named_none c (λ b. band_row_exists W H L k b r) λ b. not-row W H L k b r h)
 
-  pub refused-last : c ≡ code LL → k < L → refused 6 ≡ stretch_of W H L k c r
+  pub refused-last : c ≡ code LL → k < L → refused 6 ≡ band_row_span W H L k c r
   refused-last e h =
       no_row
       (ap (λ (x : ℕ). named x (λ b. band_row_exists W H L k b r) false) e
       ∙ named-at LL (λ b. band_row_exists W H L k b r) false
       ∙ not_last W H L k LL r refl h)
 
-  pub refused-code : (c ≡ 0 → ⊥) → (c ≡ 1 → ⊥) → (c ≡ 2 → ⊥) → (c ≡ 3 → ⊥) → refused 6 ≡ stretch_of W H L k c r
+  pub refused-code : (c ≡ 0 → ⊥) → (c ≡ 1 → ⊥) → (c ≡ 2 → ⊥) → (c ≡ 3 → ⊥) → refused 6 ≡ band_row_span W H L k c r
   refused-code n0 n1 n2 n3 = no_row (named_other c (λ b. band_row_exists W H L k b r) n0 n1 n2 n3)
 
 -- ---- the questions in their order
@@ -225,9 +225,9 @@ module _ (n : ℕ) (W H : Side) (L k c r : ℕ) where
   unfolding span_of
   span-no q e h = sym (ap (λ (x : ℕ). pick (eqb x 0) place (refused x)) e ∙ ap (λ (t : Bool). pick t place (refused q)) (ne_eqb q 0 h))
 
-  pub span-stretch : size_question W.length H.length L ≡ 0 → W.length * H.length ≤ n → stretch_of W H L k c r ≡ span_of n W H L k c r
-  unfolding span_of stretch_of
-  span-stretch h g = go exists ∙ ap (λ (x : ℕ). pick (eqb x 0) place (refused x)) (sym (question-row h g))
+  pub span-band-row : size_question W.length H.length L ≡ 0 → W.length * H.length ≤ n → band_row_span W H L k c r ≡ span_of n W H L k c r
+  unfolding span_of band_row_span
+  span-band-row h g = go exists ∙ ap (λ (x : ℕ). pick (eqb x 0) place (refused x)) (sym (question-row h g))
     where
       go : (t : Bool) → pick t place (refused 6) ≡ pick (eqb (ask t 6 0) 0) place (refused (ask t 6 0))
       go true = refl
@@ -295,7 +295,7 @@ module _ (n : ℕ) (W H : Side) (L k c r : ℕ) (v : Viewed n W H L k c r) where
 
   pub view_in : view_start W H k c r + view_length W k c ≤ n
   view_in =
-      let q = stretch-in W H k v.band v.kept.deep r v.kept.columns v.kept.row in
+      let q = band-row-in W H k v.band v.kept.deep r v.kept.columns v.kept.row in
       omega (arith, start_is, length-is, v.area)
 
 -- ---- the two calls

@@ -18,7 +18,7 @@ use Rattle.wavelet.specs.Levels.{level_band}
 use Rattle.wavelet.specs.Plane.{plane_of}
 use Rattle.wavelet.specs.View.{band_columns, band_start}
 use Rattle.wavelet.specs.ViewCall.{view_question, view_start, view_length, view_row}
-use Rattle.wavelet.proofs.BandPlaces.{stretch-in}
+use Rattle.wavelet.proofs.BandPlaces.{band-row-in}
 use Rattle.wavelet.proofs.ViewLaws.{Viewed, viewed, start_is, length-is, view_in}
 use Rattle.wavelet.proofs.PlaneLayout.{Stands, plane-places}
 
@@ -41,7 +41,7 @@ module _ (n : ℕ) (W H : Side) (L k c r : ℕ) where
     place-values F keep g x same i h =
         let b = placed.band in
         let long = length-is n W H L k c r placed in
-        let inside = stretch-in W H k b placed.kept.deep r placed.kept.columns placed.kept.row in
+        let inside = band-row-in W H k b placed.kept.deep r placed.kept.columns placed.kept.row in
         let stands : Stands L W H k b r i = record {
           deep = placed.kept.deep;
           most = placed.kept.most;

@@ -20,8 +20,8 @@ unfoldable pub kept_span : ℕ → ℕ → ℕ → ℕ → Answer
 kept_span r rows start n = pick (both (ltb 0 n) (ltb r rows)) (gives start n) (refused 6)
 
 -- question 6 alone
-unfoldable pub stretch_of : Side → Side → ℕ → ℕ → ℕ → ℕ → Answer
-stretch_of W H L k c r =
+unfoldable pub band_row_span : Side → Side → ℕ → ℕ → ℕ → ℕ → Answer
+band_row_span W H L k c r =
     pick (named c (λ b. band_row_exists W H L k b r) false) (gives (view_start W H k c r) (view_length W k c)) (refused 6)
 
 -- the row's start and length, or the number of the first question that says no

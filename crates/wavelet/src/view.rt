@@ -5,7 +5,7 @@ ghost use Rattle.wavelet.specs.Limits.{max_width, max_height, max_levels};
 ghost use Rattle.wavelet.specs.Levels.{side_at};
 ghost use Rattle.wavelet.specs.Shape.{columns, rows};
 ghost use Rattle.wavelet.specs.ViewCall.{view_question, view_row, view_place, address_of};
-ghost use Rattle.wavelet.specs.Span.{of_span, kept_span, stretch_of, span_of};
+ghost use Rattle.wavelet.specs.Span.{of_span, kept_span, band_row_span, span_of};
 
 use crate::limits;
 use crate::shape::Shape;
@@ -39,9 +39,9 @@ fn size_within(level: usize, start: usize, n: usize) -> usize
 }
 
 // Question 6, and the stretch: of a plane within the limits.
-fn stretch(shape: Shape, level: usize, band: usize, row: usize) -> Span
+fn band_row_span(shape: Shape, level: usize, band: usize, row: usize) -> Span
     requires { (shape.width ≤ max_width) × (shape.height ≤ max_height) × (shape.levels ≤ max_levels) }
-    ensures { of_span result ≡ stretch_of (columns shape) (rows shape) shape.levels level band row }
+    ensures { of_span result ≡ band_row_span (columns shape) (rows shape) shape.levels level band row }
 {
     let width = shape.width;
     let height = shape.height;
@@ -83,7 +83,7 @@ pub fn locate(length: usize, shape: Shape, level: usize, band: usize, row: usize
     if length < shape.width * shape.height {
         return Span::Refused(5);
     }
-    stretch(shape, level, band, row)
+    band_row_span(shape, level, band, row)
 }
 
 // The number of the question that turns the view of this band row away, or 0.

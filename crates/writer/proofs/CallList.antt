@@ -32,6 +32,7 @@ use Rattle.calls.proofs.AllLaws.{all_append}
 use Rattle.filters.specs.Filters.{filter_of}
 use Rattle.level.proofs.LevelLaws.{LevelLaws}
 use Rattle.filters.specs.Figures.{streamable}
+use Rattle.analysis.specs.Columns.{short_of}
 use Rattle.analysis.specs.Forward.{kind_of, held_of, ended_of}
 use Rattle.analysis.proofs.ForwardLaws.{laws-of}
 use Rattle.progress.specs.Counts.{most_left, start_of}
@@ -130,7 +131,7 @@ module _ (φ : ℕ) where
     pub band-is : d.row.band ≡ code band
     pub length-is : d.row.length ≡ count (across band) (side_at depth W)
     pub row_in : d.row.row < count (down band) (side_at depth (side top H))
-    pub values : (i : ℕ) → i < d.row.length → d.values i ≡ level_band (filter_of φ) wrap32 W (side top H) g (suc depth) band d.row.row i
+    pub values : (i : ℕ) → i < d.row.length → d.values i ≡ level_band (short_of φ) wrap32 W (side top H) g (suc depth) band d.row.row i
 
   pub record Sound (L : ℕ) (W : Side) (top H : ℕ) (g : Grid) (f : Bool) (ds : List DrawnRow) (r c cl v i : ℕ) (x : Memory) : Type 0 where
     pub holds : Holds H g (st φ W top L r c f cl v i) x

@@ -13,18 +13,21 @@ use lib.ListN.{length, get_or}
 use lib.Dec.{ltb, eqb}
 use borrow.Author.Tests.{eqb-true, lt-ltb, ltb-true, ltb-false}
 use Rattle.numbers.specs.Signal.{pick, stored, spliced}
-use Rattle.numbers.specs.Word.{wrap32}
+use Rattle.numbers.specs.Word.{wrap32, whole}
 use Rattle.numbers.proofs.Sweep.{both as split-both}
 use Rattle.lifting.specs.Halves.{fronted}
 use Rattle.wavelet.specs.Limits.{max_height}
 use Rattle.wavelet.specs.Bands.{Grid}
 use Rattle.lifting.specs.Grid.{Side, side}
+use Rattle.wavelet.specs.Maps.{IsMap}
 use Rattle.wavelet.specs.Levels.{level_band}
 use Rattle.wavelet.specs.Questions.{within}
 use Rattle.calls.specs.Lists.{Reply, gives, refused, unless, changed_unless}
 use Rattle.filters.specs.Filters.{filter_of}
 use Rattle.filters.specs.Figures.{store_by}
 use Rattle.level.specs.Heights.{height_at}
+use Rattle.analysis.specs.Columns.{short_of}
+use Rattle.analysis.proofs.ShortFilters.{map-values}
 use Rattle.analysis.specs.Forward.{kind_of, heights_put}
 use Rattle.analysis.proofs.ForwardLaws.{height-more, height-none}
 use Rattle.writer.specs.declared.Writer.{Writer}
@@ -42,6 +45,7 @@ use Rattle.writer.specs.Calls.{handed_area, draw_reply, draw_store, draw_area}
 use Rattle.writer.specs.Holds.{begun_count, spare_count, Holds, Stands, Keeps, AnyMap, GoesOn}
 use Rattle.writer.specs.Holds.{MapRow, left, after, took_of, DrawKeeps, FinishKeeps, OfferKeeps, SetUpHolds}
 use Rattle.progress.proofs.CountLaws.{code_one}
+use Rattle.writer.proofs.CascadeHolds.{IsRow}
 use Rattle.writer.proofs.StateHolds.{st, placed-st, fresh-st, fresh_holds, advanced-by, draw-holds, finish-holds, begun-holds, complete-holds}
 use Rattle.writer.proofs.CallList.{rows_of, column-of, rows-below}
 use Rattle.writer.proofs.CallLaws.{offer-sound, draw-sound, finish-may, offer-may}
@@ -188,27 +192,44 @@ draw-keeps s n k x = record { keeps = λ H g _ h. go H g h (draw_question s n k)
         (omega (arith, d.levels.0)) (omega (arith, d.width.0)) d.spare (λ p q. (d.may p q).0)) h
     go H g h (suc q) e = h
 
--- the row that waits has the map's values
-pub draw-values : (s : Writer) (x : Memory) (H : ℕ) (g : Grid) → Holds H g s x → 0 < s.level → (i : ℕ) → i < (waiting_row s).length →
-    x ((waiting_row s).start + i) ≡ level_band (filter_of s.filter) wrap32 (columns_of s) (side s.y H) g (waiting_row s).level (waiting_row s).band
-    (waiting_row s).row i
-draw-values s x H g h p = go s.level (subst (λ t. Holds H g t x) (placed-st s h.placed) h) p
+-- the row that waits is one of the map's,
+waiting-is : (s : Writer) (x : Memory) (H : ℕ) (g : Grid) → Holds H g s x → 0 < s.level →
+    (d : ℕ) × (d < s.levels) × IsRow (short_of s.filter) (columns_of s) (side s.y H) g (waiting_row s) d x
+waiting-is s x H g h p = go s.level (subst (λ t. Holds H g t x) (placed-st s h.placed) h) p
   where
     go : (v : ℕ) → (let s' = st s.filter (columns_of s) s.y s.levels s.rows s.column s.finished s.closed v s.left in
-        Holds H g s' x → 0 < v → (i : ℕ) → i < (waiting_row s').length
-        → x ((waiting_row s').start + i) ≡ level_band (filter_of s.filter) wrap32 (columns_of s) (side s.y H) g
-        (waiting_row s').level (waiting_row s').band (waiting_row s').row i)
-    go zero h p i b = absurd (omega arith)
-    go (suc v) h p i b =
+        Holds H g s' x → 0 < v → (d : ℕ) × (d < s.levels) × IsRow (short_of s.filter) (columns_of s) (side s.y H) g (waiting_row s') d x)
+    go zero h p = absurd (omega arith)
+    go (suc v) h p =
         let P = advanced-by s.filter H g (columns_of s) s.y s.levels s.rows s.column s.finished s.closed v s.left x h in
-        let q : Waiting = waiting_row (st s.filter (columns_of s) s.y s.levels s.rows s.column s.finished s.closed (suc v) s.left) in
-        P.is.values i b ∙ ap (λ k. level_band (filter_of s.filter) wrap32 (columns_of s) (side s.y H) g k q.band q.row i) (sym P.is.level-is)
+        (P.depth, P.deep, P.is)
+
+-- so it has the map's values, by a level's sums,
+pub draw-values : (s : Writer) (x : Memory) (H : ℕ) (g : Grid) → Holds H g s x → 0 < s.level → (i : ℕ) → i < (waiting_row s).length →
+    x ((waiting_row s).start + i) ≡ level_band (short_of s.filter) wrap32 (columns_of s) (side s.y H) g (waiting_row s).level (waiting_row s).band
+    (waiting_row s).row i
+draw-values s x H g h p i b =
+    let q = waiting_row s in
+    let P = waiting-is s x H g h p in
+    P.2.values i b ∙ ap (λ k. level_band (short_of s.filter) wrap32 (columns_of s) (side s.y H) g k q.band q.row i) (sym P.2.level-is)
+
+-- and of a map the filter's own
+own-values : (s : Writer) (x : Memory) (H : ℕ) (g : Grid) → Holds H g s x → 0 < s.level → s.levels ≤ (filter_of s.filter).levels → IsMap s.width H g →
+    (i : ℕ) → i < (waiting_row s).length → x ((waiting_row s).start + i) ≡
+    level_band (filter_of s.filter) whole (columns_of s) (side s.y H) g (waiting_row s).level (waiting_row s).band (waiting_row s).row i
+own-values s x H g h p few m i b =
+    let q = waiting_row s in
+    let P = waiting-is s x H g h p in
+    P.2.values i b
+    ∙ map-values s.filter (columns_of s) (side s.y H) g m P.0 (omega (arith, P.1)) q.band q.row i P.2.row_in
+    (subst (λ k. i < k) P.2.length-is b)
+    ∙ ap (λ k. level_band (filter_of s.filter) whole (columns_of s) (side s.y H) g k q.band q.row i) (sym P.2.level-is)
 
 -- and so has the row that is answered, in the output area, where z stood before
 area-values : (s : Writer) (n k : ℕ) (x z : Memory) (H : ℕ) (g : Grid) → Stands H g s x → (b : BandRow) (t : Writer) →
     draw_reply s n k x ≡ gives (a_row b t) → MapRow s.filter (columns_of s) (side s.y H) g b (draw_area s n k x z)
 unfolding draw_reply draw_area
-area-values s n k x z H g h b t e = go (draw_question s n k) s.level refl e
+area-values s n k x z H g h b t e = go (draw_question s n k) s.level refl refl e
   where
     q : Waiting
     q = waiting_row s
@@ -219,18 +240,23 @@ area-values s n k x z H g h b t e = go (draw_question s n k) s.level refl e
     front : (i : ℕ) → i < q.length → y i ≡ x (q.start + i)
     front i p = unfold fronted rest in simp (lt-ltb i q.length p)
 
-    here : 0 < s.level → MapRow s.filter (columns_of s) (side s.y H) g (band_row q) y
-    here p = record {
+    here : 0 < s.level → s.levels ≤ (filter_of s.filter).levels → MapRow s.filter (columns_of s) (side s.y H) g (band_row q) y
+    here p few = record {
       are = λ c f i l.
           front i l ∙ draw-values (at_column s (begun_count s.level s.column)) x H g h.holds p i l
-          ∙ ap (λ d. level_band (filter_of s.filter) wrap32 (columns_of s) (side s.y H) g q.level d q.row i) (code_one q.band c f);
+          ∙ ap (λ d. level_band (short_of s.filter) wrap32 (columns_of s) (side s.y H) g q.level d q.row i) (code_one q.band c f);
+      own = λ m c f i l.
+          front i l ∙ own-values (at_column s (begun_count s.level s.column)) x H g h.holds p few m i l
+          ∙ ap (λ d. level_band (filter_of s.filter) whole (columns_of s) (side s.y H) g q.level d q.row i) (code_one q.band c f);
     }
 
-    go : (a v : ℕ) → s.level ≡ v → unless a (handed v s x) ≡ gives (a_row b t) →
+    go : (a v : ℕ) → draw_question s n k ≡ a → s.level ≡ v → unless a (handed v s x) ≡ gives (a_row b t) →
         MapRow s.filter (columns_of s) (side s.y H) g b (changed_unless a (handed_area v s x z) z)
-    go zero zero l f = let o : ◌≡◌ {A = ℕ} 0 1 = cc in absurd (omega arith)
-    go zero (suc v) l f = let r : band_row q ≡ b = cc in subst (λ d. MapRow s.filter (columns_of s) (side s.y H) g d y) r (here (omega arith))
-    go (suc a) v l f = let o : ◌≡◌ {A = ℕ} 0 1 = cc in absurd (omega arith)
+    go zero zero w l f = let o : ◌≡◌ {A = ℕ} 0 1 = cc in absurd (omega arith)
+    go zero (suc v) w l f =
+        let r : band_row q ≡ b = cc in
+        subst (λ d. MapRow s.filter (columns_of s) (side s.y H) g d y) r (here (omega arith) (draw-sound s n k w).levels.1)
+    go (suc a) v w l f = let o : ◌≡◌ {A = ℕ} 0 1 = cc in absurd (omega arith)
 
 -- ---- finish
 pub finish-keeps : (s : Writer) (n : ℕ) (x : Memory) → FinishKeeps s x (finish_reply s n x) (finish_store s n x)

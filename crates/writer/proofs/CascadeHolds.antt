@@ -31,7 +31,7 @@ use Rattle.level.proofs.Places.{prev-is}
 use Rattle.level.proofs.RestLaws.{rest-join, join-below}
 use Rattle.level.proofs.LevelLaws.{LevelLaws}
 use Rattle.progress.specs.Counts.{deeper, made, low_rows, most, most_left, band_at, skip}
-use Rattle.writer.specs.Machine.{Out, still, under, passed, settled, arrived, arrive, pass_on}
+use Rattle.writer.specs.Machine.{Out, still, under, passed, wait_or_pass, arrived, arrive, pass_on}
 use Rattle.writer.specs.Draws.{Waiting, lower, waiting, advance}
 use Rattle.writer.specs.Closing.{Flushed, stepped, onward, close_step, close_level, flush}
 use Rattle.writer.specs.Holds.{below, LevelHolds, SetWaits, LevelsHold}
@@ -300,12 +300,12 @@ module _ (K : LevelKind) (Held : Meaning) (Ended : Ending) (laws : LevelLaws K H
     abbrev M : Side
     M = side H.start m
 
-    abbrev Settled : ℕ → Type 0
-    Settled n = SetStands K W H g n x → Inv l (next W) (next H) (low_map W H g) (c - A) 0 0 (n - H.start % 2) 0 (rest (K.stretch W) x) →
-        Good (suc l) k W H g c m (settled (pass_on K l W H.start) n x (skip W M n i)) (rows_of k W M n (lasts i) ++ onwards A l k W H.start n)
+    abbrev WaitsOrPasses : ℕ → Type 0
+    WaitsOrPasses n = SetStands K W H g n x → Inv l (next W) (next H) (low_map W H g) (c - A) 0 0 (n - H.start % 2) 0 (rest (K.stretch W) x) →
+        Good (suc l) k W H g c m (wait_or_pass (pass_on K l W H.start) n x (skip W M n i)) (rows_of k W M n (lasts i) ++ onwards A l k W H.start n)
 
-    settle-last : Settled (prev (made A c H.start m))
-    settle-last s u = go (skip W M n i) refl
+    wait-or-pass-last : WaitsOrPasses (prev (made A c H.start m))
+    wait-or-pass-last s u = go (skip W M n i) refl
       where
         n : ℕ
         n = prev (made A c H.start m)
@@ -316,21 +316,21 @@ module _ (K : LevelKind) (Held : Meaning) (Ended : Ending) (laws : LevelLaws K H
         left : (j : ℕ) → skip W M n i ≡ j → rows_of k W M n (lasts j) ++ later_rows ≡ rows_of k W M n (lasts i) ++ later_rows
         left j z = ap (λ r. r ++ later_rows) (ap (λ q. rows_of k W M n (lasts q)) (sym z) ∙ skip-rows k W M n i)
 
-        go : (j : ℕ) → skip W M n i ≡ j → Good (suc l) k W H g c m (settled (pass_on K l W H.start) n x j) (rows_of k W M n (lasts i) ++ later_rows)
+        go : (j : ℕ) → skip W M n i ≡ j → Good (suc l) k W H g c m (wait_or_pass (pass_on K l W H.start) n x j) (rows_of k W M n (lasts i) ++ later_rows)
         go zero z =
-            unfold settled in
+            unfold wait_or_pass in
             let q : later_rows ≡ rows_of k W M n (lasts i) ++ later_rows = unfold rows_of lasts in left 0 z in
             subst (λ r. Good (suc l) k W H g c m (pass_on K l W H.start n x) r) q
             (pass-good l ih k W H g c m n x v (omega (arith, prev-is (made A c H.start m))) (here-below W H g c m 0 x v one) s u)
         go (suc j) z =
-            unfold settled LevelsHold SetWaits below pend in record {
+            unfold wait_or_pass LevelsHold SetWaits below pend in record {
               inv = (v, record { some_left = omega arith; has = skip-has W M n i j z; one = one; stands = s }, inv_left l _ _ _ (c - A) 0 (suc j) _ 0 _ u);
               rows = left (suc j) z;
               few = omega (arith, skip-le W M n i, left-first l);
             }
 
-    settle-good : (n : ℕ) → n ≡ prev (made A c H.start m) → Settled n
-    settle-good n e = subst Settled (sym e) settle-last
+    wait-or-pass-good : (n : ℕ) → n ≡ prev (made A c H.start m) → WaitsOrPasses n
+    wait-or-pass-good n e = subst WaitsOrPasses (sym e) wait-or-pass-last
 
   -- ---- row m is complete
   module _ (l : ℕ) (ih : Receives l) (k : ℕ) (W H : Side) (g : Grid) (m i : ℕ) (x : Memory) (h : m < H.length) (v : Inv (suc l) W H g 0 0 i m W.length x)
@@ -378,13 +378,13 @@ module _ (K : LevelKind) (Held : Meaning) (Ended : Ending) (laws : LevelLaws K H
             (subst₂ (λ a t. Inv l (next W) (next H) (low_map W H g) (0 - A) 0 i (a - s % 2) 0 t) earlier
             (sym (rest-same (K.stretch W) x y (λ j p. make-past W s n x j p))) v.2)
 
-        got-set : Good (suc l) k W H g 0 (suc m) (settled (pass_on K l W s) n y (skip W (side s (suc m)) n (most l)))
+        got-set : Good (suc l) k W H g 0 (suc m) (wait_or_pass (pass_on K l W s) n y (skip W (side s (suc m)) n (most l)))
             (set_rows l k W (side s (suc m)) n ++ onwards A l k W s n)
         unfolding set_rows
         got-set =
-            subst (λ r. Good (suc l) k W H g 0 (suc m) (settled (pass_on K l W s) n y (skip W (side s (suc m)) n (most l)))
+            subst (λ r. Good (suc l) k W H g 0 (suc m) (wait_or_pass (pass_on K l W s) n y (skip W (side s (suc m)) n (most l)))
             (rows_of k W (side s (suc m)) n r ++ onwards A l k W s n)) (lasts-most l)
-            (settle-good l ih k W H g 0 (suc m) (most l) (omega arith) y here (omega (arith, sets)) n (omega (arith, sets, prev-is (made A 0 s (suc m))))
+            (wait-or-pass-good l ih k W H g 0 (suc m) (most l) (omega arith) y here (omega (arith, sets)) n (omega (arith, sets, prev-is (made A 0 s (suc m))))
             (make-stands W H g m n x e h held) sub)
 
       got : Good (suc l) k W H g 0 (suc m) (arrive K (suc l) W s m x) (made_by A (suc l) k W s m)
@@ -466,7 +466,7 @@ module _ (K : LevelKind) (Held : Meaning) (Ended : Ending) (laws : LevelLaws K H
     };
     first = unfold lasts in (ap (λ r. r ++ later_rows) (rows-yes k W M n b (lasts i) v.1.has)
         ∙ ap (λ a. row_name a b (set_row M b n) ∷ (rows_of k W M n (lasts i) ++ later_rows)) (omega arith));
-    good = settle-good l (arrive-good l) k W H g c m i (omega (arith, left-first l)) x here v.1.one n refl v.1.stands
+    good = wait-or-pass-good l (arrive-good l) k W H g c m i (omega (arith, left-first l)) x here v.1.one n refl v.1.stands
         (inv_left l _ _ _ (c - A) (suc i) 0 _ 0 _ v.2);
   }
     where
@@ -605,13 +605,13 @@ module _ (K : LevelKind) (Held : Meaning) (Ended : Ending) (laws : LevelLaws K H
             subst (λ t. Inv l (next W) (next H) (low_map W H g) (suc c - A) 0 0 (n - H.start % 2) 0 t)
             (sym (rest-same (K.stretch W) x x₁ (λ j p. close-past W R n x j p))) went
 
-        step_set : Good (suc l) k W H g (suc c) m (settled (pass_on K l W H.start) n x₁ (skip W R n (most l)))
+        step_set : Good (suc l) k W H g (suc c) m (wait_or_pass (pass_on K l W H.start) n x₁ (skip W R n (most l)))
             (set_rows l k W R n ++ onwards A l k W H.start n)
         unfolding set_rows
         step_set =
-            subst (λ r. Good (suc l) k W H g (suc c) m (settled (pass_on K l W H.start) n x₁ (skip W R n (most l)))
+            subst (λ r. Good (suc l) k W H g (suc c) m (wait_or_pass (pass_on K l W H.start) n x₁ (skip W R n (most l)))
             (rows_of k W R n r ++ onwards A l k W H.start n)) (lasts-most l)
-            (settle-good l (arrive-good l) k W H g (suc c) m (most l) (omega arith) x₁ closes (omega (arith, more)) n
+            (wait-or-pass-good l (arrive-good l) k W H g (suc c) m (most l) (omega arith) x₁ closes (omega (arith, more)) n
             (omega (arith, more, prev-is (made A (suc c) H.start m))) stands went₁)
 
         set-rows : (set_rows l k W R n ++ onwards A l k W H.start n) ++ later A (suc l) k W H (suc c) ≡ later A (suc l) k W H c

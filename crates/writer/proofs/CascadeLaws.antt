@@ -22,20 +22,20 @@ use Rattle.level.proofs.RestLaws.{rest-join, join-again}
 use Rattle.progress.specs.declared.waits.Wait.{Wait}
 use Rattle.progress.specs.Counts.{deeper, further, most, skip, start_of}
 use Rattle.progress.specs.Waits.{no_wait, seen_from}
-use Rattle.writer.specs.Machine.{Out, still, under, passed, settled, arrived, arrive, pass_on}
+use Rattle.writer.specs.Machine.{Out, still, under, passed, wait_or_pass, arrived, arrive, pass_on}
 use Rattle.writer.specs.Steps.{Room, Left}
 use Rattle.progress.proofs.CountLaws.{deeper-le, deeper-by-one, start_first, start-deeper, start_small}
 
 -- ---- a set that is made
-pub settled-waits : (pass : ℕ → Memory → Out) (n i : ℕ) (x : Memory) → 0 < i → settled pass n x i ≡ record { store = x; level = 1; left = i }
-unfolding settled
-settled-waits pass n zero x h = absurd (omega arith)
-settled-waits pass n (suc i) x h = refl
+pub wait-or-pass-waits : (pass : ℕ → Memory → Out) (n i : ℕ) (x : Memory) → 0 < i → wait_or_pass pass n x i ≡ record { store = x; level = 1; left = i }
+unfolding wait_or_pass
+wait-or-pass-waits pass n zero x h = absurd (omega arith)
+wait-or-pass-waits pass n (suc i) x h = refl
 
-pub settled-goes : (pass : ℕ → Memory → Out) (n i : ℕ) (x : Memory) → i ≡ 0 → settled pass n x i ≡ pass n x
-unfolding settled
-settled-goes pass n zero x h = refl
-settled-goes pass n (suc i) x h = absurd (omega arith)
+pub wait-or-pass-goes : (pass : ℕ → Memory → Out) (n i : ℕ) (x : Memory) → i ≡ 0 → wait_or_pass pass n x i ≡ pass n x
+unfolding wait_or_pass
+wait-or-pass-goes pass n zero x h = refl
+wait-or-pass-goes pass n (suc i) x h = absurd (omega arith)
 
 -- where a row goes on
 pub goes : (l s n : ℕ) (t : Bool) → t ≡ both (ltb 0 l) (leb (s % 2) n) → not t ≡ false → (0 < l) × (s % 2 ≤ n)
@@ -174,14 +174,14 @@ module _ (φ : ℕ) where
         go zero d = unfold arrive in refl
         go (suc l) d = unfold arrive arrived in simp (more l d)
 
-    pub arrive-set : 0 < l → completes A s m ≡ true → arrive K l W s m x ≡ settled (pass_on K (l - 1) W s)
+    pub arrive-set : 0 < l → completes A s m ≡ true → arrive K l W s m x ≡ wait_or_pass (pass_on K (l - 1) W s)
         ((s % 2 + m) / 2 - A) (K.make W s ((s % 2 + m) / 2 - A) x) (skip W (side s (m + 1)) ((s % 2 + m) / 2 - A) (most (l - 1)))
     arrive-set h e = go l h
       where
         n : ℕ
         n = (s % 2 + m) / 2 - A
 
-        go : (l : ℕ) → 0 < l → arrive K l W s m x ≡ settled (pass_on K (l - 1) W s) n (K.make W s n x)
+        go : (l : ℕ) → 0 < l → arrive K l W s m x ≡ wait_or_pass (pass_on K (l - 1) W s) n (K.make W s n x)
             (skip W (side s (m + 1)) n (most (l - 1)))
         go zero h = absurd (omega arith)
         go (suc l) h = let q : suc l - 1 ≡ l = omega arith in rw q (unfold arrive arrived in simp e)
@@ -195,18 +195,18 @@ module _ (φ : ℕ) where
     hl : 0 < l
     hl = (makes_set l s m c ec sure).0
 
-    came : arrive K l W s m x ≡ settled (pass_on K (l - 1) W s) n x₁ (skip W (side s (m + 1)) n (most (l - 1)))
+    came : arrive K l W s m x ≡ wait_or_pass (pass_on K (l - 1) W s) n x₁ (skip W (side s (m + 1)) n (most (l - 1)))
     came =
         arrive-set l W s m x hl (makes_set l s m c ec sure).1
-        ∙ ap (λ (k : ℕ). settled (pass_on K (l - 1) W s) k (K.make W s k x) (skip W (side s (m + 1)) k (most (l - 1)))) (sym en)
-        ∙ ap (λ (y : Memory). settled (pass_on K (l - 1) W s) n y (skip W (side s (m + 1)) n (most (l - 1)))) (sym e₁)
+        ∙ ap (λ (k : ℕ). wait_or_pass (pass_on K (l - 1) W s) k (K.make W s k x) (skip W (side s (m + 1)) k (most (l - 1)))) (sym en)
+        ∙ ap (λ (y : Memory). wait_or_pass (pass_on K (l - 1) W s) n y (skip W (side s (m + 1)) n (most (l - 1)))) (sym e₁)
 
     pub came-waits : i ≡ skip W (side s (m + 1)) n (most (l - 1)) → 0 < i →
         Left φ l W (arrive K l W s m x) (record { level = 1; left = i; offset = 0 }) x₁
-    came-waits q h = left-waits l W i _ x₁ hl (came ∙ ap (settled (pass_on K (l - 1) W s) n x₁) (sym q) ∙ settled-waits _ n i x₁ h)
+    came-waits q h = left-waits l W i _ x₁ hl (came ∙ ap (wait_or_pass (pass_on K (l - 1) W s) n x₁) (sym q) ∙ wait-or-pass-waits _ n i x₁ h)
 
     goes-on : i ≡ skip W (side s (m + 1)) n (most (l - 1)) → i ≡ 0 → arrive K l W s m x ≡ pass_on K (l - 1) W s n x₁
-    goes-on q h = came ∙ ap (settled (pass_on K (l - 1) W s) n x₁) (sym q) ∙ settled-goes _ n i x₁ h
+    goes-on q h = came ∙ ap (wait_or_pass (pass_on K (l - 1) W s) n x₁) (sym q) ∙ wait-or-pass-goes _ n i x₁ h
 
     pub came-last : i ≡ skip W (side s (m + 1)) n (most (l - 1)) → i ≡ 0 → (t : Bool) → t ≡ both (ltb 0 (l - 1)) (leb (s % 2) n) → not t ≡ true →
         (r : Wait) → r ≡ no_wait → Left φ l W (arrive K l W s m x) r x₁

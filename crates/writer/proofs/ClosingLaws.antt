@@ -17,11 +17,11 @@ use Rattle.progress.specs.declared.waits.Wait.{Wait}
 use Rattle.writer.specs.declared.closing.Closure.{Closure}
 use Rattle.progress.specs.Counts.{made, most, skip}
 use Rattle.progress.specs.Waits.{no_wait, seen_from}
-use Rattle.writer.specs.Machine.{Out, still, under, settled, pass_on}
+use Rattle.writer.specs.Machine.{Out, still, under, wait_or_pass, pass_on}
 use Rattle.writer.specs.Closing.{Flushed, stepped, onward, close_step, close_level, flush}
 use Rattle.writer.specs.Steps.{Left, LevelClosed, Closed}
 use Rattle.progress.proofs.CountLaws.{steps-more}
-use Rattle.writer.proofs.CascadeLaws.{left-still, left-waits, left-same, left-fits, left-under, settled-waits, settled-goes}
+use Rattle.writer.proofs.CascadeLaws.{left-still, left-waits, left-same, left-fits, left-under, wait-or-pass-waits, wait-or-pass-goes}
 
 -- ---- the steps of a level
 stepped-waits : (c : ℕ) (f : Memory → Flushed) (o : Out) (v : ℕ) → 0 < v → stepped c f o v ≡ record { closed = suc c; out = o }
@@ -69,19 +69,19 @@ module _ (φ : ℕ) where
     unfolding close_step
     step-none h = let e : test ≡ false = sym test-is ∙ not-true t h in simp e
 
-    step_set : not t ≡ false → close_step K l w s c m x ≡ settled (pass_on K l w s) n (K.close w (side s m) n x) (skip w (side s m) n (most l))
+    step_set : not t ≡ false → close_step K l w s c m x ≡ wait_or_pass (pass_on K l w s) n (K.close w (side s m) n x) (skip w (side s m) n (most l))
     unfolding close_step
     step_set h = let e : test ≡ true = sym test-is ∙ not-false t h in rw en (simp e)
 
     module _ (h : not t ≡ false) (q i : ℕ) (x₁ : Memory) (e₁ : x₁ ≡ K.close w (side s m) n x) (eq : q ≡ most l) (ei : i ≡ skip w (side s m) n q) where
-      closes : close_step K l w s c m x ≡ settled (pass_on K l w s) n x₁ i
+      closes : close_step K l w s c m x ≡ wait_or_pass (pass_on K l w s) n x₁ i
       closes = step_set h ∙ cc
 
       pub step_waits : 0 < i → Left φ (l + 1) w (close_step K l w s c m x) (record { level = 1; left = i; offset = 0 }) x₁
-      step_waits g = left-waits φ (l + 1) w i _ x₁ (omega arith) (closes ∙ settled-waits _ n i x₁ g)
+      step_waits g = left-waits φ (l + 1) w i _ x₁ (omega arith) (closes ∙ wait-or-pass-waits _ n i x₁ g)
 
       pub step-goes : (r : Wait) (y : Memory) → i ≡ 0 → Left φ (l + 1) w (pass_on K l w s n x₁) r y → Left φ (l + 1) w (close_step K l w s c m x) r y
-      step-goes r y g f = left-same φ (l + 1) w _ _ r y (closes ∙ settled-goes _ n i x₁ g) f
+      step-goes r y g f = left-same φ (l + 1) w _ _ r y (closes ∙ wait-or-pass-goes _ n i x₁ g) f
 
   module _ (l : ℕ) (w : Side) (s m : ℕ) where
     abbrev pub from : ℕ → Memory → Flushed

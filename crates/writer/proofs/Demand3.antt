@@ -21,14 +21,13 @@ use Rattle.lifting.specs.Grid.{Side, side}
 use Rattle.wavelet.specs.Levels.{level_band}
 use Rattle.wavelet.specs.ViewCall.{band_row_exists}
 use Rattle.wavelet.proofs.OrderOnce.{made-once}
-use Rattle.wavelet.proofs.Bridge.{map-band}
 use Rattle.calls.specs.Lists.{All}
 use Rattle.calls.proofs.AllLaws.{all_map, all_take, all-at}
 use Rattle.filters.specs.Filters.{filter_of}
-use Rattle.filters.proofs.Filters.{filter-laws}
 use Rattle.level.specs.Level.{Memory, rest}
 use Rattle.filters.specs.Figures.{streamable}
 use Rattle.filters.proofs.FigureLaws.{streams}
+use Rattle.analysis.proofs.ShortFilters.{map-values}
 use Rattle.analysis.proofs.ForwardLaws.{laws-of}
 use Rattle.writer.specs.Taking.{columns_of}
 use Rattle.writer.specs.Questions.{in_ranges, set_up_question}
@@ -49,7 +48,7 @@ right-values φ L W top H g few es m d t = record {
   are = λ b e j p.
       let same : b ≡ t.band = code_one b t.band (sym e ∙ t.band-is) in
       t.values j p
-      ∙ map-band (filter_of φ) (filter-laws φ) W (side top H) g m.map t.depth (omega (arith, t.deep)) t.band d.row.row j
+      ∙ map-values φ W (side top H) g m.map t.depth (omega (arith, t.deep)) t.band d.row.row j
       t.row_in (subst (λ k. j < k) t.length-is p)
       ∙ ap₂ (λ k c. level_band (filter_of φ) whole W (side top H) g k c d.row.row j) (sym t.level-is) (sym same);
 }

@@ -19,12 +19,12 @@ use Rattle.filters.proofs.FigureLaws.{store-few}
 use Rattle.analysis.proofs.ForwardLaws.{place-room}
 use Rattle.writer.specs.declared.Writer.{Writer}
 use Rattle.progress.specs.declared.waits.Wait.{Wait}
-use Rattle.progress.specs.declared.levels.Level.{Level}
+use Rattle.progress.specs.declared.levels.LevelProgress.{LevelProgress}
 use Rattle.writer.specs.declared.draws.PlacedRow.{PlacedRow}
 use Rattle.progress.specs.Levels.{level_at}
 use Rattle.progress.specs.Waits.{seen_from}
 use Rattle.progress.specs.Counts.{deeper_by, further, made, low_rows, band_at, skip, start_of}
-use Rattle.writer.specs.Machine.{Out, under, settled, pass_on}
+use Rattle.writer.specs.Machine.{Out, under, wait_or_pass, pass_on}
 use Rattle.writer.specs.Draws.{lower, row_of, waiting, advance}
 use Rattle.writer.specs.Taking.{kind, columns_of}
 use Rattle.writer.specs.Questions.{waiting_row}
@@ -32,7 +32,7 @@ use Rattle.writer.specs.Calls.{advanced, band_row}
 use Rattle.writer.specs.Steps.{Left, Found, Reaches, columns, received, waiting_at, advance_at, from, placed_of, Walk}
 use Rattle.progress.proofs.CountLaws.{start_first, start-deeper, further-none, further-some, deeper-by-same, deeper-by-more, deeper-by-none}
 use Rattle.progress.proofs.CountLaws.{deeper-by-some, deeper-by-le, made-le, low-le, start-more}
-use Rattle.writer.proofs.CascadeLaws.{left-same, left-small, settled-waits, settled-goes}
+use Rattle.writer.proofs.CascadeLaws.{left-same, left-small, wait-or-pass-waits, wait-or-pass-goes}
 
 -- ---- the store from a place on, in two steps
 pub rest-rest : (a b : ℕ) (x : Memory) → rest b (rest a x) ≡ rest (a + b) x
@@ -113,7 +113,7 @@ module _ (φ : ℕ) where
         let q : suc (suc v) - 1 ≡ suc v = omega arith in
         rw (p, q) refl
 
-    pub advance-here : (l v : ℕ) (x : Memory) → 0 < l → v ≡ 1 → advance K l w s c v i m x ≡ settled (pass_on K (l - 1) w s) (prev (made A c s m)) x
+    pub advance-here : (l v : ℕ) (x : Memory) → 0 < l → v ≡ 1 → advance K l w s c v i m x ≡ wait_or_pass (pass_on K (l - 1) w s) (prev (made A c s m)) x
         (skip w (side s m) (prev (made A c s m)) (prev i))
     unfolding advance
     advance-here zero v x h e = absurd (omega arith)
@@ -133,7 +133,7 @@ module _ (φ : ℕ) where
         rw (p, q) refl
 
   module _ (w : Side) (s c m l v a i : ℕ) (e : v ≡ 1) (z : a ≡ 0) where
-    abbrev first : Level
+    abbrev first : LevelProgress
     first = record { width = w.length; x = w.start; rows = m; y = s; set = prev (made A c s m) }
 
     at_first : waiting_at φ v a first i ≡ row_of K w (side s m) (prev (made A c s m)) (band_at (prev i))
@@ -142,7 +142,7 @@ module _ (φ : ℕ) where
         let k : 0 + K.place w s (prev (made A c s m)) (band_at (prev i)) ≡ K.place w s (prev (made A c s m)) (band_at (prev i)) = omega arith in
         rw (z, e, k) refl
 
-    advance-first : (x : Memory) → advance_at φ l v a first i x ≡ settled (pass_on K l w s)
+    advance-first : (x : Memory) → advance_at φ l v a first i x ≡ wait_or_pass (pass_on K l w s)
         (prev (made A c s m)) x (skip w (side s m) (prev (made A c s m)) (prev i))
     unfolding advance_at
     advance-first x = rw (z, e, rest-first x) (from_first x _)
@@ -175,7 +175,7 @@ module _ (φ : ℕ) where
         last = omega arith;
       }
 
-  module _ (w : Side) (v : ℕ) (r : Level) (i : ℕ) (g : 1 < v) where
+  module _ (w : Side) (v : ℕ) (r : LevelProgress) (i : ℕ) (g : 1 < v) where
     at-below : lower (R * w.length) (waiting_at φ (v - 1) (start_of φ (next w) (v - 1)) r i) ≡ waiting_at φ v (start_of φ w v) r i
     unfolding waiting_at
     at-below =
@@ -211,7 +211,7 @@ module _ (φ : ℕ) where
       ∙ sum
       ∙ further-some (suc u) (start_of φ w v) _ (omega arith)
 
-  reaches-below : (l : ℕ) (w : Side) (s c v m : ℕ) (r : Level) → 1 < v → v ≤ l →
+  reaches-below : (l : ℕ) (w : Side) (s c v m : ℕ) (r : LevelProgress) → 1 < v → v ≤ l →
       Reaches φ (l - 1) (next w) ((s + 1) / 2) (c - A) (v - 1) (low_rows s (made A c s m)) r → Reaches φ l w s c v m r
   reaches-below l w s c v m r g g' below =
       let e : l - 1 - (v - 1) ≡ l - v = omega arith in
@@ -248,11 +248,11 @@ module _ (φ : ℕ) where
         deep = omega (arith, h.deep);
       })))
 
-  pub reached : (l : ℕ) (w : Side) (s c v m : ℕ) (r : Level) → Walk l w v m → r ≡ level_at A w s c v m → Reaches φ l w s c v m r
+  pub reached : (l : ℕ) (w : Side) (s c v m : ℕ) (r : LevelProgress) → Walk l w v m → r ≡ level_at A w s c v m → Reaches φ l w s c v m r
   reached l w s c v m r h e = rw e (reaches v l w s c m h)
 
   -- ---- the row that waits, and what the draw of it leaves
-  module _ (v a : ℕ) (r : Level) (i : ℕ) where
+  module _ (v a : ℕ) (r : LevelProgress) (i : ℕ) where
     at-is : (j b n d p : ℕ) → j ≡ prev i → b ≡ code (band_at j) → n ≡ set_row (received r) (band_at j) r.set → d ≡ count (across (band_at j)) (columns r) →
         p ≡ K.place (columns r) r.y r.set (band_at j) → record { level = v; band = b; row = n; length = d; start = a + p } ≡ placed_of
         (waiting_at φ v a r i)
@@ -260,11 +260,11 @@ module _ (φ : ℕ) where
     at-is j b n d p ej eb en ed ep = cc
 
     advance-is : (x : Memory) (b p j : ℕ) → p ≡ prev i → j ≡ skip (columns r) (received r) r.set p →
-        advance_at φ b v a r i x ≡ from (prev v) a x (settled (pass_on K b (columns r) r.y) r.set (rest a x) j)
+        advance_at φ b v a r i x ≡ from (prev v) a x (wait_or_pass (pass_on K b (columns r) r.y) r.set (rest a x) j)
     unfolding advance_at
     advance-is x b p j ep ej = cc
 
-module _ (s : Writer) (r : Level) (f : Reaches s.filter s.levels (columns_of s) s.y s.closed s.level s.rows r)
+module _ (s : Writer) (r : LevelProgress) (f : Reaches s.filter s.levels (columns_of s) s.y s.closed s.level s.rows r)
     (placed : s.offset ≡ start_of s.filter (columns_of s) s.level) where
   row_is : waiting_row s ≡ waiting_at s.filter s.level s.offset r s.left
   row_is = f.waits s.left ∙ ap (λ (a : ℕ). waiting_at s.filter s.level a r s.left) (sym placed)
@@ -291,7 +291,7 @@ module _ (s : Writer) (r : Level) (f : Reaches s.filter s.levels (columns_of s) 
 
   module _ (x : Memory) (p i : ℕ) (ep : p ≡ prev s.left) (ei : i ≡ skip (columns r) (received r) r.set p) where
     draw-is : advanced s x
-        ≡ from (prev s.level) s.offset x (settled (pass_on (kind s) (s.levels - s.level) (columns r) r.y) r.set (rest s.offset x) i)
+        ≡ from (prev s.level) s.offset x (wait_or_pass (pass_on (kind s) (s.levels - s.level) (columns r) r.y) r.set (rest s.offset x) i)
     draw-is =
         f.advances s.left x
         ∙ ap (λ (a : ℕ). advance_at s.filter (s.levels - s.level) s.level a r s.left x) (sym placed)
@@ -301,7 +301,7 @@ module _ (s : Writer) (r : Level) (f : Reaches s.filter s.levels (columns_of s) 
     pub advance-waits : 0 < s.level → 0 < i →
         Left s.filter s.levels (columns_of s) (advanced s x) (record { level = s.level; left = i; offset = s.offset }) x
     advance-waits h g =
-        let q = settled-waits (pass_on (kind s) (s.levels - s.level) (columns r) r.y) r.set i (rest s.offset x) g in
+        let q = wait-or-pass-waits (pass_on (kind s) (s.levels - s.level) (columns r) r.y) r.set i (rest s.offset x) g in
         let v : 1 + prev s.level ≡ s.level = omega (arith, prev-is s.level) in
         let d : deeper_by (prev s.level) 1 ≡ s.level = sym (deeper-by-some (prev s.level) 1 (omega arith)) ∙ v in
         left-same s.filter s.levels (columns_of s) _ _ _ x (draw-is ∙ ap (from (prev s.level) s.offset x) q)
@@ -329,7 +329,7 @@ module _ (s : Writer) (r : Level) (f : Reaches s.filter s.levels (columns_of s) 
         eq (omega (arith, a.within, h.last, h.deep), omega (arith, small, few, f.room, placed, h.wide, h.deep))
         ∙ ap (λ (k : ℕ). seen_from k s.offset o) k in
         left-same s.filter s.levels (columns_of s) _ _ _ z
-        (draw-is ∙ ap (from (prev s.level) s.offset x) (settled-goes (pass_on (kind s) (s.levels - s.level) (columns r) r.y) r.set i _ g))
+        (draw-is ∙ ap (from (prev s.level) s.offset x) (wait-or-pass-goes (pass_on (kind s) (s.levels - s.level) (columns r) r.y) r.set i _ g))
         (rw seen (record {
           level = ap (deeper_by (prev s.level)) a.level;
           left = a.left;

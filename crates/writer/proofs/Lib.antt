@@ -27,3 +27,5 @@ pub mod RangesKept
 pub mod RunLaws
 pub mod RunSets
 pub mod RunList
+
+mod Clauses

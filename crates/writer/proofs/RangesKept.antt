@@ -25,7 +25,7 @@ use Rattle.writer.specs.Questions.{most_column, in_ranges, long_enough}
 use Rattle.writer.specs.FirstQuestions.{state_question}
 use Rattle.writer.specs.Calls.{waits, resumed, advanced, after_draw, drawn_on}
 use Rattle.writer.specs.OfferSteps.{Reaching}
-use Rattle.writer.specs.Machine.{Out, still, under, passed, settled, arrived, arrive, pass_on}
+use Rattle.writer.specs.Machine.{Out, still, under, passed, wait_or_pass, arrived, arrive, pass_on}
 use Rattle.writer.specs.Draws.{advance}
 use Rattle.writer.specs.Closing.{Flushed, stepped, onward, close_step, close_level, flush}
 use Rattle.writer.proofs.Waiting.{skip-le}
@@ -53,10 +53,10 @@ pick-within : (L : ℕ) (t : Bool) (o p : Out) → Within L o → Within L p →
 pick-within L true o p a b = a
 pick-within L false o p a b = b
 
-settled-within : (l n i : ℕ) (pass : ℕ → Memory → Out) (x : Memory) → i ≤ most l → Within (suc l) (pass n x) → Within (suc l) (settled pass n x i)
-unfolding settled
-settled-within l n zero pass x h w = w
-settled-within l n (suc i) pass x h w = record { level = omega arith; left = omega (arith, left-first l) }
+wait-or-pass-within : (l n i : ℕ) (pass : ℕ → Memory → Out) (x : Memory) → i ≤ most l → Within (suc l) (pass n x) → Within (suc l) (wait_or_pass pass n x i)
+unfolding wait_or_pass
+wait-or-pass-within l n zero pass x h w = w
+wait-or-pass-within l n (suc i) pass x h w = record { level = omega arith; left = omega (arith, left-first l) }
 
 module _ (K : LevelKind) where
   passed-within : (l : ℕ) (below : ℕ → Memory → Out) → ((n : ℕ) (x : Memory) → Within l (below n x)) → (W : Side) (s n : ℕ) (x : Memory) →
@@ -71,7 +71,7 @@ module _ (K : LevelKind) where
   arrive-within zero W s m x = still-within 0 x
   arrive-within (suc l) W s m x =
       pick-within (suc l) (completes (ahead K) s m) _ (still x)
-      (settled-within l _ _ _ _ (skip-le W (side s (m + 1)) ((s % 2 + m) / 2 - ahead K) (most l))
+      (wait-or-pass-within l _ _ _ _ (skip-le W (side s (m + 1)) ((s % 2 + m) / 2 - ahead K) (most l))
       (passed-within l _ (arrive-within l (next W) ((s + 1) / 2)) W s _ _))
       (still-within (suc l) x)
 
@@ -84,7 +84,7 @@ module _ (K : LevelKind) where
   advance-within (suc l) W s c zero i m x h = still-within (suc l) x
   advance-within (suc l) W s c (suc zero) i m x h =
       let n = prev (made (ahead K) c s m) in
-      settled-within l n _ (pass_on K l W s) x
+      wait-or-pass-within l n _ (pass_on K l W s) x
       (omega (arith, skip-le W (side s m) n (prev i), prev-le i, left-first l)) (pass-within l W s n x)
     where
       prev-le : (i : ℕ) → prev i ≤ i
@@ -99,7 +99,7 @@ module _ (K : LevelKind) where
   unfolding close_step
   step-within l W s c m x =
       pick-within (suc l) (both (ltb 0 m) (leb (made (ahead K) c s m) (last_set (side s m)))) _ (still x)
-      (settled-within l _ _ _ _ (skip-le W (side s m) (made (ahead K) c s m) (most l)) (pass-within l W s _ _))
+      (wait-or-pass-within l _ _ _ _ (skip-le W (side s m) (made (ahead K) c s m) (most l)) (pass-within l W s _ _))
       (still-within (suc l) x)
 
   pub record Flushes (L c : ℕ) (r : Flushed) : Type 0 where

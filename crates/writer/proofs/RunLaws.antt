@@ -15,7 +15,7 @@ use Rattle.lifting.specs.Halves.{fronted}
 use Rattle.wavelet.specs.Limits.{max_height}
 use Rattle.calls.specs.Lists.{Reply, gives, seen, Area}
 use Rattle.level.specs.Level.{Memory, prev, rest, join_at}
-use Rattle.progress.specs.declared.levels.Level.{Level}
+use Rattle.progress.specs.declared.levels.LevelProgress.{LevelProgress}
 use Rattle.progress.specs.Counts.{skip}
 use Rattle.writer.specs.declared.Writer.{Writer}
 use Rattle.writer.specs.declared.BandRow.{BandRow}
@@ -227,7 +227,7 @@ module _ (n k m : ℕ) (d : Counts) (s : Writer) (x z : Memory) (l : List ℕ) (
     }
 
 -- the next band of the set waits after it
-pub next-waits : (s : Writer) (n : ℕ) (x : Memory) (q : Level) → state_question s n ≡ 0 → 0 < s.level → Reached s q → (p i : ℕ) → p ≡ prev s.left →
+pub next-waits : (s : Writer) (n : ℕ) (x : Memory) (q : LevelProgress) → state_question s n ≡ 0 → 0 < s.level → Reached s q → (p i : ℕ) → p ≡ prev s.left →
     i ≡ skip (columns q) (received q) q.set p → 0 < i → DrewOn s x (with_left s i) x
 next-waits s n x q h some reach p i ep ei more = drew-still s x (with_left s i) x (go s.finished refl) some
   where

@@ -19,7 +19,7 @@ use Rattle.calls.proofs.QuestionLaws.{asked-yes, not_yes}
 use Rattle.filters.specs.Filters.{filter_of}
 use Rattle.level.specs.Level.{Memory, prev, rest, join_at}
 use Rattle.level.proofs.Places.{prev-is}
-use Rattle.progress.specs.declared.levels.Level.{Level}
+use Rattle.progress.specs.declared.levels.LevelProgress.{LevelProgress}
 use Rattle.progress.specs.Counts.{skip}
 use Rattle.progress.specs.Levels.{level_at}
 use Rattle.writer.specs.declared.Writer.{Writer}
@@ -72,11 +72,12 @@ offer-takes-row s n f z j k e h =
     (sound-taker s n (sound s n f) z, takes-rows s q.takes, q.row, q.run)
 
 -- ---- the level of a set, and the row that waits there, i bands of it being left
-pub set-reached : (s : Writer) (n : ℕ) → state_question s n ≡ 0 → 0 < s.level → (q : Level) →
+pub set-reached : (s : Writer) (n : ℕ) → state_question s n ≡ 0 → 0 < s.level → (q : LevelProgress) →
     q ≡ level_at (filter_of s.filter).ahead (columns_of s) s.y s.closed s.level s.rows → Reached s q
 set-reached s n f h q e = reached s.filter s.levels (columns_of s) s.y s.closed s.level s.rows q (sound-walk s n (sound s n f) h) e
 
-pub left-waits : (s : Writer) (n i : ℕ) (q : Level) → state_question (with_left s i) n ≡ 0 → 0 < s.level → Reached s q → (t : Writer) → t ≡ with_left s i →
+pub left-waits : (s : Writer) (n i : ℕ) (q : LevelProgress) → state_question (with_left s i) n ≡ 0 → 0 < s.level → Reached s q → (t : Writer) →
+    t ≡ with_left s i →
     Walk t.levels (columns_of t) t.level t.rows × Placed t × Reached t q
 left-waits s n i q f h g t e =
     subst (λ (t : Writer). Walk t.levels (columns_of t) t.level t.rows × Placed t × Reached t q) (sym e)
@@ -126,7 +127,7 @@ module _ (n k m a b : ℕ) (ea : a ≡ k) (eb : b ≡ m) (d : Counts) (t : Write
       }
 
 -- ---- the last row of a set: the others are put
-pub record Last (n k m : ℕ) (p : Run) (d : Counts) (t : Writer) (x z : Memory) (l : List ℕ) (q : Level) : Type 0 where
+pub record Last (n k m : ℕ) (p : Run) (d : Counts) (t : Writer) (x z : Memory) (l : List ℕ) (q : LevelProgress) : Type 0 where
   pub draws : Draws n k m p (run_at d t x z l)
   pub some : 0 < t.level
   pub waits : Walk t.levels (columns_of t) t.level t.rows × Placed t × Reached t q
@@ -137,7 +138,7 @@ pub draws-rows : (n k m : ℕ) (p r : Run) → Draws n k m p r → p.rows ≤ r.
 draws-rows n k m p r d = let f = (d.went []).few in omega (arith, f, d.taken)
 
 pub last_row : (s : Writer) (i n k m : ℕ) (d₀ d : Counts) (x z z' : Memory) (l l' : List ℕ) →
-    Draws n k m (run_at d₀ s x z l) (run_at d (with_left s i) x z' l') → state_question s n ≡ 0 → 0 < s.level → (q : Level) →
+    Draws n k m (run_at d₀ s x z l) (run_at d (with_left s i) x z' l') → state_question s n ≡ 0 → 0 < s.level → (q : LevelProgress) →
     q ≡ level_at (filter_of s.filter).ahead (columns_of s) s.y s.closed s.level s.rows → (t : Writer) → t ≡ with_left s i →
     Last n k m (run_at d₀ s x z l) d t x z' l' q
 last_row s i n k m d₀ d x z z' l l' g f h q eq t et = record {
@@ -147,7 +148,7 @@ last_row s i n k m d₀ d x z z' l l' g f h q eq t et = record {
   rows = draws-rows n k m _ _ g;
 }
 
-module _ (n k c₀ : ℕ) (p : Run) (d : Counts) (t : Writer) (x z : Memory) (l : List ℕ) (q : Level) (o : Last n k (c₀ / 4) p d t x z l q)
+module _ (n k c₀ : ℕ) (p : Run) (d : Counts) (t : Writer) (x z : Memory) (l : List ℕ) (q : LevelProgress) (o : Last n k (c₀ / 4) p d t x z l q)
     (r : PlacedRow) (found : Found t.filter t.levels (columns_of t) (waiting_row t) r) (a c : ℕ) (ea : a ≡ k) (ec : c ≡ c₀)
     (e : Bool) (i : e ≡ both (leb r.length (a - d.numbers)) (ltb d.rows (c / 4)))
     (z' : Memory) (l' : List ℕ) (ez : z' ≡ pick e (join_at d.numbers z (fronted r.length (rest r.start x) (rest d.numbers z))) z)
@@ -161,7 +162,7 @@ module _ (n k c₀ : ℕ) (p : Run) (d : Counts) (t : Writer) (x z : Memory) (l 
       set-draws n k (c₀ / 4) a (c / 4) ea (ap (λ (i : ℕ). i / 4) ec) d t x z l p o.draws o.some r found e i z' l' ez el f v x' w d' ed o.rows
 
 -- ---- before each turn of the loop over a set's rows
-pub record Putting (s : Writer) (q : Level) (store out₀ out : List ℤ) (names₀ names : List ℕ) (d₀ d : Counts) (left next : ℕ) : Type 0 where
+pub record Putting (s : Writer) (q : LevelProgress) (store out₀ out : List ℤ) (names₀ names : List ℕ) (d₀ d : Counts) (left next : ℕ) : Type 0 where
   pub draws : Draws (length store) (length out₀) (length names₀ / 4) (run_at d₀ s (at store) (at out₀) names₀)
       (run_at d (with_left s left) (at store) (at out) names)
   pub some : 0 < s.level
@@ -170,7 +171,7 @@ pub record Putting (s : Writer) (q : Level) (store out₀ out : List ℤ) (names
   pub size : length out ≡ length out₀
   pub names-size : length names ≡ length names₀
 
-pub put-start : (s : Writer) (q : Level) (store out : List ℤ) (names : List ℕ) (d : Counts) (i next : ℕ) →
+pub put-start : (s : Writer) (q : LevelProgress) (store out : List ℤ) (names : List ℕ) (d : Counts) (i next : ℕ) →
     Ready (length store) (length out) (length names / 4) (run_at d s (at store) (at out) names) → 0 < s.level → Reached s q → i ≡ s.left - 1 →
     next ≡ skip (columns q) (received q) q.set i → Putting s q store out out names names d d s.left next
 put-start s q store out names d i next r h g ei en = record {
@@ -185,7 +186,7 @@ put-start s q store out names d i next r h g ei en = record {
 pub put-less : (W H : Side) (n next i next' : ℕ) → 0 < next → i ≡ next - 1 → next' ≡ skip W H n i → next' < next
 put-less W H n next i next' h ei en = omega (arith, skip-le W H n i)
 
-module _ (s : Writer) (q : Level) (store out₀ out : List ℤ) (names₀ names : List ℕ) (d₀ d : Counts) (left next : ℕ)
+module _ (s : Writer) (q : LevelProgress) (store out₀ out : List ℤ) (names₀ names : List ℕ) (d₀ d : Counts) (left next : ℕ)
     (u : Putting s q store out₀ out names₀ names d₀ d left next) where
   -- what the steps of a turn ask for
   pub put-waits : (t : Writer) → t ≡ with_left s left → Walk t.levels (columns_of t) t.level t.rows × Placed t × Reached t q

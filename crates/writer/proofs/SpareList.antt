@@ -328,10 +328,10 @@ module _ (φ l : ℕ) (W : Side) (top : ℕ) where
           empties = λ _. (ap (λ b. ts ++ b) k, refl);
         })
 
-    settle : (f : Bool) (v : ℕ) → (0 < length hs → (f ≡ false) × (r < max_height)) → At φ L W top ts f ds r 0 cl v i y →
+    moved-drawn : (f : Bool) (v : ℕ) → (0 < length hs → (f ≡ false) × (r < max_height)) → At φ L W top ts f ds r 0 cl v i y →
         Drawn ts hs v f ds (moved_on v (st φ W top L r c f cl v i) y)
     unfolding moved_on
-    settle f zero may a =
+    moved-drawn f zero may a =
         elim (dec_lt 0 c) [
           | yes p ↦
               let m = may (omega arith) in
@@ -362,7 +362,7 @@ module _ (φ l : ℕ) (W : Side) (top : ℕ) where
                 empties = λ _. (sym (append-nil ts) ∙ ap (λ b. ts ++ b) (sym e), e);
               })
         ]
-    settle f (suc v) may a = record {
+    moved-drawn f (suc v) may a = record {
       moved = ts;
       held = hs;
       rows = r;
@@ -395,7 +395,7 @@ module _ (φ l : ℕ) (W : Side) (top : ℕ) where
         (λ R. Drawn ts hs R.out.level f (ds ++ (record { row = band_row q; values = z } ∷ []))
         (moved_on R.out.level (st φ W top L r c f R.closed R.out.level R.out.left) R.out.store))
         (resumed-any φ W top L r f cl (suc v) i out f out.level 0 c)
-        (settle (ds ++ (record { row = band_row q; values = z } ∷ [])) (left 0).closed (left 0).out.left (left 0).out.store h.count h.few
+        (moved-drawn (ds ++ (record { row = band_row q; values = z } ∷ [])) (left 0).closed (left 0).out.left (left 0).out.store h.count h.few
         (λ j p. after-past (st φ W top L r 0 f cl (suc v) i) x (spare + j) (omega arith) ∙ h.row j p)
         f (left 0).out.level h.may (draw-good φ l W top ds ts f r 0 cl v i x h.at z e))
 

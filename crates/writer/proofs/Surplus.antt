@@ -28,7 +28,7 @@ use Rattle.analysis.specs.Forward.{kind_of, held_of, ended_of}
 use Rattle.analysis.proofs.ForwardLaws.{laws-of}
 use Rattle.writer.specs.declared.Writer.{Writer}
 use Rattle.progress.specs.Counts.{made, low_rows, most, skip}
-use Rattle.writer.specs.Machine.{Out, still, under, passed, settled, arrived, arrive, pass_on}
+use Rattle.writer.specs.Machine.{Out, still, under, passed, wait_or_pass, arrived, arrive, pass_on}
 use Rattle.writer.specs.Draws.{advance}
 use Rattle.writer.specs.Closing.{Flushed, stepped, onward, close_step, close_level, flush}
 use Rattle.writer.specs.Taking.{kind, columns_of, Taking, none, one_more, takes, begun, complete, height_put, row_makes, offering}
@@ -83,11 +83,11 @@ module _ (φ : ℕ) where
           ∙ laws.put-past (next w) ((s + 1) / 2) (n - s % 2) _ (rest (R * w.length) x) i (omega (arith, store_below R (next w) l))) j p
       go false = refl
 
-  settle-past : (l : ℕ) → Arrives l → (w : Side) (s n : ℕ) (x y : Memory) → Past (store_by φ w (suc l)) x y → (i : ℕ) →
-      Past (store_by φ w (suc l)) x (settled (pass_on K l w s) n y i).store
-  unfolding settled
-  settle-past l ih w s n x y h zero j p = pass-past l ih w s n y j p ∙ h j p
-  settle-past l ih w s n x y h (suc i) j p = h j p
+  wait-or-pass-past : (l : ℕ) → Arrives l → (w : Side) (s n : ℕ) (x y : Memory) → Past (store_by φ w (suc l)) x y → (i : ℕ) →
+      Past (store_by φ w (suc l)) x (wait_or_pass (pass_on K l w s) n y i).store
+  unfolding wait_or_pass
+  wait-or-pass-past l ih w s n x y h zero j p = pass-past l ih w s n y j p ∙ h j p
+  wait-or-pass-past l ih w s n x y h (suc i) j p = h j p
 
   pub arrive-past : (L : ℕ) → Arrives L
   unfolding arrive arrived
@@ -98,11 +98,11 @@ module _ (φ : ℕ) where
       n = (s % 2 + m) / 2 - ahead K
 
       o : Out
-      o = settled (pass_on K l w s) n (K.make w s n x) (skip w (side s (m + 1)) n (most l))
+      o = wait_or_pass (pass_on K l w s) n (K.make w s n x) (skip w (side s (m + 1)) n (most l))
 
       go : Arrives l → (b : Bool) → (pick b o (still x)).store j ≡ x j
       go ih true =
-          settle-past l ih w s n x _ (λ i q. laws.make-past w s n x i (omega (arith, store_below R w l))) (skip w (side s (m + 1)) n (most l)) j p
+          wait-or-pass-past l ih w s n x _ (λ i q. laws.make-past w s n x i (omega (arith, store_below R w l))) (skip w (side s (m + 1)) n (most l)) j p
       go ih false = refl
 
   -- ---- a row is drawn
@@ -111,7 +111,7 @@ module _ (φ : ℕ) where
   advance-past zero w s c v i m x j p = refl
   advance-past (suc l) w s c zero i m x j p = refl
   advance-past (suc l) w s c (suc zero) i m x j p =
-      settle-past l (arrive-past l) w s (prev (made (ahead K) c s m)) x x (λ _ _. refl) (skip w (side s m) (prev (made (ahead K) c s m)) (prev i)) j p
+      wait-or-pass-past l (arrive-past l) w s (prev (made (ahead K) c s m)) x x (λ _ _. refl) (skip w (side s m) (prev (made (ahead K) c s m)) (prev i)) j p
   advance-past (suc l) w s c (suc (suc v)) i m x j p =
       under-past l w x _
       (λ a q. advance-past l (next w) ((s + 1) / 2) (c - ahead K) (suc v) i (low_rows s (made (ahead K) c s m)) (rest (R * w.length) x) a q) j p
@@ -124,9 +124,9 @@ module _ (φ : ℕ) where
       n : ℕ
       n = made (ahead K) c s m
 
-      go : (t : Bool) → (pick t (settled (pass_on K l w s) n (K.close w (side s m) n x) (skip w (side s m) n (most l))) (still x)).store j ≡ x j
+      go : (t : Bool) → (pick t (wait_or_pass (pass_on K l w s) n (K.close w (side s m) n x) (skip w (side s m) n (most l))) (still x)).store j ≡ x j
       go true =
-          settle-past l (arrive-past l) w s n x _ (λ i q. laws.close-past w (side s m) n x i (omega (arith, store_below R w l)))
+          wait-or-pass-past l (arrive-past l) w s n x _ (λ i q. laws.close-past w (side s m) n x i (omega (arith, store_below R w l)))
           (skip w (side s m) n (most l)) j p
       go false = refl
 

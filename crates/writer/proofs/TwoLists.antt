@@ -30,6 +30,7 @@ use Rattle.filters.specs.Figures.{store_by, streamable}
 use Rattle.filters.proofs.FigureLaws.{streams}
 use Rattle.level.specs.Level.{Memory, LevelKind, rest}
 use Rattle.level.specs.Heights.{height_at}
+use Rattle.analysis.specs.Columns.{short_of}
 use Rattle.analysis.specs.Forward.{kind_of}
 use Rattle.progress.proofs.CountLaws.{code_one}
 use Rattle.writer.specs.declared.Writer.{Writer}
@@ -253,17 +254,17 @@ module _ (φ l : ℕ) (W : Side) (top : ℕ) (from : W.start ≤ max_origin) (lo
     abbrev H : ℕ
     H = own-height φ (finished_by es) r
 
-    value-a : (j : ℕ) → j < qa.length → x (qa.start + j) ≡ level_band (filter_of φ) wrap32 W (side top H) g qa.level qa.band qa.row j
+    value-a : (j : ℕ) → j < qa.length → x (qa.start + j) ≡ level_band (short_of φ) wrap32 W (side top H) g qa.level qa.band qa.row j
     value-a = draw-values (st φ W top L r 0 (finished_by es) cl (suc u) i) x H g (own-sound φ h.at).holds (omega arith)
 
     same-high : own-height φ (finished_by fs) r' ≡ H
     same-high =
         ap₂ (own-height φ) (sym ended_is) (sym (same_rows ts hs es fs ended_is count-is r c cl (suc u) i x t h r' c' cl' (suc u') i' y t' h'))
 
-    value-b : (j : ℕ) → j < qb.length → y (qb.start + j) ≡ level_band (filter_of φ) wrap32 W (side top H) g qb.level qb.band qb.row j
+    value-b : (j : ℕ) → j < qb.length → y (qb.start + j) ≡ level_band (short_of φ) wrap32 W (side top H) g qb.level qb.band qb.row j
     value-b j p =
         draw-values (st φ W top L r' 0 (finished_by fs) cl' (suc u') i') y (own-height φ (finished_by fs) r') g (own-sound φ h'.at).holds (omega arith) j p
-        ∙ ap (λ n. level_band (filter_of φ) wrap32 W (side top n) g qb.level qb.band qb.row j) same-high
+        ∙ ap (λ n. level_band (short_of φ) wrap32 W (side top n) g qb.level qb.band qb.row j) same-high
 
     same-band : qa.band ≡ qb.band
     same-band = code_one qa.band qb.band (ap (λ (b : BandRow). b.band) same_row)
@@ -271,9 +272,9 @@ module _ (φ l : ℕ) (W : Side) (top : ℕ) (from : W.start ≤ max_origin) (lo
     pub same-value : (j : ℕ) → j < qa.length → x (qa.start + j) ≡ y (qb.start + j)
     same-value j p =
         value-a j p
-        ∙ ap₂ (λ k n. level_band (filter_of φ) wrap32 W (side top H) g k qa.band n j) (ap (λ (b : BandRow). b.level) same_row)
+        ∙ ap₂ (λ k n. level_band (short_of φ) wrap32 W (side top H) g k qa.band n j) (ap (λ (b : BandRow). b.level) same_row)
         (ap (λ (b : BandRow). b.row) same_row)
-        ∙ ap (λ b. level_band (filter_of φ) wrap32 W (side top H) g qb.level b qb.row j) same-band
+        ∙ ap (λ b. level_band (short_of φ) wrap32 W (side top H) g qb.level b qb.row j) same-band
         ∙ sym (value-b j (subst (λ n. j < n) same_length p))
 
     -- so the output area is left alike

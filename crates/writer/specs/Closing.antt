@@ -8,7 +8,7 @@ use Rattle.wavelet.specs.Levels.{next}
 use Rattle.wavelet.specs.Order.{last_set}
 use Rattle.level.specs.Level.{Memory, LevelKind, rest, ahead}
 use Rattle.progress.specs.Counts.{made, most, skip}
-use Rattle.writer.specs.Machine.{Out, still, under, settled, pass_on}
+use Rattle.writer.specs.Machine.{Out, still, under, wait_or_pass, pass_on}
 
 -- how many steps are done, and what waits
 pub record Flushed : Type 0 where
@@ -30,7 +30,7 @@ module _ (K : LevelKind) where
   unfoldable pub close_step : (l : ℕ) (W : Side) (s c m : ℕ) → Memory → Out
   close_step l W s c m x =
       pick (both (ltb 0 m) (leb (made (ahead K) c s m) (last_set (side s m))))
-      (settled (pass_on K l W s) (made (ahead K) c s m) (K.close W (side s m) (made (ahead K) c s m) x)
+      (wait_or_pass (pass_on K l W s) (made (ahead K) c s m) (K.close W (side s m) (made (ahead K) c s m) x)
       (skip W (side s m) (made (ahead K) c s m) (most l)))
       (still x)
 

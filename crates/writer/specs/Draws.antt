@@ -6,7 +6,7 @@ use Rattle.wavelet.specs.Levels.{next}
 use Rattle.wavelet.specs.Order.{set_row}
 use Rattle.level.specs.Level.{Memory, LevelKind, prev, rest, ahead}
 use Rattle.progress.specs.Counts.{made, low_rows, band_at, skip}
-use Rattle.writer.specs.Machine.{Out, still, under, settled, pass_on}
+use Rattle.writer.specs.Machine.{Out, still, under, wait_or_pass, pass_on}
 
 -- a band row that waits: its level from 1, 0: none, its number in its band, and where in the store its numbers begin
 pub record Waiting : Type 0 where
@@ -39,6 +39,7 @@ module _ (K : LevelKind) where
   unfoldable pub advance : (L : ℕ) (W : Side) (s c v i m : ℕ) → Memory → Out
   advance zero W s c v i m x = still x
   advance (suc l) W s c zero i m x = still x
-  advance (suc l) W s c (suc zero) i m x = settled (pass_on K l W s) (prev (made (ahead K) c s m)) x (skip W (side s m) (prev (made (ahead K) c s m)) (prev i))
+  advance (suc l) W s c (suc zero) i m x = wait_or_pass (pass_on K l W s) (prev (made (ahead K) c s m)) x
+      (skip W (side s m) (prev (made (ahead K) c s m)) (prev i))
   advance (suc l) W s c (suc (suc v)) i m x =
       under (K.stretch W) x (advance l (next W) ((s + 1) / 2) (c - ahead K) (suc v) i (low_rows s (made (ahead K) c s m)) (rest (K.stretch W) x))

@@ -2,13 +2,15 @@
 -- that is in it too.
 -- The numbers are 32-bit words (`wrap32`); for a map they are the filter's whole numbers.
 use Rattle.std.specs.Prelude.{◌≡◌, true, false, List, ℕ, zero, suc, ◌+◌, ◌-◌, ◌*◌, ◌/◌, ◌%◌, ◌≤◌, ◌<◌, pos, get_or}
-use Rattle.numbers.specs.Word.{wrap32}
+use Rattle.numbers.specs.Word.{wrap32, whole}
 use Rattle.lifting.specs.Grid.{Side, side}
 use Rattle.wavelet.specs.Bands.{Grid, Band, LL, code, subband}
+use Rattle.wavelet.specs.Maps.{IsMap}
 use Rattle.wavelet.specs.Levels.{next, level_band}
 use Rattle.wavelet.specs.Order.{set_has}
 use Rattle.calls.specs.Lists.{Reply, gives, refused}
 use Rattle.filters.specs.Filters.{filter_of}
+use Rattle.analysis.specs.Columns.{short_of}
 use Rattle.analysis.specs.Forward.{held_of, ended_of}
 use Rattle.writer.specs.declared.Writer.{Writer}
 use Rattle.writer.specs.declared.BandRow.{BandRow}
@@ -98,9 +100,11 @@ pub record GoesOn (s : Writer) (run : List ℕ) (k : ℕ) (H : ℕ) (g : Grid) :
   pub within : s.rows * s.width + s.column + k ≤ s.width * H
   pub heights : (j : ℕ) → j < k → g ((s.rows * s.width + s.column + j) / s.width) ((s.rows * s.width + s.column + j) % s.width) ≡ pos (get_or run j 0)
 
--- the numbers of a band row by the filter of number f, at the front of y
+-- the numbers of a band row by the filter of number f, at the front of y: as a level's sums give them, and of a map they are the filter's own whole numbers
 pub record MapRow (f : ℕ) (W H : Side) (g : Grid) (b : BandRow) (y : Memory) : Type 0 where
-  pub are : (c : Band) → b.band ≡ code c → (i : ℕ) → i < b.length → y i ≡ level_band (filter_of f) wrap32 W H g b.level c b.row i
+  pub are : (c : Band) → b.band ≡ code c → (i : ℕ) → i < b.length → y i ≡ level_band (short_of f) wrap32 W H g b.level c b.row i
+  pub own : IsMap W.length H.length g → (c : Band) → b.band ≡ code c → (i : ℕ) → i < b.length → y i ≡
+      level_band (filter_of f) whole W H g b.level c b.row i
 
 -- the state that a call leaves: the one before where it was turned away or gave Nothing; and how many heights it took
 abbrev pub left : {A : Type 0} → (A → Writer) → Writer → Reply A → Writer

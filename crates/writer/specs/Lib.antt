@@ -20,6 +20,7 @@ pub mod RunLists
 pub mod Before
 -- Cited by private functions alone: how the code goes about it. Nothing here needs to be believed.
 pub mod Steps
+pub mod Moved
 pub mod FirstQuestions
 pub mod OfferSteps
 pub mod SpareSteps

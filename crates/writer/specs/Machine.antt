@@ -34,16 +34,16 @@ module _ (K : LevelKind) where
       (still x)
 
 -- Set n is made, and i bands of it are to be handed out: they wait, or, where there is none, its LL row goes on.
-unfoldable pub settled : (ℕ → Memory → Out) → ℕ → Memory → ℕ → Out
-settled pass n x zero = pass n x
-settled pass n x (suc j) = record { store = x; level = 1; left = suc j }
+unfoldable pub wait_or_pass : (ℕ → Memory → Out) → ℕ → Memory → ℕ → Out
+wait_or_pass pass n x zero = pass n x
+wait_or_pass pass n x (suc j) = record { store = x; level = 1; left = suc j }
 
 module _ (K : LevelKind) where
   -- Row m stands in its place; l levels are below.
   unfoldable pub arrived : (ℕ → Memory → Out) → ℕ → Side → ℕ → ℕ → Memory → Out
   arrived pass l W s m x =
       pick (completes (ahead K) s m)
-      (settled pass ((s % 2 + m) / 2 - ahead K) (K.make W s ((s % 2 + m) / 2 - ahead K) x)
+      (wait_or_pass pass ((s % 2 + m) / 2 - ahead K) (K.make W s ((s % 2 + m) / 2 - ahead K) x)
       (skip W (side s (m + 1)) ((s % 2 + m) / 2 - ahead K) (most l)))
       (still x)
 

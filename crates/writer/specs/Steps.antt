@@ -9,12 +9,12 @@ use Rattle.wavelet.specs.Limits.{max_height}
 use Rattle.filters.specs.Figures.{store_by, writer_store_by, streamable}
 use Rattle.analysis.specs.Forward.{kind_of}
 use Rattle.progress.specs.declared.waits.Wait.{Wait}
-use Rattle.progress.specs.declared.levels.Level.{Level}
+use Rattle.progress.specs.declared.levels.LevelProgress.{LevelProgress}
 use Rattle.progress.specs.Counts.{deeper_by, further, band_at, skip, start_of}
 use Rattle.writer.specs.declared.Writer.{Writer}
 use Rattle.writer.specs.declared.draws.PlacedRow.{PlacedRow}
 use Rattle.writer.specs.declared.closing.Closure.{Closure}
-use Rattle.writer.specs.Machine.{Out, settled, pass_on}
+use Rattle.writer.specs.Machine.{Out, wait_or_pass, pass_on}
 use Rattle.writer.specs.Draws.{Waiting, waiting, advance}
 use Rattle.writer.specs.Closing.{Flushed}
 use Rattle.writer.specs.Taking.{columns_of}
@@ -44,14 +44,14 @@ pub record Walk (l : ℕ) (W : Side) (v m : ℕ) : Type 0 where
   pub deep : l < 2 ^ 16
 
 -- the columns of a level, and the rows that it has received
-abbrev pub columns : Level → Side
+abbrev pub columns : LevelProgress → Side
 columns r = side r.x r.width
 
-abbrev pub received : Level → Side
+abbrev pub received : LevelProgress → Side
 received r = side r.y r.rows
 
 -- the row that waits at level v, r, whose stretch begins at a: i bands of its last set are left
-unfoldable pub waiting_at : ℕ → ℕ → ℕ → Level → ℕ → Waiting
+unfoldable pub waiting_at : ℕ → ℕ → ℕ → LevelProgress → ℕ → Waiting
 waiting_at f v a r i =
     record {
       level = v;
@@ -65,12 +65,12 @@ waiting_at f v a r i =
 abbrev pub from : ℕ → ℕ → Memory → Out → Out
 from k a x o = record { store = join_at a x o.store; level = deeper_by k o.level; left = o.left }
 
-unfoldable pub advance_at : ℕ → ℕ → ℕ → ℕ → Level → ℕ → Memory → Out
+unfoldable pub advance_at : ℕ → ℕ → ℕ → ℕ → LevelProgress → ℕ → Memory → Out
 advance_at f b v a r i x =
-    from (prev v) a x (settled (pass_on (kind_of f) b (columns r) r.y) r.set (rest a x) (skip (columns r) (received r) r.set (prev i)))
+    from (prev v) a x (wait_or_pass (pass_on (kind_of f) b (columns r) r.y) r.set (rest a x) (skip (columns r) (received r) r.set (prev i)))
 
 -- level v of them, r: what waits there, what a draw of it leaves, and where deeper stretches begin, all from where its stretch begins
-pub record Reaches (f l : ℕ) (W : Side) (s c v m : ℕ) (r : Level) : Type 0 where
+pub record Reaches (f l : ℕ) (W : Side) (s c v m : ℕ) (r : LevelProgress) : Type 0 where
   pub waits : (i : ℕ) → waiting (kind_of f) l W s c v i m ≡ waiting_at f v (start_of f W v) r i
   pub advances : (i : ℕ) (x : Memory) → advance (kind_of f) l W s c v i m x ≡ advance_at f (l - v) v (start_of f W v) r i x
   pub starts : (u : ℕ) → start_of f W (deeper_by (prev v) u) ≡ further u (start_of f W v) (start_of f (columns r) u)
@@ -85,7 +85,7 @@ abbrev pub Placed : Writer → Type 0
 Placed s = s.offset ≡ start_of s.filter (columns_of s) s.level
 
 -- r is the level of a writer's row that waits
-abbrev pub Reached : Writer → Level → Type 0
+abbrev pub Reached : Writer → LevelProgress → Type 0
 Reached s r = Reaches s.filter s.levels (columns_of s) s.y s.closed s.level s.rows r
 
 abbrev pub placed_of : Waiting → PlacedRow

@@ -3,11 +3,11 @@ ghost use Rattle.std.specs.Prelude.{length};
 ghost use Rattle.numbers.specs.Signal.{at};
 ghost use Rattle.writer.specs.Steps.{Drawable, Reached, Drew, Spares, DrewOn};
 
-use crate::{Writer, closing, draws, spare};
-use progress::levels::Level;
+use crate::{Writer, closing, draws, spare, state};
+use progress::levels::LevelProgress;
 
 // The row that waits is drawn; once finished and nothing waits, the levels close on.
-pub fn draw_and_close(s: Writer, from: Level, store: &mut [i32]) -> Writer
+pub fn draw_and_close(s: Writer, from: LevelProgress, store: &mut [i32]) -> Writer
     requires { Drawable s (length store.old) × Reached s from }
     ensures { Drew s (at store.old) result (at store.new) }
 {
@@ -17,40 +17,15 @@ pub fn draw_and_close(s: Writer, from: Level, store: &mut [i32]) -> Writer
             let q = closing::flush(
                 s.filter, store, s.levels, s.width, s.x, s.y, s.closed, s.rows,
             );
-            return Writer {
-                width: s.width,
-                levels: s.levels,
-                x: s.x,
-                y: s.y,
-                rows: s.rows,
-                column: s.column,
-                finished: s.finished,
-                closed: q.closed,
-                level: q.wait.level,
-                left: q.wait.left,
-                offset: q.wait.offset,
-                filter: s.filter,
-            };
+            return state::moved(s, s.rows, s.column, s.finished, q.closed, q.wait);
         }
+        return state::moved(s, s.rows, s.column, s.finished, s.closed, r);
     }
-    Writer {
-        width: s.width,
-        levels: s.levels,
-        x: s.x,
-        y: s.y,
-        rows: s.rows,
-        column: s.column,
-        finished: s.finished,
-        closed: s.closed,
-        level: r.level,
-        left: r.left,
-        offset: r.offset,
-        filter: s.filter,
-    }
+    state::moved(s, s.rows, s.column, s.finished, s.closed, r)
 }
 
 // The row that waits is drawn; once nothing waits, the heights of the spare row go on.
-pub fn draw_and_move(s: Writer, from: Level, store: &mut [i32]) -> Writer
+pub fn draw_and_move(s: Writer, from: LevelProgress, store: &mut [i32]) -> Writer
     requires { Drawable s (length store.old) × Reached s from × Spares s (length store.old) }
     ensures { DrewOn s (at store.old) result (at store.new) }
 {

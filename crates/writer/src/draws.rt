@@ -8,7 +8,7 @@ ghost use Rattle.writer.specs.Steps.{Left, Walk, Placed, Reached, Found, Drawabl
 
 use crate::{BandRow, Writer, cascade};
 use analysis::forward;
-use progress::levels::Level;
+use progress::levels::LevelProgress;
 use progress::waits::Wait;
 use progress::{counts, waits};
 
@@ -23,7 +23,7 @@ pub struct PlacedRow {
 }
 
 // The row that waits, at level q.
-pub fn waiting(s: Writer, q: Level) -> PlacedRow
+pub fn waiting(s: Writer, q: LevelProgress) -> PlacedRow
     requires { Walk s.levels (columns_of s) s.level s.rows × Placed s × Reached s q }
     ensures { Found s.filter s.levels (columns_of s) (waiting_row s) result }
 {
@@ -39,7 +39,7 @@ pub fn waiting(s: Writer, q: Level) -> PlacedRow
 }
 
 // The same as a look tells it, without its place. A function of its own: either one is put into the call that has it, which one of both would not be.
-pub fn looked(s: Writer, q: Level) -> BandRow
+pub fn looked(s: Writer, q: LevelProgress) -> BandRow
     requires { Walk s.levels (columns_of s) s.level s.rows × Placed s × Reached s q }
     ensures { result ≡ band_row (waiting_row s) }
 {
@@ -54,7 +54,7 @@ pub fn looked(s: Writer, q: Level) -> BandRow
 }
 
 // It is drawn: the next band of the set that has a row in it waits, or the set's LL row goes on.
-pub fn advance(s: Writer, q: Level, store: &mut [i32]) -> Wait
+pub fn advance(s: Writer, q: LevelProgress, store: &mut [i32]) -> Wait
     requires { Drawable s (length store.old) × Reached s q }
     ensures { Left s.filter s.levels (columns_of s) (advanced s (at store.old)) result (at store.new) }
 {

@@ -10,6 +10,7 @@ mod questions;
 mod run_steps;
 pub mod runs;
 mod spare;
+mod state;
 
 ghost use Rattle.std.specs.Prelude.{◌≡◌, length};
 ghost use Rattle.numbers.specs.Signal.{at};
@@ -283,19 +284,6 @@ impl Writer {
             0,
             self.rows,
         );
-        Finished::Closed(Writer {
-            width: self.width,
-            levels: self.levels,
-            x: self.x,
-            y: self.y,
-            rows: self.rows,
-            column: self.column,
-            finished: true,
-            closed: r.closed,
-            level: r.wait.level,
-            left: r.wait.left,
-            offset: r.wait.offset,
-            filter: self.filter,
-        })
+        Finished::Closed(state::moved(self, self.rows, self.column, true, r.closed, r.wait))
     }
 }

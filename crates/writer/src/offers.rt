@@ -4,7 +4,7 @@ ghost use Rattle.numbers.specs.Signal.{at};
 ghost use Rattle.wavelet.specs.Limits.{max_height};
 ghost use Rattle.writer.specs.OfferSteps.{next_count, Roomy, Taker, Reaching, HeightsTaken};
 
-use crate::{Writer, cascade};
+use crate::{Writer, cascade, state};
 use analysis::forward;
 
 // How many heights the first stretch of an offer has, of k: to the end of the row at most.
@@ -46,36 +46,10 @@ pub fn reach(s: Writer, store: &mut [i32], column: usize) -> Writer
     ensures { Reaching s column (at store.old) result (at store.new) (length store.old) }
 {
     if column < s.width {
-        return Writer {
-            width: s.width,
-            levels: s.levels,
-            x: s.x,
-            y: s.y,
-            rows: s.rows,
-            column,
-            finished: s.finished,
-            closed: s.closed,
-            level: s.level,
-            left: s.left,
-            offset: s.offset,
-            filter: s.filter,
-        };
+        return state::moved(s, s.rows, column, s.finished, s.closed, state::wait_of(s));
     }
     let r = cascade::arrive(s.filter, store, s.levels, s.width, s.x, s.y, s.rows);
-    Writer {
-        width: s.width,
-        levels: s.levels,
-        x: s.x,
-        y: s.y,
-        rows: s.rows + 1,
-        column: 0,
-        finished: s.finished,
-        closed: s.closed,
-        level: r.level,
-        left: r.left,
-        offset: r.offset,
-        filter: s.filter,
-    }
+    state::moved(s, s.rows + 1, 0, s.finished, s.closed, r)
 }
 
 // A stretch of n heights of a run, from height `from` on; where it completes the row, what that makes.

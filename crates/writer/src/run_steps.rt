@@ -9,14 +9,14 @@ ghost use Rattle.writer.specs.Calls.{advanced};
 ghost use Rattle.writer.specs.OfferSteps.{Taker, HeightsTaken};
 ghost use Rattle.writer.specs.Steps.{Left, Drawable, Reached, Drew, Spares, DrewOn};
 
-use crate::{Writer, cascade, closing, offers, spare};
+use crate::{Writer, cascade, closing, offers, spare, state};
 use analysis::forward;
-use progress::levels::Level;
+use progress::levels::LevelProgress;
 use progress::waits::Wait;
 use progress::{counts, waits};
 
 // The row that waits is drawn: the next band of the set that has a row in it waits, or the set's LL row goes on.
-fn advance(s: Writer, q: Level, store: &mut [i32]) -> Wait
+fn advance(s: Writer, q: LevelProgress, store: &mut [i32]) -> Wait
     requires { Drawable s (length store.old) × Reached s q }
     ensures { Left s.filter s.levels (columns_of s) (advanced s (at store.old)) result (at store.new) }
 {
@@ -35,7 +35,7 @@ fn advance(s: Writer, q: Level, store: &mut [i32]) -> Wait
 }
 
 // Once finished and nothing waits, the levels close on.
-fn draw_and_close(s: Writer, from: Level, store: &mut [i32]) -> Writer
+fn draw_and_close(s: Writer, from: LevelProgress, store: &mut [i32]) -> Writer
     requires { Drawable s (length store.old) × Reached s from }
     ensures { Drew s (at store.old) result (at store.new) }
 {
@@ -45,40 +45,15 @@ fn draw_and_close(s: Writer, from: Level, store: &mut [i32]) -> Writer
             let q = closing::flush(
                 s.filter, store, s.levels, s.width, s.x, s.y, s.closed, s.rows,
             );
-            return Writer {
-                width: s.width,
-                levels: s.levels,
-                x: s.x,
-                y: s.y,
-                rows: s.rows,
-                column: s.column,
-                finished: s.finished,
-                closed: q.closed,
-                level: q.wait.level,
-                left: q.wait.left,
-                offset: q.wait.offset,
-                filter: s.filter,
-            };
+            return state::moved(s, s.rows, s.column, s.finished, q.closed, q.wait);
         }
+        return state::moved(s, s.rows, s.column, s.finished, s.closed, r);
     }
-    Writer {
-        width: s.width,
-        levels: s.levels,
-        x: s.x,
-        y: s.y,
-        rows: s.rows,
-        column: s.column,
-        finished: s.finished,
-        closed: s.closed,
-        level: r.level,
-        left: r.left,
-        offset: r.offset,
-        filter: s.filter,
-    }
+    state::moved(s, s.rows, s.column, s.finished, s.closed, r)
 }
 
 // Once nothing waits, the heights of the spare row go on.
-pub fn draw_and_move(s: Writer, from: Level, store: &mut [i32]) -> Writer
+pub fn draw_and_move(s: Writer, from: LevelProgress, store: &mut [i32]) -> Writer
     requires { Drawable s (length store.old) × Reached s from × Spares s (length store.old) }
     ensures { DrewOn s (at store.old) result (at store.new) }
 {

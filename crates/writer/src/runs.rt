@@ -11,8 +11,9 @@ ghost use Rattle.writer.specs.Runs.{named, begin, run_question, idle, run_reply,
 ghost use Rattle.writer.specs.RunSteps.{with_left, row_at, run_at, one_more, Ready, Draws, Turned, SetDrawn, Over};
 
 use crate::draws::PlacedRow;
-use crate::{Writer, copies, draws, offers, questions, run_steps};
-use progress::levels::Level;
+use crate::{Writer, copies, draws, offers, questions, run_steps, state};
+use progress::levels::LevelProgress;
+use progress::waits::Wait;
 use progress::{counts, levels};
 
 // The heights taken, the rows put and the numbers that these have.
@@ -48,20 +49,18 @@ struct Part {
 fn with_left(s: Writer, left: usize) -> Writer
     ensures { result ≡ with_left s left }
 {
-    Writer {
-        width: s.width,
-        levels: s.levels,
-        x: s.x,
-        y: s.y,
-        rows: s.rows,
-        column: s.column,
-        finished: s.finished,
-        closed: s.closed,
-        level: s.level,
-        left,
-        offset: s.offset,
-        filter: s.filter,
-    }
+    state::moved(
+        s,
+        s.rows,
+        s.column,
+        s.finished,
+        s.closed,
+        Wait {
+            level: s.level,
+            left,
+            offset: s.offset,
+        },
+    )
 }
 
 // A row's name at the front of an area.
@@ -114,7 +113,7 @@ fn one_more(done: Counts, length: usize) -> Counts
 // The rows of a set after which another of its rows waits, until there is no room.
 fn first_rows(
     s: Writer,
-    q: Level,
+    q: LevelProgress,
     store: &[i32],
     out: &mut [i32],
     names: &mut [u64],

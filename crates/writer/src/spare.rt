@@ -10,7 +10,7 @@ ghost use Rattle.writer.specs.Taking.{at_column};
 ghost use Rattle.writer.specs.Spare.{spare_at};
 ghost use Rattle.writer.specs.SpareSteps.{Holder, Mover, Moved, separated, first_place};
 
-use crate::{Writer, offers};
+use crate::{Writer, offers, state};
 use wavelet::sizes;
 
 // How many heights of k the spare row takes: to its end at most.
@@ -45,20 +45,14 @@ pub fn hold(s: Writer, store: &mut [i32], run: &[u16], n: usize) -> Writer
 {
     let a = filters::store_length(s.filter, s.width, s.x, s.levels);
     copy(store, a + s.column, run, n);
-    Writer {
-        width: s.width,
-        levels: s.levels,
-        x: s.x,
-        y: s.y,
-        rows: s.rows,
-        column: s.column + n,
-        finished: s.finished,
-        closed: s.closed,
-        level: s.level,
-        left: s.left,
-        offset: s.offset,
-        filter: s.filter,
-    }
+    state::moved(
+        s,
+        s.rows,
+        s.column + n,
+        s.finished,
+        s.closed,
+        state::wait_of(s),
+    )
 }
 
 // `count` pairs of numbers from `from` on: the first of each to the places from `firsts` on, the second to those from `seconds` on, before what is read.

@@ -42,7 +42,8 @@ pub shape_of-heights : goal.shape_of-heights
 shape_of-heights c = c.sweep_back.auto.heights
 
 pub shape_of-work : goal.shape_of-work
-shape_of-work c = c.clear.auto.area ∙ c.sweep_back.auto.work
+shape_of-work c =
+    c.clear.auto.area ∙ c.sweep_back.auto.work
 
 pub returns : goal.returns
 returns c =

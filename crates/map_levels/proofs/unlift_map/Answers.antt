@@ -1,12 +1,12 @@
 -- `unlift_map` meets its contract: the questions of the sizes, and then those of the plane. Assumes nothing.
 use mathlib.Core.Path.{sym, ◌∙◌}
-use Rattle.map_questions.proofs.QuestionLaws.{roomy-is, asked-on, asked-no, never-fourteen, rebuilt-no}
+use Rattle.map_questions.proofs.QuestionLaws.{roomy-is, asked-on, asked-no, never_fourteen, rebuilt-no}
 use Rattle.map_levels.proofs.unlift_map.Goals as goal
 
 pub returns-then-q-ne0 : goal.returns-then-q-ne0
 returns-then-q-ne0 c =
     let q = c.size_question-q.ensures in
-    record { value = q ∙ sym (asked-no _ _ _ _ _ _ _ _ (λ e. c.if-q-ne0.true (q ∙ e))); heights_after = rebuilt-no _ _ _ _ c.if-q-ne0.true (λ e. never-fourteen _ _ _ _ _ _ _ (sym q ∙ e)); work_after = rebuilt-no _ _ _ _ c.if-q-ne0.true (λ e. never-fourteen _ _ _ _ _ _ _ (sym q ∙ e)) }
+    record { value = q ∙ sym (asked-no _ _ _ _ _ _ _ _ (λ e. c.if-q-ne0.true (q ∙ e))); heights_after = rebuilt-no _ _ _ _ c.if-q-ne0.true (λ e. never_fourteen _ _ _ _ _ _ _ (sym q ∙ e)); work_after = rebuilt-no _ _ _ _ c.if-q-ne0.true (λ e. never_fourteen _ _ _ _ _ _ _ (sym q ∙ e)) }
 
 pub restore-requires : goal.restore-requires
 restore-requires c =

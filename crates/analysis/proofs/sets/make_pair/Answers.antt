@@ -13,19 +13,19 @@ pair_columns-requires c = c.requires
 pub slot_on-requires : goal.slot_on-requires
 slot_on-requires c = omega arith
 
-pub lift_row-requires : goal.lift_row-requires
+pub lift_slot-requires : goal.lift_slot-requires
 unfolding filter_of
-lift_row-requires c = (omega arith, in_rows 0 _ _ c.slot_on.ensures.0)
+lift_slot-requires c = (omega arith, in_rows 0 _ _ c.slot_on.ensures.0)
 
 pub slot_on-requires-2 : goal.slot_on-requires-2
 slot_on-requires-2 c = omega arith
 
-pub lift_row-requires-2 : goal.lift_row-requires-2
+pub lift_slot-requires-2 : goal.lift_slot-requires-2
 unfolding filter_of
-lift_row-requires-2 c = (omega arith, in_rows 0 _ _ c.slot_on-2.ensures.0)
+lift_slot-requires-2 c = (omega arith, in_rows 0 _ _ c.slot_on-2.ensures.0)
 
 pub returns : goal.returns
 returns c =
     let a = c.args in
     pair-made (side a.x a.w) a.n a.r _ _ _ _ _ _ c.slot_on.ensures.0 c.slot_on-2.ensures.0 c.pair_columns.ensures
-    c.lift_row.ensures c.lift_row-2.ensures
+    c.lift_slot.ensures c.lift_slot-2.ensures

@@ -2,7 +2,7 @@
 use mathlib.Core.Path.{sym, ap, ◌∙◌}
 use Rattle.reader.specs.declared.SetUp.{SetUp}
 use Rattle.reader.specs.Answers.{of_set_up}
-use Rattle.ground_loader.specs.declared.rows.Coming.{Coming}
+use Rattle.ground_loader.specs.declared.coming.Coming.{Coming}
 use Rattle.ground_loader.specs.Loader.{loader_at}
 use Rattle.ground_loader.specs.LoaderAnswers.{gives, begun_by}
 use borrow.Author.Rules.{rules}

@@ -1,5 +1,9 @@
 -- `rows::part_refused` meets its contract: case by case. Assumes nothing.
+use mathlib.Core.Path.{ap}
 use native.Mathlib.Omega.{arith}
+use lib.Dec.{eqb}
+use lib.Pow.{pow_mono}
+use Rattle.ground_loader.proofs.SmallestLaws.{widest}
 use Rattle.ground_loader.proofs.ByteLaws.{few_bits, used, most-held, refused-more, refused-bits, refused-code}
 use Rattle.ground_loader.proofs.rows.part_refused.Goals as goal
 
@@ -17,10 +21,10 @@ overflow_shr-s c =
 pub returns-then-s-width_of-gt0 : goal.returns-then-s-width_of-gt0
 returns-then-s-width_of-gt0 c = refused-bits _ _ (omega arith) c.width_of.ensures (omega arith)
 
-pub is_smallest-requires : goal.is_smallest-requires
-is_smallest-requires c =
-    (c.requires.0.code_few, most-held c.requires.0 _ _ c.requires.1)
+pub overflow_cast-s : goal.overflow_cast-s
+overflow_cast-s c =
+    omega (arith, most-held c.requires.0 _ _ c.requires.1, pow_mono (widest c.args.c.code))
 
 pub returns : goal.returns
 returns c =
-    refused-code _ _ (omega arith) c.width_of.ensures (omega arith) c.is_smallest.ensures
+    refused-code _ _ (omega arith) c.width_of.ensures (omega arith) (ap (λ k. eqb k c.args.c.code) c.code_of.ensures)

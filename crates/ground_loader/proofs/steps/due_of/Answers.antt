@@ -16,4 +16,4 @@ returns-then-l-lt24 c = due-header _ c.if-r.false (omega arith) c.plain-then-l-l
 pub returns : goal.returns
 returns c =
     due-rest _ c.if-r.false (omega arith)
-    (c.due_by.ensures ∙ ap (λ w. due_after c.args.l.tail (want_in w)) c.want.ensures.answer)
+    (c.due_by.ensures ∙ ap (λ w. due_after c.args.l.tail (want_in w)) c.want.ensures)

@@ -3,10 +3,10 @@ use mathlib.Core.Path.{◌≡◌, refl, sym, ap, ◌∙◌}
 use native.Mathlib.Omega.{arith}
 use Prim.Native.Nat.{◌<◌, ◌^◌}
 use lib.ListN.{length}
-use borrow.Author.Rules.{rules}
 use Rattle.numbers.specs.Signal.{at}
 use Rattle.ground_loader.specs.Loader.{world_of, ran_answer}
 use Rattle.ground_loader.proofs.RunLaws.{Running, running-start, turn-sound, turn-areas, turn_in, turn-zero, turn, left, less, one-le, running-end}
+use Rattle.ground_loader.proofs.GroupRuns.{running-groups, still-goes}
 use Rattle.ground_loader.proofs.steps.take_run.Given as goal
 
 abbrev pub invariant-loop-answer : goal.invariant-loop-answer

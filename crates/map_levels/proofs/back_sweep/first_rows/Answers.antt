@@ -3,8 +3,8 @@ use mathlib.Core.Path.{refl}
 use Prim.Native.Nat.{◌%◌}
 use native.Mathlib.Omega.{arith}
 use Rattle.wavelet.specs.Limits.{max_width}
+use Rattle.map_levels.specs.Regions.{columns_of, rows_of}
 use Rattle.map_levels.specs.Sweep.{line_half}
-use Rattle.lifting.specs.Grid.{side}
 use Rattle.map_levels.proofs.TestLaws.{false-true}
 use Rattle.map_levels.proofs.BackSets.{put-room, next-high, first-high, first-low}
 use borrow.Author.Rules.{rules}
@@ -21,7 +21,7 @@ unfolding line_half max_width
 fetch_high-requires-2 c =
     let a = c.args in
     let S = c.requires.0 in
-    let next = c.row_after in (
+    let next = c.row_after-next in (
       S.area.plane,
       S.wide,
       next.ensures.1,
@@ -32,7 +32,7 @@ fetch_high-requires-2 c =
         S.lines,
         S.halves,
       ),
-      next-high a.y a.height (a.y % 2) _ S.more (omega (arith, S.more)) (omega arith) next.ensures.0,
+      next-high a.region.y a.region.height (a.region.y % 2) _ S.more (omega (arith, S.more)) (omega arith) next.ensures.0,
     )
 
 pub returns-then-b-eq1 : goal.returns-then-b-eq1
@@ -40,18 +40,19 @@ unfolding line_half max_width
 returns-then-b-eq1 c =
     let a = c.args in
     let S = c.requires.0 in
-    let next = c.row_after in
-    first-high a.level a.across (side a.x a.width) (side a.y a.height) _ _ _ S.more c.requires.1 S.halves (a.y % 2) next.result refl
+    let next = c.row_after-next in
+    first-high a.region.level a.region.across (columns_of a.region) (rows_of a.region) _ _ _ S.more c.requires.1 S.halves
+    (a.region.y % 2) next.result refl
     next.ensures.0 _ _ _ _ _ c.fetch_low.ensures
     (c.fetch_high.ensures _)
     (c.fetch_high-2.ensures _)
     c.unupdate_columns.ensures c.if-b-eq1.true
 
-pub put-requires : goal.put-requires
+pub put_even-requires : goal.put_even-requires
 unfolding line_half max_width
-put-requires c =
+put_even-requires c =
     let a = c.args in
-    let S = c.pre.0 in (
+    let S = c.requires.0 in (
       omega (
         arith,
         c.unupdate_columns.auto.lines,
@@ -61,8 +62,8 @@ put-requires c =
         S.lines,
         S.halves,
       ),
-      λ e. put-room a.width a.height _ 0 (omega (arith, S.more)) (S.area.heights e),
-      put-room a.width a.height _ 0 (omega (arith, S.more)) S.area.work,
+      λ e. put-room a.region.width a.region.height _ 0 (omega (arith, S.more)) (S.area.heights e),
+      put-room a.region.width a.region.height _ 0 (omega (arith, S.more)) S.area.work,
       S.level,
       λ e. absurd (false-true e),
     )
@@ -71,10 +72,11 @@ pub returns : goal.returns
 unfolding line_half max_width
 returns c =
     let a = c.args in
-    let S = c.pre.0 in
-    let next = c.row_after in
-    first-low a.level a.across (side a.x a.width) (side a.y a.height) _ _ _ S.more c.pre.1 S.halves (a.y % 2) next.result refl
+    let S = c.requires.0 in
+    let next = c.row_after-next in
+    first-low a.region.level a.region.across (columns_of a.region) (rows_of a.region) _ _ _ S.more c.requires.1 S.halves
+    (a.region.y % 2) next.result refl
     next.ensures.0 _ _ _ _ _
     c.fetch_low.ensures (c.fetch_high.ensures _) (c.fetch_high-2.ensures _)
     c.unupdate_columns.ensures
-    (omega (arith, c.if-b-eq1.false)) _ _ _ c.put.ensures
+    (omega (arith, c.if-b-eq1.false)) _ _ _ c.put_even.ensures

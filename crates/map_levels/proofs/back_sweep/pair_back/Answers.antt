@@ -2,8 +2,8 @@
 use Prim.Native.Nat.{◌+◌}
 use native.Mathlib.Omega.{arith}
 use Rattle.wavelet.specs.Limits.{max_width}
+use Rattle.map_levels.specs.Regions.{columns_of, rows_of}
 use Rattle.map_levels.specs.Sweep.{line_half}
-use Rattle.lifting.specs.Grid.{side}
 use Rattle.map_levels.proofs.BackSets.{put-room, next-high, pair-done}
 use borrow.Author.Rules.{rules}
 use Rattle.map_levels.proofs.back_sweep.pair_back.Goals as goal
@@ -13,17 +13,17 @@ unfolding line_half max_width
 fetch_high-requires c =
     let a = c.args in
     let S = c.requires.0 in
-    let next = c.row_after in (
+    let next = c.row_after-next in (
       S.area.plane,
       S.wide,
       next.ensures.1,
       omega (arith, c.fetch_low.auto.lines, S.lines, S.halves),
-      next-high a.y a.height (a.r + 1) _ S.more c.requires.1 (omega (arith, c.requires.2)) next.ensures.0,
+      next-high a.region.y a.region.height (a.r + 1) _ S.more c.requires.1 (omega (arith, c.requires.2)) next.ensures.0,
     )
 
-pub put-ok-requires : goal.put-ok-requires
+pub put_odd-ok-requires : goal.put_odd-ok-requires
 unfolding line_half max_width
-put-ok-requires c =
+put_odd-ok-requires c =
     let a = c.args in
     let S = c.requires.0 in
     let u = c.unlift_columns-sure in (
@@ -35,18 +35,18 @@ put-ok-requires c =
         S.lines,
         S.halves,
       ),
-      λ e. put-room a.width a.height _ a.r (omega (arith, c.requires.1)) (S.area.heights e),
-      put-room a.width a.height _ a.r (omega (arith, c.requires.1)) S.area.work,
+      λ e. put-room a.region.width a.region.height _ a.r (omega (arith, c.requires.1)) (S.area.heights e),
+      put-room a.region.width a.region.height _ a.r (omega (arith, c.requires.1)) S.area.work,
       S.level,
       λ t j jb. rw (u.ensures.pair_back.odd j jb) (u.ensures.is_height t j jb).0,
     )
 
-pub put-requires : goal.put-requires
+pub put_even-requires : goal.put_even-requires
 unfolding line_half max_width
-put-requires c =
+put_even-requires c =
     let a = c.args in
-    let S = c.pre.0 in
-    let put = c.put-ok in
+    let S = c.requires.0 in
+    let put = c.put_odd-ok in
     let u = c.unlift_columns-sure in (
       omega (
         arith,
@@ -56,8 +56,8 @@ put-requires c =
         S.lines,
         S.halves,
       ),
-      λ e. omega (arith, put.auto.heights, put-room a.width a.height _ (a.r + 1) c.pre.1 (S.area.heights e)),
-      omega (arith, put.auto.work, put-room a.width a.height _ (a.r + 1) c.pre.1 S.area.work),
+      λ e. omega (arith, put.auto.heights, put-room a.region.width a.region.height _ (a.r + 1) c.requires.1 (S.area.heights e)),
+      omega (arith, put.auto.work, put-room a.region.width a.region.height _ (a.r + 1) c.requires.1 S.area.work),
       S.level,
       λ t j jb. rw (u.ensures.pair_back.even j jb) (u.ensures.is_height t j jb).1,
     )
@@ -66,12 +66,13 @@ pub returns : goal.returns
 unfolding line_half max_width
 returns c =
     let a = c.args in
-    let S = c.pre.0 in
-    let next = c.row_after in
+    let S = c.requires.0 in
+    let next = c.row_after-next in
     λ ok₀ g₀ x₀ small D.
-    pair-done a.level a.across (side a.x a.width) (side a.y a.height) _ g₀ x₀ S.more small S.halves a.r next.result c.pre.1
-    c.pre.2 next.ensures.0 ok₀ _ _ _ _ _ D
+    pair-done a.region.level a.region.across (columns_of a.region) (rows_of a.region) _ g₀ x₀ S.more small S.halves a.r next.result
+    c.requires.1
+    c.requires.2 next.ensures.0 ok₀ _ _ _ _ _ D
     c.fetch_low.ensures
     (c.fetch_high.ensures _) _ _ _ _ _ _ _
     c.unlift_columns-sure.ensures.pair_back
-    c.put-ok.ensures c.put.ensures
+    c.put_odd-ok.ensures c.put_even.ensures

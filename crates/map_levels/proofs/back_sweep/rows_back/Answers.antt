@@ -4,8 +4,8 @@ use native.Mathlib.Omega.{arith}
 use lib.IntN.{ℤ}
 use lib.ListN.{length}
 use Rattle.numbers.specs.Signal.{at}
-use Rattle.lifting.specs.Grid.{side}
 use Rattle.areas.specs.Areas.{heights_at}
+use Rattle.map_levels.specs.Regions.{columns_of, rows_of}
 use Rattle.map_levels.specs.SweepBack.{SmallBands}
 use Rattle.map_levels.specs.BackLines.{RowsDone}
 use Rattle.map_levels.proofs.RowwiseLaws.{and_both}
@@ -23,7 +23,8 @@ loop-r-init c =
     (omega (arith, c.requires.0.more), omega arith, refl, refl, refl, λ g₀ x₀ small D. D)
 
 pub overflow_add-r : goal.overflow_add-r
-overflow_add-r c = omega (arith, c.loop-r.invariant.0, height-less c.requires.0)
+overflow_add-r c =
+    omega (arith, c.loop-r.invariant.0, height-less c.requires.0)
 
 pub pair_back-ok-requires : goal.pair_back-ok-requires
 pair_back-ok-requires c =
@@ -46,7 +47,8 @@ loop-r-preserved c =
       kept.heights ∙ inv.2,
       kept.work ∙ inv.3,
       kept.lines ∙ inv.4,
-      λ g₀ x₀ small D. rows-and c.loop-r.ok c.pair_back-ok.result (c.pair_back-ok.ensures c.loop-r.ok g₀ x₀ small (inv.5 g₀ x₀ small D)),
+      λ g₀ x₀ small D. rows-and c.loop-r.ok c.pair_back-ok.result
+          (c.pair_back-ok.ensures c.loop-r.ok g₀ x₀ small (inv.5 g₀ x₀ small D)),
     )
 
 pub last_row-requires : goal.last_row-requires
@@ -75,7 +77,8 @@ pub returns : goal.returns
 returns c =
     let a = c.args in
     let inv = c.loop-r.invariant in
-    rows-swept _ _ a.level a.across (side a.x a.width) (side a.y a.height) _ _ _ _ _ _ (and_both c.loop-r.ok c.last_row.result)
-    (c.last_row.ensures c.loop-r.ok a.across a.y (at a.plane.now) (heights_at a.heights.now) (at a.work.now) (λ b. inv.1)
+    rows-swept _ _ a.region.level a.region.across (columns_of a.region) (rows_of a.region) _ _ _ _ _ _
+    (and_both c.loop-r.ok c.last_row.result)
+    (c.last_row.ensures c.loop-r.ok (at a.plane.now) (heights_at a.heights.now) (at a.work.now) (λ b. inv.1)
     c.requires.1
     (inv.5 _ _ c.requires.1 c.first_rows-ok.ensures) inv.0)

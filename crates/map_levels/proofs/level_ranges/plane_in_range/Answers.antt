@@ -20,7 +20,7 @@ returns-then-surely_least c =
 pub in_range-requires : goal.in_range-requires
 in_range-requires c =
     let s = c.requires.0 in
-    (map-rows _ _ _ _ s c.requires.1, s.levels.0, omega arith, omega (arith, c.requires.2))
+    (map-rows _ _ _ _ s c.requires.1, s.levels.0, omega (arith, c.requires.2))
 
 pub returns : goal.returns
-returns c = search rules
+returns c = c.in_range.ensures

@@ -26,64 +26,66 @@ loop-r-init c = (c.requires.0, c.requires.2, tested-start _ _ _ _ _ _ _ _ c.requ
 
 pub overflow_mul-a : goal.overflow_mul-a
 overflow_mul-a c =
-    let room : c.loop-r.r * c.args.stride + c.args.to ≤ length
+    let room : c.loop-r.r * c.args.stride + c.args.patch.to ≤ length
     c.args.area.now = row_room _ _ _ _ _ c.loop-r.invariant.0 c.loop-r-test.true in
     omega (arith, room)
 
 pub overflow_add-a : goal.overflow_add-a
 overflow_add-a c =
-    let room : c.loop-r.r * c.args.stride + c.args.to ≤ length
+    let room : c.loop-r.r * c.args.stride + c.args.patch.to ≤ length
     c.args.area.now = row_room _ _ _ _ _ c.loop-r.invariant.0 c.loop-r-test.true in
     omega (arith, room)
 
 pub overflow_mul-e : goal.overflow_mul-e
 overflow_mul-e c =
-    let room : c.loop-r.r * c.args.stride + c.args.to ≤ length
+    let room : c.loop-r.r * c.args.stride + c.args.patch.to ≤ length
     c.args.area.now = row_room _ _ _ _ _ c.loop-r.invariant.0 c.loop-r-test.true in
     omega (arith, room)
 
 pub overflow_add-e : goal.overflow_add-e
 overflow_add-e c =
-    let room : c.loop-r.r * c.args.stride + c.args.to ≤ length
+    let room : c.loop-r.r * c.args.stride + c.args.patch.to ≤ length
     c.args.area.now = row_room _ _ _ _ _ c.loop-r.invariant.0 c.loop-r-test.true in
     omega (arith, room)
 
 pub offset_bounds-area-a : goal.offset_bounds-area-a
 offset_bounds-area-a c =
-    let room : c.loop-r.r * c.args.stride + c.args.to ≤ length
+    let room : c.loop-r.r * c.args.stride + c.args.patch.to ≤ length
     c.args.area.now = row_room _ _ _ _ _ c.loop-r.invariant.0 c.loop-r-test.true in
     omega (arith, room)
 
 pub slice_bounds-all_between-count : goal.slice_bounds-all_between-count
 slice_bounds-all_between-count c =
-    let room : c.loop-r.r * c.args.stride + c.args.to ≤ length
+    let room : c.loop-r.r * c.args.stride + c.args.patch.to ≤ length
     c.args.area.now = row_room _ _ _ _ _ c.loop-r.invariant.0 c.loop-r-test.true in
     omega (arith, room)
 
 pub slice_bounds-all_between-start : goal.slice_bounds-all_between-start
 slice_bounds-all_between-start c =
-    let room : c.loop-r.r * c.args.stride + c.args.to ≤ length
+    let room : c.loop-r.r * c.args.stride + c.args.patch.to ≤ length
     c.args.area.now = row_room _ _ _ _ _ c.loop-r.invariant.0 c.loop-r-test.true in
     omega (arith, room)
 
 pub slice_bounds-all_between-end : goal.slice_bounds-all_between-end
 slice_bounds-all_between-end c =
-    let room : c.loop-r.r * c.args.stride + c.args.to ≤ length
+    let room : c.loop-r.r * c.args.stride + c.args.patch.to ≤ length
     c.args.area.now = row_room _ _ _ _ _ c.loop-r.invariant.0 c.loop-r-test.true in
     omega (arith, room)
 
 pub returns-then-not-all_between : goal.returns-then-not-all_between
 returns-then-not-all_between c =
-    let room : c.loop-r.r * c.args.stride + c.args.to ≤ length
+    let room : c.loop-r.r * c.args.stride + c.args.patch.to ≤ length
     c.args.area.now = row_room _ _ _ _ _ c.loop-r.invariant.0 c.loop-r-test.true in
     let a = c.args in
     let inv = c.loop-r.invariant in
-    let p = c.loop-r.r * a.stride + a.from in
-    let n = c.loop-r.r * a.stride + a.to - p in
-    tested-no a.stride a.first a.last a.from a.to _ _ a.area.now c.loop-r.r c.loop-r-test.true inv.2
-    (sym (row-test a.stride a.first a.last a.from a.to _ _ a.area.now c.loop-r.r p n c.all_between.result inv.2.some
+    let p = c.loop-r.r * a.stride + a.patch.from in
+    let n = c.loop-r.r * a.stride + a.patch.to - p in
+    tested-no a.stride a.patch.first a.patch.last a.patch.from a.patch.to _ _ a.area.now c.loop-r.r
+    c.loop-r-test.true inv.2
+    (sym (row-test a.stride a.patch.first a.patch.last a.patch.from a.patch.to _ _ a.area.now c.loop-r.r p n
+    c.all_between.result inv.2.some
     refl (omega (arith, room)) (omega (arith, room)) c.all_between.ensures) ∙ not-true _ c.if-not-all_between.true-raw)
-    ∙ between-by a.first a.last a.from a.to _ (low-is c.before.before.before.before.before) (high_is c.before.before.before.before.before)
+    ∙ between-by a.patch.first a.patch.last a.patch.from a.patch.to _ (low-is c.before.before.before.before.before) (high_is c.before.before.before.before.before)
 
 pub overflow_add-r : goal.overflow_add-r
 overflow_add-r c = omega arith
@@ -93,22 +95,26 @@ loop-r-smaller c = omega arith
 
 pub loop-r-preserved : goal.loop-r-preserved
 loop-r-preserved c =
-    let room : c.loop-r.r * c.args.stride + c.args.to ≤ length
+    let room : c.loop-r.r * c.args.stride + c.args.patch.to ≤ length
     c.args.area.now = row_room _ _ _ _ _ c.loop-r.invariant.0 c.loop-r-test.true in
     let a = c.args in
     let inv = c.loop-r.invariant in
-    let p = c.loop-r.r * a.stride + a.from in
-    let n = c.loop-r.r * a.stride + a.to - p in (
+    let p = c.loop-r.r * a.stride + a.patch.from in
+    let n = c.loop-r.r * a.stride + a.patch.to - p in (
       inv.0,
       inv.1,
-      tested-turn a.stride a.first a.last a.from a.to _ _ a.area.now c.loop-r.r c.loop-r-test.true
-          (sym (row-test a.stride a.first a.last a.from a.to _ _ a.area.now c.loop-r.r p n c.all_between.result
-          inv.2.some refl (omega (arith, room)) (omega (arith, room)) c.all_between.ensures) ∙ not-false _ c.if-not-all_between.false-raw)
+      tested-turn a.stride a.patch.first a.patch.last a.patch.from a.patch.to _ _ a.area.now c.loop-r.r
+          c.loop-r-test.true
+          (sym (row-test a.stride a.patch.first a.patch.last a.patch.from a.patch.to _ _ a.area.now c.loop-r.r p n
+          c.all_between.result
+          inv.2.some refl (omega (arith, room)) (omega (arith, room)) c.all_between.ensures) ∙ not-false _
+          c.if-not-all_between.false-raw)
           inv.2,
     )
 
 pub returns : goal.returns
 returns c =
     let a = c.args in
-    tested-yes a.stride a.first a.last a.from a.to _ _ a.area.now c.loop-r.r c.loop-r-test.false c.loop-r.invariant.2
-    ∙ between-by a.first a.last a.from a.to _ (low-is c.before.before) (high_is c.before.before)
+    tested-yes a.stride a.patch.first a.patch.last a.patch.from a.patch.to _ _ a.area.now c.loop-r.r c.loop-r-test.false
+    c.loop-r.invariant.2
+    ∙ between-by a.patch.first a.patch.last a.patch.from a.patch.to _ (low-is c.before.before) (high_is c.before.before)

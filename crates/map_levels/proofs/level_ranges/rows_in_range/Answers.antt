@@ -17,6 +17,6 @@ pub returns : goal.returns
 returns c =
     let a = c.args in
     c.rows_between.ensures
-    ∙ between-by a.first a.last a.from a.to (cells a.across (at a.plane.now))
+    ∙ between-by a.patch.first a.patch.last a.patch.from a.patch.to (cells a.across (at a.plane.now))
     (read_back c.lowest.result c.lowest.type_inv ∙ c.lowest.ensures)
     (read_back c.range_of.result c.range_of.type_inv ∙ range_at a.filter a.level _ c.requires.3 c.range_of.ensures)

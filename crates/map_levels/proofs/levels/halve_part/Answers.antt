@@ -8,5 +8,5 @@ use Rattle.map_levels.proofs.levels.halve_part.Goals as goal
 pub returns : goal.returns
 returns c =
     let a = c.args in
-    halved-part a.x a.a a.b a.n (a.b + a.n - a.b) (a.a + a.n - a.a) a.from.now a.to.now c.part_line.new.row
-    (omega arith) (omega arith) c.requires.0 c.requires.1 c.part_line.auto.row c.part_line.ensures.area
+    halved-part a.x a.a a.b a.n (a.b + a.n - a.b) (a.a + a.n - a.a) a.from.now a.to.now c.deinterleave_line.new.row
+    (omega arith) (omega arith) c.requires.0 c.requires.1 c.deinterleave_line.auto.row c.deinterleave_line.ensures.area

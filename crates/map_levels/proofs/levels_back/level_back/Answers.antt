@@ -2,7 +2,7 @@
 use native.Mathlib.Omega.{arith}
 use borrow.Author.Rules.{rules}
 use borrow.Author.Tests.{not-true, not-false}
-use Rattle.lifting.specs.Grid.{side}
+use Rattle.map_levels.specs.Regions.{columns_of, rows_of}
 use Rattle.map_levels.proofs.SweepSets.{lines-enough}
 use Rattle.map_levels.proofs.SweepBackGrid.{level-odd, level-one, level-many}
 use Rattle.map_levels.proofs.levels_back.level_back.Goals as goal
@@ -10,28 +10,31 @@ use Rattle.map_levels.proofs.levels_back.level_back.Goals as goal
 pub returns-then-not-rows_even : goal.returns-then-not-rows_even
 returns-then-not-rows_even c =
     let a = c.args in
-    level-odd a.level a.across (side a.x a.width) (side a.y a.height) _ _ _ _ c.rows_even.ensures (not-true _ c.if-not-rows_even.true-raw)
+    level-odd a.region.level a.region.across (columns_of a.region) (rows_of a.region) _ _ _ _ c.rows_even.ensures
+    (not-true _ c.if-not-rows_even.true-raw)
 
 pub one_back-requires : goal.one_back-requires
 one_back-requires c =
-    (c.requires.0, c.if-height-lt2.true, c.requires.1)
+    (c.requires.0, c.if-region-lt2.true, c.requires.1)
 
-pub returns-then-height-lt2 : goal.returns-then-height-lt2
-returns-then-height-lt2 c =
+pub returns-then-region-lt2 : goal.returns-then-region-lt2
+returns-then-region-lt2 c =
     let a = c.args in
-    level-one a.level a.across (side a.x a.width) (side a.y a.height) _ _ _ _ c.rows_even.ensures (not-false _ c.if-not-rows_even.false-raw) _ _ _
+    level-one a.region.level a.region.across (columns_of a.region) (rows_of a.region) _ _ _ _ c.rows_even.ensures
+    (not-false _ c.if-not-rows_even.false-raw) _ _ _
     c.one_back.ensures
 
 pub rows_back-requires : goal.rows_back-requires
 rows_back-requires c =
     let R = c.requires.0 in (
-      record { area = R.area; wide = R.wide; c.before.before.before = omega arith; lines = R.lines; halves = lines-enough _ R.area.narrow; level = R.level },
+      record { area = R.area; wide = R.wide; more = omega arith; lines = R.lines; halves = lines-enough _ R.area.narrow; level = R.level },
       c.requires.1,
     )
 
 pub returns : goal.returns
 returns c =
     let a = c.args in
-    level-many a.level a.across (side a.x a.width) (side a.y a.height) _ _ _ _ c.rows_even.ensures (not-false _ c.if-not-rows_even.false-raw) _
+    level-many a.region.level a.region.across (columns_of a.region) (rows_of a.region) _ _ _ _ c.rows_even.ensures
+    (not-false _ c.if-not-rows_even.false-raw) _
     _ _
-    (omega arith) c.rows_back.ensures
+    (omega (arith, c.if-region-lt2.false)) c.rows_back.ensures

@@ -21,8 +21,8 @@ returns c =
     let x = a.line.now in
     let N = length x in
     let ok = le-leb N (length a.out.now) (omega arith) in
-    let size = c.part_line.auto.start in
-    let from = c.part_line.ensures.area in
+    let size = c.deinterleave_line.auto.start in
+    let from = c.deinterleave_line.ensures.area in
     record { value = simp ok; out_after = simp ok
           (forward-front (side a.start N) (N - 0) (at x) (at a.out.now) _ c.lift.new.line (omega arith) (omega arith)
           c.lift.auto.line c.lift.ensures (simp ok at from)) }

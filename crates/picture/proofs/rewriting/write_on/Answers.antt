@@ -5,7 +5,7 @@ use borrow.Author.Rules.{rules}
 use Prim.Native.Nat.{◌-◌}
 use lib.ListN.{length}
 use Rattle.picture.specs.Machine.{text_on}
-use Rattle.picture.proofs.PartLaws.{back-size, part-fits, settle-put, part-put}
+use Rattle.picture.proofs.PartLaws.{back-size, part-fits, end-part-put, part-put}
 use Rattle.picture.proofs.rewriting.write_on.Goals as goal
 
 pub overflow_sub-out : goal.overflow_sub-out
@@ -39,8 +39,9 @@ returns-then-n-out c =
     let a = c.args.at in
     let y = c.put_part-n.new.out in
     let e = c.put_part-n.auto.out in
-    settle-put c.args.rewriting c.args.row.now o y a (length o - a) c.put_part-n.result c.requires.0 refl c.put_part-n.ensures.value
-    c.put_part-n.ensures.out_after c.settle.result c.requires.1 c.settle.ensures (omega (arith, c.if-n-out.true, back-size o y a (length o - a) e))
+    end-part-put c.args.rewriting c.args.row.now o y a (length o - a) c.put_part-n.result c.requires.0 refl c.put_part-n.ensures.value
+    c.put_part-n.ensures.out_after c.end_part.result c.requires.1 c.end_part.ensures
+    (omega (arith, c.if-n-out.true, back-size o y a (length o - a) e))
 
 pub overflow_add-part : goal.overflow_add-part
 overflow_add-part c = omega (arith, c.put_part-n.ensures.result_bound)

@@ -6,11 +6,9 @@ use lib.ListN.{length}
 use borrow.Author.Tests.{not-true, not-false}
 use Rattle.numbers.specs.Signal.{at}
 use Rattle.filters.specs.Figures.{store_by}
-use Rattle.reader.specs.State.{columns, rows, needs}
-use Rattle.reader.specs.State as state
-use Rattle.reader.proofs.StepLaws.{near, fed-level}
+use Rattle.reader.specs.State.{columns, needs}
 use Rattle.level.proofs.WorkLaws.{told-no, told-yes}
-use Rattle.reader.proofs.QuestionLaws.{counts-in, counts-small, store_in, row-asked}
+use Rattle.reader.proofs.QuestionLaws.{counts-in, store_in, row-asked}
 use Rattle.reader.proofs.CallLaws.{store-14, row-14, feed-1, feed-early, feed-late, feed-last, feed-no, feed-yes, feed-end}
 use Rattle.reader.proofs.CallLaws.{fits-yes, fits-no, fed-reader, zero-kept}
 use Rattle.reader.proofs.Keeps.{feed-also}
@@ -81,21 +79,12 @@ feed_row-requires c =
     let two = row-asked _ _ _ (sym c.row_question-r.ensures ∙ c.if-r-ne0.false) in
     (one.0, c.next_of-next.ensures, omega (arith, c.next_of-next.ensures.spot.level, two.0), c.completes-complete.ensures, one.1, two.1)
 
-pub spot_fed-requires : goal.spot_fed-requires
-spot_fed-requires c =
+pub standing_fed-p-requires : goal.standing_fed-p-requires
+standing_fed-p-requires c =
     let one = store_in _ _ (sym c.counts_fit.ensures ∙ not-false _ c.if-not-counts_fit.false-raw)
     (sym c.store_question-q.ensures ∙ c.if-q-ne0.false) in
     let two = row-asked _ _ _ (sym c.row_question-r.ensures ∙ c.if-r-ne0.false) in
     (one.0, c.next_of-next.ensures, omega (arith, c.next_of-next.ensures.spot.level, two.0), c.completes-complete.ensures)
-
-pub moved-requires : goal.moved-requires
-moved-requires c =
-    let s = c.args.self in
-    let one = store_in s _ (sym c.counts_fit.ensures ∙ not-false _ c.if-not-counts_fit.false-raw)
-    (sym c.store_question-q.ensures ∙ c.if-q-ne0.false) in
-    let deep = fed-level s.filter (columns s) (rows s) s.levels (state.next s).level (state.next s).set (state.next s).band
-    (omega (arith, (near s).within, one.0.at)) in
-    (counts-small s one.0, omega (arith, deep, c.spot_fed.ensures.level, one.0.few))
 
 pub shape_of-store-then-feed_row : goal.shape_of-store-then-feed_row
 shape_of-store-then-feed_row c = c.feed_row.auto.store
@@ -111,7 +100,7 @@ returns-then-feed_row c =
     let made = told-yes c.feed_row.result (at c.feed_row.new.store) _ c.feed_row.ensures.store_after c.if-feed_row.true in
     let v = at a.run.now in
     let x = at a.store.now in
-    let goes = fed-reader a.self c.moved.result c.spot_fed.result c.spot_fed.ensures c.moved.ensures in
+    let goes = fed-reader a.self c.placed.result _ c.standing_fed-p.ensures c.placed.ensures in
     answer-kept-meaning (feed-also a.self n m x v (feed-yes a.self _ _ _ _ _ (fits-yes _ _ made ∙ feed-last a.self n m v x fit one two) goes made))
 
 pub ending-requires : goal.ending-requires

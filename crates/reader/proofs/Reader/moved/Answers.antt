@@ -1,5 +1,5 @@
 -- `reader::Reader::moved` meets its contract: the definition's record. Assumes nothing.
-use mathlib.Core.Path.{ap}
+use mathlib.Core.Path.{ap, ◌∙◌}
 use Prim.Native.Nat.{ℕ}
 use Rattle.reader_steps.specs.Places.{place}
 use Rattle.reader.specs.State.{moved_to}
@@ -11,4 +11,4 @@ back_of-requires c = c.requires
 pub returns : goal.returns
 returns c =
     let a = c.args in
-    ap (λ (b : ℕ). moved_to a.self a.drawn (place a.p.level b a.p.band)) c.back_of.ensures
+    c.placed.ensures ∙ ap (λ (b : ℕ). moved_to a.self a.drawn (place a.p.level b a.p.band)) c.back_of.ensures

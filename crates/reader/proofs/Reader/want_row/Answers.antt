@@ -3,9 +3,9 @@ use mathlib.Core.Path.{◌∙◌, sym, refl}
 use native.Mathlib.Omega.{arith}
 use borrow.Author.Tests.{not-true, not-false}
 use Rattle.reader.proofs.QuestionLaws.{counts-in, counts-small}
-use Rattle.reader.proofs.StepLaws.{next-at}
+use Rattle.reader.proofs.StepLaws.{next-at, at_copy, set-copy}
 use Rattle.reader.specs.State.{columns, rows, next}
-use Rattle.reader.proofs.WalkLaws.{up_next}
+use Rattle.reader.proofs.WalkLaws.{row_next}
 use Rattle.reader.proofs.CallLaws.{want-no, want-yes, wants-ended, wants-done, wants-top}
 use Rattle.reader.proofs.Reader.want_row.Goals as goal
 
@@ -35,9 +35,8 @@ own_band-c-requires c =
 pub want_for-requires : goal.want_for-requires
 want_for-requires c =
     let s = c.args.self in (
-      up_next _ (columns s) (rows s) s.levels s.drawn (next s) s.level c.own_band-c.result c.own_level-l.result
-          c.own_level-l.ensures.0
-          (c.own_band-c.ensures c.if-c-lt4.true),
+      row_next _ (columns s) (rows s) s.levels s.drawn (next s) s.level c.own_band-c.result c.own_level-l.result _
+          c.row_of.ensures c.own_level-l.ensures.0 (c.own_band-c.ensures c.if-c-lt4.true),
       c.if-self.false,
       omega arith,
       counts-in s (sym c.counts_fit.ensures ∙ not-false _ c.if-not-counts_fit.false-raw),
@@ -51,12 +50,12 @@ pub next_up-requires : goal.next_up-requires
 next_up-requires c =
     let s = c.args.self in
     let counts = counts-in s (sym c.counts_fit.ensures ∙ not-false _ c.if-not-counts_fit.false-raw) in
-    (counts-small s counts, omega arith, omega (arith, counts.at, counts.few), c.own_level-l.ensures.0)
+    (counts-small s counts, omega arith, omega (arith, counts.at, counts.few), at_copy c.copied.ensures c.own_level-l.ensures.0)
 
 pub want_for-requires-2 : goal.want_for-requires-2
 want_for-requires-2 c =
     (
-      next-at c.args.self _ _ c.own_level-l.ensures.1 c.next_up.ensures,
+      next-at c.args.self _ _ (set-copy c.copied.ensures c.own_level-l.ensures.1) c.next_up.ensures,
       c.if-self.false,
       omega arith,
       counts-in _ (sym c.counts_fit.ensures ∙ not-false _ c.if-not-counts_fit.false-raw),

@@ -15,10 +15,10 @@ returns-then-s-eq0 c =
     let s = c.args.s in
     sym (ap (λ (k : ℕ). eqb k 0) (next-draw s c.if-s-eq0.true)) ∙ due-is s (omega arith)
 
-pub next_of-requires : goal.next_of-requires
-next_of-requires c = c.requires
+pub next_up-requires : goal.next_up-requires
+next_up-requires c = (c.requires, omega arith)
 
 pub returns : goal.returns
 returns c =
     let s = c.args.s in
-    ap (λ (k : ℕ). eqb k 0) c.next_of.ensures.spot.level ∙ due-is s (omega arith)
+    ap (λ (k : ℕ). eqb k 0) c.next_up.ensures.spot.level ∙ due-is s (omega arith)

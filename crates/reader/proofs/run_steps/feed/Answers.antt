@@ -18,8 +18,8 @@ feed_row-requires c =
     let p = c.requires in
     (p.0, p.2, p.3, c.completes-complete.ensures, p.4, p.6, p.1)
 
-pub place_past-requires : goal.place_past-requires
-place_past-requires c =
+pub place_fed-requires : goal.place_fed-requires
+place_fed-requires c =
     let p = c.requires in
     (p.0, p.2, p.3, c.completes-complete.ensures)
 
@@ -29,14 +29,14 @@ shape_of-store-then-feed_row c = c.feed_row.auto.store
 pub returns-then-feed_row : goal.returns-then-feed_row
 returns-then-feed_row c =
     let s = c.args.s in
-    let q = c.place_past.ensures in
+    let q = c.place_fed.ensures in
     record {
       passes = λ _. (
         told-yes c.feed_row.result (at c.feed_row.new.store) _ c.feed_row.ensures.store_after c.if-feed_row.true,
-        fed-place s c.place_past.result q,
+        fed-place s c.place_fed.result q,
       );
       ends = λ e. false-not-true q.ended e;
-      own = own-kept s s.drawn _ c.place_past.result q;
+      own = own-kept s s.drawn _ c.place_fed.result q;
     }
 
 pub ending-requires : goal.ending-requires

@@ -2,9 +2,11 @@
 use mathlib.Core.Path.{◌∙◌, ap}
 use native.Mathlib.Omega.{arith}
 use borrow.Author.Tests.{not-true, not-false}
-use Prim.Native.Nat.{◌+◌, ◌-◌}
+use Prim.Native.Nat.{ℕ, ◌+◌, ◌-◌}
 use Rattle.numbers.specs.Signal.{at}
 use Rattle.filters.specs.Filters.{filter_of}
+use Rattle.reader.specs.declared.walk.Level.{Level}
+use Rattle.reader.specs.Store.{worked_at}
 use Rattle.reader.specs.Machine.{finished}
 use Rattle.reader.specs.State.{columns, rows}
 use Rattle.level.proofs.WorkLaws.{told-no, told-yes}
@@ -13,7 +15,7 @@ use Rattle.wavelet.proofs.StoreLaws.{store_in}
 use Rattle.level.proofs.KeptLaws.{kept-both, kept-is, kept_more}
 use Rattle.reader.proofs.KeptLaws.{fed-kept}
 use Rattle.reader.proofs.QuestionLaws.{counts-small}
-use Rattle.reader.proofs.StepLaws.{spot_in, feed-failed, feed-on, length_back}
+use Rattle.reader.proofs.StepLaws.{spot_in, feed-failed, feed-on, length_back, at_copy}
 use Rattle.reader.proofs.run_steps.feed_row.Goals as goal
 
 pub work_due-requires : goal.work_due-requires
@@ -56,14 +58,14 @@ returns-then-not-complete c =
     let n = c.args.n.at.set in
     let due = c.requires.1.spot in
     let near = spot_in _ _ due (omega arith) in
-    let settled = told-yes c.work_due.result (at c.work_due.new.store) _ c.work_due.ensures.store_after (not-false _ c.if-not-work_due.false-raw) in
+    let due_worked = told-yes c.work_due.result (at c.work_due.new.store) _ c.work_due.ensures.store_after (not-false _ c.if-not-work_due.false-raw) in
     let room = store_in (filter_of s.filter).rows (columns s) (p.level - 1 + 1) s.levels (omega (arith, near.0, c.requires.0.at)) in
     let own = fed-kept s.filter (columns s) (rows s) (p.level - 1) n p.band _ _ in
     let fed = kept-is _ _ _ _ (kept_more _ _ _ _ room own) c.put_row.ensures in
     record { store_after = finish-not s.admission s.filter s.stop (columns s) (rows s) s.levels (p.level - 1) n p.band _ _ c.requires.3
           (not-true _ c.if-not-complete.true-raw)
           ∙ ap (λ y. finished s.admission s.filter s.stop (columns s) (rows s) s.levels (p.level - 1) n p.band y) c.put_row.ensures
-          ∙ feed-on s p due _ _ _ n (omega arith) (c.requires.1.set c.requires.2) settled; kept = kept-both _ _ _ _ c.work_due.ensures.kept fed }
+          ∙ feed-on s p due _ _ _ n (omega arith) (c.requires.1.set c.requires.2) due_worked; kept = kept-both _ _ _ _ c.work_due.ensures.kept fed }
 
 pub work_at-requires : goal.work_at-requires
 work_at-requires c =
@@ -73,7 +75,7 @@ work_at-requires c =
       counts-small c.args.s counts,
       counts.stops,
       omega (arith, near.0, counts.at),
-      within,
+      at_copy c.copied.ensures within,
       omega (arith, c.put_row.auto.store, c.work_due.auto.store),
       counts.admits,
     )
@@ -90,12 +92,15 @@ returns c =
     let n = c.args.n.at.set in
     let due = c.requires.1.spot in
     let near = spot_in _ _ due (omega arith) in
-    let settled = told-yes c.work_due.result (at c.work_due.new.store) _ c.work_due.ensures.store_after (not-false _ c.if-not-work_due.false-raw) in
+    let due_worked = told-yes c.work_due.result (at c.work_due.new.store) _ c.work_due.ensures.store_after (not-false _ c.if-not-work_due.false-raw) in
     let room = store_in (filter_of s.filter).rows (columns s) (p.level - 1 + 1) s.levels (omega (arith, near.0, c.requires.0.at)) in
     let own = fed-kept s.filter (columns s) (rows s) (p.level - 1) n p.band _ _ in
     let fed = kept-is _ _ _ _ (kept_more _ _ _ _ room own) c.put_row.ensures in
     record { store_after = c.work_at.ensures.store_after
+          ∙ ap (λ (i : ℕ). worked_at s.admission s.filter s.stop (columns s) (rows s) s.levels (p.level - 1) i
+          (at c.put_row.new.store))
+          (ap (λ (l : Level). l.set) c.copied.ensures)
           ∙ finish-set s.admission s.filter s.stop (columns s) (rows s) s.levels (p.level - 1) n p.band _ _ c.requires.3
           (not-false _ c.if-not-complete.false-raw)
           ∙ ap (λ y. finished s.admission s.filter s.stop (columns s) (rows s) s.levels (p.level - 1) n p.band y) c.put_row.ensures
-          ∙ feed-on s p due _ _ _ n (omega arith) (c.requires.1.set c.requires.2) settled; kept = kept-both _ _ _ _ (kept-both _ _ _ _ c.work_due.ensures.kept fed) c.work_at.ensures.kept }
+          ∙ feed-on s p due _ _ _ n (omega arith) (c.requires.1.set c.requires.2) due_worked; kept = kept-both _ _ _ _ (kept-both _ _ _ _ c.work_due.ensures.kept fed) c.work_at.ensures.kept }

@@ -2,8 +2,8 @@
 use native.Mathlib.Omega.{arith}
 use Rattle.reader.specs.State.{columns, rows, next}
 use Rattle.reader.proofs.QuestionLaws.{counts-small}
-use Rattle.reader.proofs.StepLaws.{next-none, next-at}
-use Rattle.reader.proofs.WalkLaws.{no-next, up_next}
+use Rattle.reader.proofs.StepLaws.{next-none, next-at, at_copy, set-copy}
+use Rattle.reader.proofs.WalkLaws.{no-next, row_next}
 use Rattle.reader.proofs.run_steps.next_from.Goals as goal
 
 pub returns-then-s-eq0 : goal.returns-then-s-eq0
@@ -18,14 +18,14 @@ own_band-c-requires c = (c.requires.0, omega arith, c.requires.1 (omega arith))
 pub returns-then-c-lt4 : goal.returns-then-c-lt4
 returns-then-c-lt4 c =
     let s = c.args.s in
-    up_next _ (columns s) (rows s) s.levels s.drawn (next s) s.level c.own_band-c.result c.args.l (c.requires.1 (omega arith)).0
-    (c.own_band-c.ensures c.if-c-lt4.true)
+    row_next _ (columns s) (rows s) s.levels s.drawn (next s) s.level c.own_band-c.result c.args.l _ c.row_of.ensures
+    (c.requires.1 (omega arith)).0 (c.own_band-c.ensures c.if-c-lt4.true)
 
 pub next_up-requires : goal.next_up-requires
 next_up-requires c =
     let counts = c.requires.0 in
-    (counts-small c.args.s counts, omega arith, omega (arith, counts.at, counts.few), (c.requires.1 (omega arith)).0)
+    (counts-small c.args.s counts, omega arith, omega (arith, counts.at, counts.few), at_copy c.copied.ensures (c.requires.1 (omega arith)).0)
 
 pub returns : goal.returns
 returns c =
-    next-at c.args.s _ _ (c.requires.1 (omega arith)).1 c.next_up.ensures
+    next-at c.args.s _ _ (set-copy c.copied.ensures (c.requires.1 (omega arith)).1) c.next_up.ensures

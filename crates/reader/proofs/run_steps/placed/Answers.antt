@@ -3,13 +3,13 @@ use native.Mathlib.Omega.{arith}
 use Prim.Native.Nat.{◌≤◌, ◌^◌}
 use Rattle.lifting.specs.Grid.{side}
 use Rattle.reader.proofs.RunPlaces.{kept-place, top-place}
-use mathlib.Core.Path.{refl}
 use Rattle.reader.proofs.run_steps.placed.Goals as goal
 
 pub returns-then-p-eq0 : goal.returns-then-p-eq0
 returns-then-p-eq0 c =
     let a = c.args in
-    top-place a.filter (side a.x a.width) (side a.y a.height) a.drawn a.p _ c.if-p-eq0.true refl refl c.less.ensures refl refl
+    let e = c.on_top.ensures in
+    top-place a.filter (side a.x a.width) (side a.y a.height) a.drawn a.p _ c.if-p-eq0.true e.0 e.1 e.2 e.3 e.4
 
 pub overflow_sub-p : goal.overflow_sub-p
 overflow_sub-p c = omega arith

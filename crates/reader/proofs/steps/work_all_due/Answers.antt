@@ -5,14 +5,14 @@ use Rattle.level.proofs.KeptLaws.{kept-none}
 use Rattle.reader.specs.State.{columns, rows, spot_now}
 use Rattle.reader.proofs.QuestionLaws.{counts-small}
 use Rattle.reader.proofs.WalkLaws.{work-due-none}
-use Rattle.reader.proofs.StepLaws.{settles-is}
+use Rattle.reader.proofs.StepLaws.{works-due-is}
 use Rattle.reader.proofs.steps.work_all_due.Goals as goal
 
 pub returns-then-s-eq0 : goal.returns-then-s-eq0
 returns-then-s-eq0 c =
     let s = c.args.s in
     record { store_after = work-due-none s.admission s.filter s.stop (columns s) (rows s) s.levels _ s.level (spot_now s).set _ (omega arith)
-          ∙ settles-is s 0 (spot_now s).set c.requires.1 refl _; kept = kept-none _ _ }
+          ∙ works-due-is s 0 (spot_now s).set c.requires.1 refl _; kept = kept-none _ _ }
 
 pub own_level-requires : goal.own_level-requires
 own_level-requires c = (c.requires.0, omega arith)
@@ -27,4 +27,4 @@ shape_of-store c = c.work_due.auto.store
 
 pub returns : goal.returns
 returns c =
-    record { store_after = c.work_due.ensures.store_after ∙ settles-is c.args.s 0 _ c.requires.1 c.own_level.ensures.1 _; kept = c.work_due.ensures.kept }
+    record { store_after = c.work_due.ensures.store_after ∙ works-due-is c.args.s 0 _ c.requires.1 c.own_level.ensures.1 _; kept = c.work_due.ensures.kept }

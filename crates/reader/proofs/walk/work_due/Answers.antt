@@ -13,7 +13,7 @@ use Rattle.level.specs.Rebuilding.{Kept}
 use Rattle.level.proofs.WorkLaws.{told-no, told-yes}
 use Rattle.level.proofs.KeptLaws.{kept-none, kept-both}
 use Rattle.reader.specs.Admission.{Admits}
-use Rattle.reader.specs.Machine.{settled}
+use Rattle.reader.specs.Machine.{due_worked}
 use Rattle.reader.specs.Inside.{Small, IsLevel}
 use Rattle.reader.proofs.WalkLaws.{step_down, none_left, work-due-none, work-due-failed, work-due-on}
 use Rattle.reader.proofs.walk.work_due.Goals as goal

@@ -14,7 +14,7 @@ use Rattle.level.specs.Rebuilding.{Kept}
 use Rattle.level.proofs.WorkLaws.{told-no, told-yes}
 use Rattle.level.proofs.KeptLaws.{kept-none, kept-both}
 use Rattle.reader.specs.Admission.{Admits}
-use Rattle.reader.specs.Machine.{settled}
+use Rattle.reader.specs.Machine.{due_worked}
 use Rattle.reader.specs.Inside.{Small, IsLevel}
 use Rattle.reader.proofs.WalkLaws.{step_down, none_left, work-due-none, work-due-failed, work-due-on}
 use Rattle.reader.proofs.walk.work_due.Given as goal
@@ -25,8 +25,8 @@ invariant-loop-k l =
     (store_by l.filter (side l.x l.width) l.levels ≤ length l.initial.store)
     × (length l.store ≡ length l.initial.store)
     × (0 < l.k → IsLevel l.filter (side l.x l.width) (side l.y l.height) l.drawn (l.k - 1) l.m)
-    × (settled l.admission l.filter l.base (side l.x l.width) (side l.y l.height) l.levels l.to l.k l.m.set (at l.store)
-    ≡ settled l.admission l.filter l.base (side l.x l.width) (side l.y l.height) l.levels l.to l.from l.initial.m.set (at l.initial.store))
+    × (due_worked l.admission l.filter l.base (side l.x l.width) (side l.y l.height) l.levels l.to l.k l.m.set (at l.store)
+    ≡ due_worked l.admission l.filter l.base (side l.x l.width) (side l.y l.height) l.levels l.to l.from l.initial.m.set (at l.initial.store))
     × Kept (store_by l.filter (side l.x l.width) l.levels) (at l.initial.store) (at l.store)
     × Admits l.admission l.filter l.base (side l.x l.width) (side l.y l.height)
 

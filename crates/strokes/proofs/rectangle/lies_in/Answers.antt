@@ -4,10 +4,10 @@ use Rattle.strokes.proofs.CallLaws.{both_first, both-none}
 use borrow.Author.Rules.{rules}
 use Rattle.strokes.proofs.rectangle.lies_in.Goals as goal
 
-pub returns-then-stretch_in : goal.returns-then-stretch_in
+pub returns-then-span_in : goal.returns-then-span_in
 unfolding lies_in
-returns-then-stretch_in c = both_first _ _ _ _ c.stretch_in.ensures c.if-stretch_in.true c.stretch_in-then-stretch_in.ensures
+returns-then-span_in c = both_first _ _ _ _ c.span_in.ensures c.if-span_in.true c.span_in-then-span_in.ensures
 
 pub returns : goal.returns
 unfolding lies_in
-returns c = both-none _ _ _ c.stretch_in.ensures c.if-stretch_in.false
+returns c = both-none _ _ _ c.span_in.ensures c.if-span_in.false

@@ -3,7 +3,7 @@ use mathlib.Core.Path.{sym, ◌∙◌}
 use native.Mathlib.Nat.{mul_comm}
 use native.Mathlib.Omega.{arith}
 use Rattle.wavelet.proofs.QuestionLaws.{sized}
-use Rattle.wavelet.proofs.ViewLaws.{product, question-size, question-area, span-no, span-stretch}
+use Rattle.wavelet.proofs.ViewLaws.{product, question-size, question-area, span-no, span-band-row}
 use Rattle.wavelet.specs.Shape.{columns, rows}
 use Rattle.wavelet.proofs.view.locate.Goals as goal
 
@@ -32,8 +32,8 @@ returns-then-length-shape c =
     (sym c.size_question-no.ensures ∙ c.if-no-ne0.false) c.if-length-shape.true)
     (λ e. omega arith)
 
-pub stretch-requires : goal.stretch-requires
-stretch-requires c =
+pub band_row_span-requires : goal.band_row_span-requires
+band_row_span-requires c =
     let a = c.args in
     let s = sized a.shape.width a.shape.height a.shape.levels (sym c.size_question-no.ensures ∙ c.if-no-ne0.false) in
     (s.width.1, s.height.1, s.levels.1)
@@ -41,6 +41,6 @@ stretch-requires c =
 pub returns : goal.returns
 returns c =
     let a = c.args in
-    c.stretch.ensures
-    ∙ span-stretch a.length (columns a.shape) (rows a.shape) a.shape.levels a.level a.band a.row
+    c.band_row_span.ensures
+    ∙ span-band-row a.length (columns a.shape) (rows a.shape) a.shape.levels a.level a.band a.row
     (sym c.size_question-no.ensures ∙ c.if-no-ne0.false) c.if-length-shape.false

@@ -5,6 +5,7 @@ use lib.ListN.{length}
 use Rattle.writer.specs.Questions.{finish_question}
 use Rattle.writer.proofs.CallLaws.{sound-room, finish-sound, finish-no, finish-yes}
 use Rattle.writer.proofs.CallsKeep.{finish-kept}
+use Rattle.writer.proofs.Clauses.{result_value-store_after-finish_keeps}
 use Rattle.writer.proofs.Writer.finish.Goals as goal
 
 pub returns-then-no-gt0 : goal.returns-then-no-gt0
@@ -23,4 +24,4 @@ shape_of-store c = c.flush-r.auto.store
 pub returns : goal.returns
 returns c =
     let t = finish-yes _ _ _ _ c.finish_question-no.ensures _ _ (omega arith) c.flush-r.ensures in
-    record { result_value = t.0; store_after = t.1; finish_keeps = finish-kept _ _ _ _ _ t.0 t.1 }
+    result_value-store_after-finish_keeps (rw c.moved.ensures (t.0, (t.1, finish-kept _ _ _ _ _ t.0 t.1)))

@@ -5,17 +5,17 @@ use Rattle.writer.proofs.OfferLaws.{reaching-inside, reaching-whole}
 use Rattle.writer.proofs.offers.reach.Goals as goal
 
 pub returns-then-column-s : goal.returns-then-column-s
-returns-then-column-s c = reaching-inside _ _ _ _ c.requires.0 (omega arith)
+returns-then-column-s c = rw (c.moved.ensures, c.wait_of.ensures) (reaching-inside _ _ _ _ c.requires.0 (omega arith))
 
 pub arrive-r-requires : goal.arrive-r-requires
 arrive-r-requires c = c.requires.0.room
 
-pub overflow_add-result : goal.overflow_add-result
-overflow_add-result c = omega (arith, height-small)
+pub overflow_add-s : goal.overflow_add-s
+overflow_add-s c = omega (arith, height-small)
 
 pub shape_of-store : goal.shape_of-store
 shape_of-store c = c.arrive-r.auto.store
 
 pub returns : goal.returns
 returns c =
-    reaching-whole _ _ _ _ c.requires.0 _ _ (omega arith) (omega arith) c.arrive-r.ensures
+    rw c.moved-2.ensures (reaching-whole _ _ _ _ c.requires.0 _ _ (omega arith) (omega arith) c.arrive-r.ensures)

@@ -15,22 +15,27 @@ flush-q-requires c =
     )
 
 pub shape_of-store-then-r-eq0 : goal.shape_of-store-then-r-eq0
-shape_of-store-then-r-eq0 c = c.flush-q.auto.store ∙ c.advance-r.auto.store
+shape_of-store-then-r-eq0 c =
+    c.flush-q.auto.store ∙ c.advance-r.auto.store
 
 pub returns-then-r-eq0 : goal.returns-then-r-eq0
-returns-then-r-eq0 c = drew-closes c.args.s _ _ _
-    c.advance-r.ensures _ _ c.if-s.true (omega arith)
-    c.flush-q.ensures
+returns-then-r-eq0 c =
+    rw c.moved.ensures (drew-closes c.args.s _ _ _ c.advance-r.ensures _ _ c.if-s.true (omega arith)
+    c.flush-q.ensures)
 
-pub shape_of-store-else-r-eq0 : goal.shape_of-store-else-r-eq0
-shape_of-store-else-r-eq0 c = c.advance-r.auto.store
+pub shape_of-store-then-s : goal.shape_of-store-then-s
+shape_of-store-then-s c = c.advance-r.auto.store
 
-pub returns-else-r-eq0 : goal.returns-else-r-eq0
-returns-else-r-eq0 c = drew-waits c.args.s _ _ _ c.advance-r.ensures
-    c.if-s.true (omega arith)
+pub returns-then-s : goal.returns-then-s
+returns-then-s c =
+    rw c.moved-then-s.ensures (drew-waits c.args.s _ _ _ c.advance-r.ensures c.if-s.true (omega arith))
 
-pub shape_of-store-else-s : goal.shape_of-store-else-s
-shape_of-store-else-s c = c.advance-r.auto.store
+pub moved-requires-2 : goal.moved-requires-2
+moved-requires-2 c = tt
 
-pub returns-else-s : goal.returns-else-s
-returns-else-s c = drew-open c.args.s _ _ _ c.advance-r.ensures c.if-s.false
+pub shape_of-store : goal.shape_of-store
+shape_of-store c = c.advance-r.auto.store
+
+pub returns : goal.returns
+returns c =
+    rw c.moved-2.ensures (drew-open c.args.s _ _ _ c.advance-r.ensures c.if-s.false)

@@ -5,6 +5,7 @@ use native.Mathlib.Omega.{arith}
 use Rattle.numbers.specs.Signal.{at, spliced}
 use Rattle.level.specs.Heights.{height_at}
 use Rattle.writer.proofs.OfferLaws.{holder-start}
+use Rattle.writer.proofs.Clauses.{value-store_after}
 use Rattle.writer.proofs.spare.hold.Goals as goal
 
 pub overflow_add-a : goal.overflow_add-a
@@ -17,8 +18,8 @@ copy-requires c =
     let p = c.requires.0 in
     (omega (arith, holder-start _ _ _ p _ c.store_length-a.ensures, p.row, p.room), c.requires.1)
 
-pub overflow_add-result : goal.overflow_add-result
-overflow_add-result c = let p = c.requires.0 in omega (arith, p.row, p.room)
+pub overflow_add-s : goal.overflow_add-s
+overflow_add-s c = let p = c.requires.0 in omega (arith, p.row, p.room)
 
 pub shape_of-store : goal.shape_of-store
 shape_of-store c = c.copy.auto.store
@@ -26,6 +27,9 @@ shape_of-store c = c.copy.auto.store
 pub returns : goal.returns
 returns c =
     let a = c.args in
-    record { value = refl; store_after = c.copy.ensures
+    value-store_after (rw (c.moved.ensures, c.wait_of.ensures) (
+      refl,
+      c.copy.ensures
           ∙ ap (λ (b : ℕ). spliced (b + a.s.column) a.n (height_at a.run.now) (at a.store.now))
-          (holder-start _ _ _ c.requires.0 _ c.store_length-a.ensures) }
+          (holder-start _ _ _ c.requires.0 _ c.store_length-a.ensures),
+    ))

@@ -1,0 +1,9 @@
+pub mod PlaneBytes
+pub mod PlaneMade
+pub mod RoundedWithin
+pub mod SteppedState
+pub mod SteppedEnds
+pub mod SteppedRow
+pub mod SteppedRun
+pub mod SteppedCalls
+pub mod SteppedTheorem

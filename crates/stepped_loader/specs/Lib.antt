@@ -1,0 +1,2 @@
+pub mod SteppedLists
+pub mod SteppedLoading
