@@ -36,7 +36,7 @@ COMMAND_PARTS := $(wildcard command/*.h examples/*.h) include/terrain.h Makefile
 COMMAND_FLAGS = -std=c11 -D_GNU_SOURCE -O2 -Wall -Wextra -Wshadow -I include $(if $(LIBPNG),$(shell pkg-config --cflags libpng))
 COMMAND_LIBS = $(if $(LIBPNG),$(shell pkg-config --libs libpng) -lz) -lm
 # What the crates are compiled from, and what they are proved from.
-SOURCES := $(shell find crates -name '*.rt' -path '*/src/*')
+SOURCES := $(shell find crates -path '*/out' -prune -o -name '*.rt' -path '*/src/*' -print)
 CRATES := crates.txt $(shell find crates \( -path '*/must-fail' -o -path '*/out' \) -prune -o -type f -print)
 
 # What is built over an archive of one's own is built each time, apart from the rest.
