@@ -17,7 +17,7 @@ use Rattle.lifting.specs.Grid.{Side, count}
 use Rattle.lifting.specs.Halves.{fronted}
 use Rattle.lifting.specs.GridHalves.{unlifted_in_place, highs_laid}
 use Rattle.lifting.specs.Passes.{near, highs_changed, lows_changed, lows_of}
-use Rattle.lifting.proofs.GridLaws.{ahead, counts, some, front-in, front-past}
+use Rattle.lifting.proofs.GridLaws.{ahead, counts, front-in, front-past}
 use Rattle.lifting.proofs.PassLaws.{highs-low, highs-high, highs-past, lows-low, lows-past, unlifted-is, HighsAt, LowsAt, high-next, low-next}
 
 past_end : (l : List ℤ) (j : ℕ) → length l ≤ j → at l j ≡ pos 0

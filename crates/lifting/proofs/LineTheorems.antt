@@ -2,7 +2,7 @@
 -- `keep` is what is stored of a sum: `wrap32` in the calls, `whole` in T.800's own arithmetic; a law with any `keep` holds for both. `SFits w32 z` says that z
 -- is a 32-bit number.
 -- Proved by the lines on the grid at a start of 0, or by working out the mirror. Assumes nothing.
-use Prim.Native.Nat.{ℕ, zero, suc, ◌+◌, ◌-◌, ◌*◌, ◌^◌, ◌≤◌, ◌<◌}
+use Prim.Native.Nat.{ℕ, zero, suc, ◌+◌, ◌*◌, ◌^◌, ◌≤◌, ◌<◌}
 use mathlib.Core.Path.{◌≡◌, sym, ◌∙◌}
 use native.Mathlib.Omega.{arith}
 use lib.IntN.{ℤ, nat_abs}

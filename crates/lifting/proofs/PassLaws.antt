@@ -1,7 +1,7 @@
 -- The laws of the private passes: what each leaves at a place, a turn of its loop over any step f, and what the passes come to together. Assumes nothing.
 use mathlib.Core.Path.{◌≡◌, refl, sym, ap, ◌∙◌, subst}
 use mathlib.Core.List.{List}
-use Prim.Native.Nat.{ℕ, ◌+◌, ◌-◌, ◌*◌, ◌%◌, ◌^◌, ◌≤◌, ◌<◌}
+use Prim.Native.Nat.{ℕ, ◌+◌, ◌-◌, ◌*◌, ◌%◌, ◌^◌, ◌≤◌, ◌<◌, max}
 use native.Mathlib.Omega.{arith}
 use lib.IntN.{ℤ}
 use lib.ListN.{length, set, length-set}
@@ -166,6 +166,10 @@ module _ {N low o end n : ℕ} (h : HighsAt N low o end n) where
   pub high-ends : Fits w64 (low + n) × (1 ≤ low)
   high-ends = omega arith
 
+  -- how many turns were made, where the loop ends
+  pub high-turns : end ≤ n → (1 ≤ end → n ≤ end) → max end 1 ≡ n
+  high-turns b e = grind arith
+
   pub high-last-in : (K M : ℕ) → M ≡ N → low + n < K → (low + n < K) × (low - 1 < M) × (low - 1 < M)
   high-last-in K M em b = omega arith
 
@@ -221,6 +225,9 @@ module _ {N low o high end n : ℕ} (h : LowsAt N low o high end n) where
 
   pub low-ends : Fits w64 (low + high) × (1 ≤ low + high)
   low-ends = omega arith
+
+  pub low-turns : end ≤ n → (1 ≤ end → n ≤ end) → max end 1 ≡ n
+  low-turns b e = grind arith
 
   pub low-last-in : (K M : ℕ) → K ≡ N → M ≡ N → n < low → (n < K) × (low + high - 1 < M) × (low + high - 1 < M)
   low-last-in K M ek em b = omega arith

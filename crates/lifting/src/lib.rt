@@ -6,7 +6,9 @@
 pub mod halves;
 pub mod line;
 pub mod pairs;
+pub mod passes;
 mod place;
 pub mod rows;
 pub mod sample;
 pub mod single;
+pub mod step;

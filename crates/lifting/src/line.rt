@@ -3,84 +3,15 @@
 ghost use Rattle.std.specs.Prelude.{◌≡◌, ◌+◌, ◌-◌, ◌*◌, ◌%◌, ◌<◌, ◌≤◌, length, set, leb, eqb};
 ghost use Rattle.numbers.specs.Signal.{at, pick, both};
 ghost use Rattle.numbers.specs.Word.{wrap32};
-ghost use Rattle.lifting.specs.Line.{lo, predicted, unpredicted, updated, unupdated};
+ghost use Rattle.lifting.specs.Line.{lo, unpredicted, unupdated};
 ghost use Rattle.lifting.specs.Grid.{side, count};
 ghost use Rattle.lifting.specs.GridHalves.{lifted_in_place, unlifted_in_place, has_line_in, forward_into, backward_into};
-ghost use Rattle.lifting.specs.Passes.{highs_changed, lows_changed, evens_copied, even_back, rest_put};
+ghost use Rattle.lifting.specs.Passes.{evens_copied, even_back, rest_put};
 
-use crate::{place, sample};
+use crate::step::{Predict, Unpredict, Unupdate, Update};
+use crate::{passes, place, sample};
 
-// ---- a line in halves, in place. The ends stand outside the loops, and their bounds before them, so that they become vector code
-
-// Each high number n by its low neighbours n + o - 1 and n + o; the first and the last may have one, which counts twice.
-fn predict_highs(line: &mut [i32], low: usize, o: usize)
-    requires { (0 < low) × (low < length line.old) × (o ≤ 1) × (low + low ≤ length line.old + o) × (length line.old + o ≤ low + low + 1) }
-    ensures { at line.new ≡ highs_changed (predicted wrap32) o low (length line.old) (at line.old) }
-{
-    let end = low - o;
-    place::predict_at(line, low, 0, place::nearest(low, o));
-    let mut n = 1;
-    while n < end {
-        place::predict_at(line, low + n, n + o - 1, n + o);
-        n += 1;
-    }
-    if low + n < line.len() {
-        place::predict_at(line, low + n, low - 1, low - 1);
-    }
-}
-
-// Each low number n by its high neighbours n + o - 1 and n + o; the first and the last may have one.
-fn update_lows(line: &mut [i32], low: usize, o: usize)
-    requires { (0 < low) × (low < length line.old) × (o ≤ 1) × (length line.old ≤ low + low + o) × (low + low + o ≤ length line.old + 1) }
-    ensures { at line.new ≡ lows_changed (updated wrap32) o low (length line.old) (at line.old) }
-{
-    let high = line.len() - low;
-    let end = high - o;
-    place::update_at(line, 0, low, low + place::nearest(high, o));
-    let mut n = 1;
-    while n < end {
-        place::update_at(line, n, low + n + o - 1, low + n + o);
-        n += 1;
-    }
-    if n < low {
-        place::update_at(line, n, low + high - 1, low + high - 1);
-    }
-}
-
-// The same with the sign turned: the low numbers first,
-fn unupdate_lows(line: &mut [i32], low: usize, o: usize)
-    requires { (0 < low) × (low < length line.old) × (o ≤ 1) × (length line.old ≤ low + low + o) × (low + low + o ≤ length line.old + 1) }
-    ensures { at line.new ≡ lows_changed (unupdated wrap32) o low (length line.old) (at line.old) }
-{
-    let high = line.len() - low;
-    let end = high - o;
-    place::unupdate_at(line, 0, low, low + place::nearest(high, o));
-    let mut n = 1;
-    while n < end {
-        place::unupdate_at(line, n, low + n + o - 1, low + n + o);
-        n += 1;
-    }
-    if n < low {
-        place::unupdate_at(line, n, low + high - 1, low + high - 1);
-    }
-}
-
-// then the high ones.
-fn unpredict_highs(line: &mut [i32], low: usize, o: usize)
-    requires { (0 < low) × (low < length line.old) × (o ≤ 1) × (low + low ≤ length line.old + o) × (length line.old + o ≤ low + low + 1) }
-    ensures { at line.new ≡ highs_changed (unpredicted wrap32) o low (length line.old) (at line.old) }
-{
-    let end = low - o;
-    place::unpredict_at(line, low, 0, place::nearest(low, o));
-    let mut n = 1;
-    while n < end {
-        place::unpredict_at(line, low + n, n + o - 1, n + o);
-        n += 1;
-    }
-    if low + n < line.len() {
-        place::unpredict_at(line, low + n, low - 1, low - 1);
-    }
-}
+// ---- a line in halves, in place
 
 // A line of one number or none: an only number at an odd coordinate is doubled.
 fn lift_single(line: &mut [i32], start: usize)
@@ -120,8 +51,8 @@ pub fn lift(line: &mut [i32], start: usize)
     }
     let b = start % 2;
     let low = place::lows(n, start);
-    predict_highs(line, low, 1 - b);
-    update_lows(line, low, b);
+    passes::change_highs::<Predict>(line, low, 1 - b);
+    passes::change_lows::<Update>(line, low, b);
 }
 
 // The way back: low and high values in place to the line in halves. 14, and nothing changed, for an only high value that is odd.
@@ -136,8 +67,8 @@ pub fn unlift(line: &mut [i32], start: usize) -> u8
     }
     let b = start % 2;
     let low = place::lows(n, start);
-    unupdate_lows(line, low, b);
-    unpredict_highs(line, low, 1 - b);
+    passes::change_lows::<Unupdate>(line, low, b);
+    passes::change_highs::<Unpredict>(line, low, 1 - b);
     0
 }
 

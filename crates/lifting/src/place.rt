@@ -2,45 +2,20 @@
 // The module is private: only the loops of this crate, which meet what is required, can call it.
 ghost use Rattle.std.specs.Prelude.{◌≡◌, ◌<◌, length, set};
 ghost use Rattle.numbers.specs.Signal.{at, both};
-ghost use Rattle.numbers.specs.Word.{wrap32};
-ghost use Rattle.lifting.specs.Line.{lo, predicted, unpredicted, updated, unupdated};
+ghost use Rattle.lifting.specs.Line.{lo};
 ghost use Rattle.lifting.specs.Pairs.{first, changed_at, lifted_at, unlifted_at};
 ghost use Rattle.lifting.specs.Ranges.{within};
 ghost use Rattle.lifting.specs.Grid.{side, count, single_high};
 ghost use Rattle.lifting.specs.Passes.{near};
 
 use crate::sample;
+use crate::step::Step;
 
-pub fn predict_at(area: &mut [i32], p: usize, a: usize, b: usize)
+pub fn step_at<S: Step>(area: &mut [i32], p: usize, a: usize, b: usize)
     requires { (p < length area.old) × (a < length area.old) × (b < length area.old) }
-    ensures { area.new ≡ set area.old p (predicted wrap32 (at area.old p) (at area.old a)
-        (at area.old b)) }
+    ensures { area.new ≡ set area.old p (S.op (at area.old p) (at area.old a) (at area.old b)) }
 {
-    area[p] = sample::predict(area[p], area[a], area[b]);
-}
-
-pub fn update_at(area: &mut [i32], p: usize, a: usize, b: usize)
-    requires { (p < length area.old) × (a < length area.old) × (b < length area.old) }
-    ensures { area.new ≡ set area.old p (updated wrap32 (at area.old p) (at area.old a)
-        (at area.old b)) }
-{
-    area[p] = sample::update(area[p], area[a], area[b]);
-}
-
-pub fn unupdate_at(area: &mut [i32], p: usize, a: usize, b: usize)
-    requires { (p < length area.old) × (a < length area.old) × (b < length area.old) }
-    ensures { area.new ≡ set area.old p (unupdated wrap32 (at area.old p) (at area.old a)
-        (at area.old b)) }
-{
-    area[p] = sample::unupdate(area[p], area[a], area[b]);
-}
-
-pub fn unpredict_at(area: &mut [i32], p: usize, a: usize, b: usize)
-    requires { (p < length area.old) × (a < length area.old) × (b < length area.old) }
-    ensures { area.new ≡ set area.old p (unpredicted wrap32 (at area.old p) (at area.old a)
-        (at area.old b)) }
-{
-    area[p] = sample::unpredict(area[p], area[a], area[b]);
+    area[p] = S::step(area[p], area[a], area[b]);
 }
 
 // A high number predicted by two low ones, the first of these updated by another high number and this one, which is answered: so a loop has it at hand.

@@ -1,13 +1,16 @@
 // Row calls: the columns of an area lifted a row at a time, without striding. Row `t` is the `width` numbers from place `t * stride` on.
-// Each call changes row `target` by what stands in the same columns of rows `left` and `right`. It answers 0, or 5 with nothing
-// changed where a row does not lie in the area or is wider than the stride.
+// Each call changes row `target` by what stands in the same columns of rows `left` and `right`. It refuses, with nothing changed, where a row does not lie in
+// the area or is wider than the stride.
 ghost use Rattle.std.specs.Prelude.{◌≡◌, ◌+◌, ◌*◌, ◌<◌, length};
 ghost use Rattle.numbers.specs.Signal.{at, pick};
 ghost use Rattle.numbers.specs.Word.{wrap32};
 ghost use Rattle.lifting.specs.Line.{predicted, unpredicted, updated, unupdated};
+ghost use Rattle.refusal.specs.Numbers.{answer};
 ghost use Rattle.lifting.specs.Rows.{row_fits, rows_fit, rows_changed};
 
 use crate::place;
+use crate::step::{Predict, Step, Unpredict, Unupdate, Update};
+use refusal::Refusal;
 
 // Whether row `row` lies within n numbers: by division, so that no product can overflow.
 pub fn row_fits(n: usize, stride: usize, width: usize, row: usize) -> bool
@@ -44,6 +47,30 @@ pub fn rows_fit(
     false
 }
 
+// Row `target` changed by any step.
+pub fn change_row<S: Step>(
+    area: &mut [i32],
+    stride: usize,
+    width: usize,
+    target: usize,
+    left: usize,
+    right: usize,
+) -> Result<(), Refusal>
+    ensures value { answer result ≡ pick (rows_fit (length area.old) stride width target left right) 0 5 }
+    ensures area_after { at area.new ≡ rows_changed S.op (length area.old) stride width target left right (at area.old) }
+{
+    if !rows_fit(area.len(), stride, width, target, left, right) {
+        return Err(Refusal::AreaShort);
+    }
+    let t = target * stride;
+    let l = left * stride;
+    let r = right * stride;
+    for i in 0..width {
+        place::step_at::<S>(area, t + i, l + i, r + i);
+    }
+    Ok(())
+}
+
 pub fn predict_row(
     area: &mut [i32],
     stride: usize,
@@ -56,18 +83,7 @@ pub fn predict_row(
     ensures area_after { at area.new ≡ rows_changed (predicted wrap32) (length area.old) stride width target left right
         (at area.old) }
 {
-    if rows_fit(area.len(), stride, width, target, left, right) {
-        let t = target * stride;
-        let l = left * stride;
-        let r = right * stride;
-        let mut i = 0;
-        while i < width {
-            place::predict_at(area, t + i, l + i, r + i);
-            i += 1;
-        }
-        return 0;
-    }
-    5
+    refusal::code(change_row::<Predict>(area, stride, width, target, left, right))
 }
 
 pub fn update_row(
@@ -79,20 +95,10 @@ pub fn update_row(
     right: usize,
 ) -> u8
     ensures value { result ≡ pick (rows_fit (length area.old) stride width target left right) 0 5 }
-    ensures area_after { at area.new ≡ rows_changed (updated wrap32) (length area.old) stride width target left right (at area.old) }
+    ensures area_after { at area.new ≡ rows_changed (updated wrap32) (length area.old) stride width target left right
+        (at area.old) }
 {
-    if rows_fit(area.len(), stride, width, target, left, right) {
-        let t = target * stride;
-        let l = left * stride;
-        let r = right * stride;
-        let mut i = 0;
-        while i < width {
-            place::update_at(area, t + i, l + i, r + i);
-            i += 1;
-        }
-        return 0;
-    }
-    5
+    refusal::code(change_row::<Update>(area, stride, width, target, left, right))
 }
 
 pub fn unupdate_row(
@@ -107,18 +113,7 @@ pub fn unupdate_row(
     ensures area_after { at area.new ≡ rows_changed (unupdated wrap32) (length area.old) stride width target left right
         (at area.old) }
 {
-    if rows_fit(area.len(), stride, width, target, left, right) {
-        let t = target * stride;
-        let l = left * stride;
-        let r = right * stride;
-        let mut i = 0;
-        while i < width {
-            place::unupdate_at(area, t + i, l + i, r + i);
-            i += 1;
-        }
-        return 0;
-    }
-    5
+    refusal::code(change_row::<Unupdate>(area, stride, width, target, left, right))
 }
 
 pub fn unpredict_row(
@@ -133,16 +128,5 @@ pub fn unpredict_row(
     ensures area_after { at area.new ≡ rows_changed (unpredicted wrap32) (length area.old) stride width target left right
         (at area.old) }
 {
-    if rows_fit(area.len(), stride, width, target, left, right) {
-        let t = target * stride;
-        let l = left * stride;
-        let r = right * stride;
-        let mut i = 0;
-        while i < width {
-            place::unpredict_at(area, t + i, l + i, r + i);
-            i += 1;
-        }
-        return 0;
-    }
-    5
+    refusal::code(change_row::<Unpredict>(area, stride, width, target, left, right))
 }

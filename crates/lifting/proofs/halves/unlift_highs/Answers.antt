@@ -1,11 +1,8 @@
 use mathlib.Core.Path.{refl, sym, ◌∙◌}
-use Prim.Native.Nat.{◌-◌}
 use native.Mathlib.Omega.{arith}
-use Rattle.numbers.specs.Word.{wrap32}
-use Rattle.lifting.specs.Line.{unpredicted}
 use Rattle.lifting.proofs.RowLaws.{falls}
 use Rattle.lifting.proofs.PassLaws.{high-first-in, highs-at, high_sums, high-in, high-ends, high-last-in, below}
-use Rattle.lifting.proofs.LiftLaws.{HighsBy, high-again, high-last, high-done}
+use Rattle.lifting.proofs.LiftLaws.{high-again, high-last, high-done}
 use Rattle.lifting.proofs.halves.unlift_highs.Goals as goal
 
 pub overflow_sub-end : goal.overflow_sub-end

@@ -1,10 +1,7 @@
 use mathlib.Core.Path.{refl, sym, ◌∙◌}
-use Prim.Native.Nat.{◌-◌}
-use Rattle.numbers.specs.Word.{wrap32}
-use Rattle.lifting.specs.Line.{unupdated}
 use Rattle.lifting.proofs.RowLaws.{falls}
 use Rattle.lifting.proofs.PassLaws.{low-begins, low-first-in, lows-at, low_sums, low-in, low-ends, low-last-in, below}
-use Rattle.lifting.proofs.LiftLaws.{LowsBy, low_again, low-last, low-done}
+use Rattle.lifting.proofs.LiftLaws.{low_again, low-last, low-done}
 use Rattle.lifting.proofs.halves.unlift_lows.Goals as goal
 
 pub overflow_sub-high : goal.overflow_sub-high

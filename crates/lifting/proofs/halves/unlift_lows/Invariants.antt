@@ -1,12 +1,9 @@
 -- `lifting::halves::unlift_lows` meets its contract: a sweep over the low numbers of `out`, the first before the loop and the last after it.
 -- Assumes nothing.
-use mathlib.Core.Path.{refl, sym, ◌∙◌}
 use Prim.Native.Nat.{◌-◌}
 use Rattle.numbers.specs.Word.{wrap32}
 use Rattle.lifting.specs.Line.{unupdated}
-use Rattle.lifting.proofs.RowLaws.{falls}
-use Rattle.lifting.proofs.PassLaws.{low-begins, low-first-in, lows-at, low_sums, low-in, low-ends, low-last-in, below}
-use Rattle.lifting.proofs.LiftLaws.{LowsBy, low_again, low-last, low-done}
+use Rattle.lifting.proofs.LiftLaws.{LowsBy}
 use Rattle.lifting.proofs.halves.unlift_lows.Given as goal
 
 -- `out₀` is `out` after the first store

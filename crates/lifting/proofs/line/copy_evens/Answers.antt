@@ -1,11 +1,10 @@
 use mathlib.Core.Path.{sym}
-use Prim.Native.Nat.{◌-◌, ◌*◌, ◌≤◌}
+use Prim.Native.Nat.{◌*◌}
 use native.Mathlib.Omega.{arith}
 use lib.ListN.{length}
 use Rattle.numbers.specs.Signal.{at}
 use Rattle.numbers.proofs.Words.{read_back}
-use Rattle.numbers.proofs.Sweep.{Swept, start, store, finish}
-use Rattle.lifting.specs.Passes.{evens_copied}
+use Rattle.numbers.proofs.Sweep.{start, store, finish}
 use Rattle.lifting.proofs.AreaLaws.{evens-in, evens-past}
 use Rattle.lifting.proofs.line.copy_evens.Goals as goal
 

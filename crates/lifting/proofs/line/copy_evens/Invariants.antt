@@ -1,13 +1,9 @@
 -- `lifting::line::copy_evens` meets its contract: a sweep over the front of `out`. Assumes nothing.
-use mathlib.Core.Path.{sym}
-use Prim.Native.Nat.{◌-◌, ◌*◌, ◌≤◌}
-use native.Mathlib.Omega.{arith}
+use Prim.Native.Nat.{◌-◌, ◌≤◌}
 use lib.ListN.{length}
 use Rattle.numbers.specs.Signal.{at}
-use Rattle.numbers.proofs.Words.{read_back}
-use Rattle.numbers.proofs.Sweep.{Swept, start, store, finish}
+use Rattle.numbers.proofs.Sweep.{Swept}
 use Rattle.lifting.specs.Passes.{evens_copied}
-use Rattle.lifting.proofs.AreaLaws.{evens-in, evens-past}
 use Rattle.lifting.proofs.line.copy_evens.Given as goal
 
 abbrev pub invariant-loop-j : goal.invariant-loop-j

@@ -1,5 +1,4 @@
 -- `lifting::line::put_first` meets its contract: what is read and stored are 32-bit numbers read back. Assumes nothing.
-use borrow.Author.Rules.{rules}
 use borrow.Author.Tests.{eq-eqb, ne_eqb}
 use mir.Syntax.{w32}
 use mir.ValLaws.{to_z-of_z}

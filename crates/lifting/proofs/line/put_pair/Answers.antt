@@ -1,5 +1,4 @@
 -- `lifting::line::put_pair` meets its contract: what is read and stored are 32-bit numbers read back. Assumes nothing.
-use borrow.Author.Rules.{rules}
 use mir.Syntax.{w32}
 use mir.ValLaws.{to_z-of_z}
 use Rattle.numbers.specs.Signal.{at}

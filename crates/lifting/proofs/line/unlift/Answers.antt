@@ -17,21 +17,21 @@ shape_of-line-then-n-lt2 c = c.unlift_single.auto.line
 pub returns-then-n-lt2 : goal.returns-then-n-lt2
 returns-then-n-lt2 c = record { value = c.unlift_single.ensures.value; line_after = c.unlift_single.ensures.line_after }
 
-pub unupdate_lows-requires : goal.unupdate_lows-requires
-unupdate_lows-requires c =
+pub change_lows-requires : goal.change_lows-requires
+change_lows-requires c =
     let a = c.args in
     highs-beside (side a.start (length a.line.now)) _ _ refl c.if-n-lt2.false c.lows-low.ensures
 
 pub overflow_sub-b : goal.overflow_sub-b
 overflow_sub-b c = omega arith
 
-pub unpredict_highs-requires : goal.unpredict_highs-requires
-unpredict_highs-requires c =
+pub change_highs-requires : goal.change_highs-requires
+change_highs-requires c =
     let a = c.args in
-    lows-beside (side a.start (length a.line.now)) _ _ c.unupdate_lows.auto.line c.if-n-lt2.false c.lows-low.ensures
+    lows-beside (side a.start (length a.line.now)) _ _ c.change_lows.auto.line c.if-n-lt2.false c.lows-low.ensures
 
 pub shape_of-line : goal.shape_of-line
-shape_of-line c = c.unpredict_highs.auto.line ∙ c.unupdate_lows.auto.line
+shape_of-line c = c.change_highs.auto.line ∙ c.change_lows.auto.line
 
 pub returns : goal.returns
 returns c =
@@ -41,6 +41,6 @@ returns c =
     let has = has_more (side a.start (length x)) (at x) more in
     record {
       value = simp has;
-      line_after = simp has (unlifted-by (side a.start (length x)) _ x c.unupdate_lows.new.line c.unpredict_highs.new.line refl
-          c.unupdate_lows.auto.line more c.lows-low.ensures c.unupdate_lows.ensures c.unpredict_highs.ensures);
+      line_after = simp has (unlifted-by (side a.start (length x)) _ x c.change_lows.new.line c.change_highs.new.line refl
+          c.change_lows.auto.line more c.lows-low.ensures c.change_lows.ensures c.change_highs.ensures);
     }

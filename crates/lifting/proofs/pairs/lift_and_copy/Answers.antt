@@ -1,12 +1,11 @@
 use mathlib.Core.Path.{◌≡◌, sym, ◌∙◌}
 use mathlib.Core.Bool.{true}
-use Prim.Native.Nat.{ℕ, ◌+◌, ◌-◌, ◌*◌, ◌^◌, ◌<◌}
+use Prim.Native.Nat.{ℕ, ◌+◌, ◌*◌, ◌^◌, ◌<◌}
 use lib.IntN.{ℤ}
 use lib.ListN.{length}
-use Rattle.lifting.specs.Pairs.{pair_fits, pair_copied, lifted_at, first, changed_at}
+use Rattle.lifting.specs.Pairs.{pair_fits, lifted_at, first, changed_at}
 use Rattle.lifting.proofs.RowLaws.{row_within, row_first, row-sum, row_next, falls}
-use Rattle.lifting.proofs.ColumnLaws.{Passed, pair-in, pair-places, pass-start, pass-turn, pass-end, copied_none, copied_more}
-use Rattle.lifting.proofs.pairs.lift_and_copy.Invariants.{F}
+use Rattle.lifting.proofs.ColumnLaws.{pair-in, pair-places, pass-start, pass-turn, pass-end, copied_none, copied_more}
 use Rattle.lifting.proofs.pairs.lift_and_copy.Goals as goal
 
 -- the step of one column

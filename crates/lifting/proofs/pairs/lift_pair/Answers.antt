@@ -1,12 +1,10 @@
 use mathlib.Core.Path.{◌≡◌, sym, ◌∙◌}
 use mathlib.Core.Bool.{true}
-use Prim.Native.Nat.{ℕ, ◌+◌, ◌-◌, ◌*◌, ◌^◌, ◌<◌}
-use lib.IntN.{ℤ}
+use Prim.Native.Nat.{◌+◌, ◌*◌, ◌^◌, ◌<◌}
 use lib.ListN.{length}
-use Rattle.lifting.specs.Pairs.{pair_fits, pair_lifted, lifted_at}
+use Rattle.lifting.specs.Pairs.{pair_fits, lifted_at}
 use Rattle.lifting.proofs.RowLaws.{row_within, row_first, row-sum, row_next, falls}
-use Rattle.lifting.proofs.ColumnLaws.{Passed, pair-in, pair-places, pass-start, pass-turn, pass-end, lifted-none, lifted-more}
-use Rattle.lifting.proofs.pairs.lift_pair.Invariants.{F}
+use Rattle.lifting.proofs.ColumnLaws.{pair-in, pair-places, pass-start, pass-turn, pass-end, lifted-none, lifted-more}
 use Rattle.lifting.proofs.pairs.lift_pair.Goals as goal
 
 pub overflow_mul-h : goal.overflow_mul-h

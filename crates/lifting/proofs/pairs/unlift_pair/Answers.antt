@@ -1,17 +1,13 @@
 use mathlib.Core.Path.{◌≡◌, sym, ◌∙◌}
 use mathlib.Core.Bool.{true}
-use Prim.Native.Nat.{ℕ, ◌+◌, ◌-◌, ◌*◌, ◌^◌, ◌<◌}
-use lib.IntN.{ℤ}
+use Prim.Native.Nat.{◌+◌, ◌*◌, ◌^◌, ◌<◌}
 use lib.ListN.{length}
 use mir.Syntax.{w32}
-use mir.Val.{to_z}
 use mir.ValLaws.{to_z-of_z}
-use Rattle.numbers.specs.Signal.{at}
-use Rattle.lifting.specs.Pairs.{pair_fits, pair_unlifted, pair_within, unlifted_at}
+use Rattle.lifting.specs.Pairs.{pair_fits, unlifted_at}
 use Rattle.lifting.proofs.RowLaws.{row_within, row_first, row-sum, row_next, falls}
-use Rattle.lifting.proofs.ColumnLaws.{Passed, pair-in, pair-places, pass-start, pass-turn, pass-end}
+use Rattle.lifting.proofs.ColumnLaws.{pair-in, pair-places, pass-start, pass-turn, pass-end}
 use Rattle.lifting.proofs.BackLaws.{unlifted-none, unlifted-more, within_none, within_more, within_end}
-use Rattle.lifting.proofs.pairs.unlift_pair.Invariants.{F}
 use Rattle.lifting.proofs.pairs.unlift_pair.Goals as goal
 
 pub overflow_mul-h : goal.overflow_mul-h

@@ -2,7 +2,6 @@
 use mathlib.Core.Path.{ap, ◌∙◌}
 use native.Mathlib.Omega.{arith}
 use lib.IntN.{ℤ}
-use borrow.Author.Rules.{rules}
 use Rattle.numbers.specs.Signal.{at, stored}
 use Rattle.numbers.proofs.Words.{read_back}
 use Rattle.numbers.proofs.Stores.{at_stored}

@@ -1,6 +1,5 @@
 -- `lifting::rows::rows-fit` meets its contract: the definition by what each call answered. Assumes nothing.
 use mathlib.Core.Path.{sym, ◌∙◌}
-use borrow.Author.Rules.{rules}
 use Rattle.lifting.specs.Rows.{rows_fit}
 use Rattle.lifting.proofs.rows.rows_fit.Goals as goal
 

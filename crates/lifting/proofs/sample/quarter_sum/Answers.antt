@@ -1,5 +1,5 @@
 -- `lifting::sample::quarter_sum` meets its contract: a quarter is the upper half of a half. Assumes nothing.
-use borrow.Author.Rules.{rules, sfits_of}
+use borrow.Author.Rules.{sfits_of}
 use mathlib.Core.Path.{◌∙◌}
 use mir.Syntax.{w32}
 use mir.ValLaws.{to_z-of_z}

@@ -1,9 +1,6 @@
-use mathlib.Core.Path.{◌≡◌, ap, ◌∙◌}
-use Prim.Native.Nat.{◌-◌, ◌≤◌}
+use mathlib.Core.Path.{ap, ◌∙◌}
 use native.Mathlib.Omega.{arith}
-use lib.ListN.{length}
 use Rattle.numbers.specs.Signal.{at}
-use Rattle.numbers.specs.Tests.{every}
 use Rattle.numbers.proofs.Words.{read_back}
 use Rattle.lifting.specs.Grid.{is_even}
 use Rattle.lifting.proofs.SingleTests.{even-start, even-turn, even-end}

@@ -1,13 +1,10 @@
 -- `lifting::single::all_even` meets its contract: the answer so far is that of the numbers passed. Assumes nothing.
-use mathlib.Core.Path.{◌≡◌, ap, ◌∙◌}
+use mathlib.Core.Path.{◌≡◌}
 use Prim.Native.Nat.{◌-◌, ◌≤◌}
-use native.Mathlib.Omega.{arith}
 use lib.ListN.{length}
 use Rattle.numbers.specs.Signal.{at}
 use Rattle.numbers.specs.Tests.{every}
-use Rattle.numbers.proofs.Words.{read_back}
 use Rattle.lifting.specs.Grid.{is_even}
-use Rattle.lifting.proofs.SingleTests.{even-start, even-turn, even-end}
 use Rattle.lifting.proofs.single.all_even.Given as goal
 
 abbrev pub invariant-loop-i : goal.invariant-loop-i

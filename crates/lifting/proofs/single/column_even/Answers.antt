@@ -1,12 +1,10 @@
 use mathlib.Core.Path.{◌≡◌, refl, sym, ap, ◌∙◌}
-use Prim.Native.Nat.{◌-◌}
 use native.Mathlib.Omega.{arith}
 use borrow.Author.Tests.{not-true, not-false}
-use lib.ListN.{length}
 use Rattle.numbers.specs.Signal.{at}
 use Rattle.numbers.proofs.Words.{read_back}
 use Rattle.lifting.specs.Grid.{is_even}
-use Rattle.lifting.proofs.SingleTests.{Column, column-start, column-next, column-odd, column-past, column-last, column-end}
+use Rattle.lifting.proofs.SingleTests.{column-start, column-next, column-odd, column-past, column-last, column-end}
 use Rattle.lifting.proofs.single.column_even.Goals as goal
 
 pub loop-i-init : goal.loop-i-init

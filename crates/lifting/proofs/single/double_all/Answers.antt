@@ -1,12 +1,10 @@
 use mathlib.Core.Path.{◌∙◌, ap}
-use Prim.Native.Nat.{◌-◌}
 use native.Mathlib.Omega.{arith}
 use lib.IntN.{pos, ◌*ℤ◌}
-use lib.ListN.{length}
 use Rattle.numbers.specs.Signal.{at}
 use Rattle.numbers.specs.Word.{wrap32}
 use Rattle.numbers.proofs.Words.{read_back}
-use Rattle.lifting.proofs.EachLaws.{Each, each_start, each_turn, each-end}
+use Rattle.lifting.proofs.EachLaws.{each_start, each_turn, each-end}
 use Rattle.lifting.proofs.single.double_all.Goals as goal
 
 pub loop-i-init : goal.loop-i-init

@@ -1,13 +1,9 @@
 -- `lifting::single::double_all` meets its contract: a sweep over the row. Assumes nothing.
-use mathlib.Core.Path.{◌∙◌, ap}
 use Prim.Native.Nat.{◌-◌}
-use native.Mathlib.Omega.{arith}
 use lib.IntN.{pos, ◌*ℤ◌}
 use lib.ListN.{length}
-use Rattle.numbers.specs.Signal.{at}
 use Rattle.numbers.specs.Word.{wrap32}
-use Rattle.numbers.proofs.Words.{read_back}
-use Rattle.lifting.proofs.EachLaws.{Each, each_start, each_turn, each-end}
+use Rattle.lifting.proofs.EachLaws.{Each}
 use Rattle.lifting.proofs.single.double_all.Given as goal
 
 abbrev pub invariant-loop-i : goal.invariant-loop-i

@@ -1,14 +1,11 @@
-use mathlib.Core.Path.{◌≡◌, ◌∙◌, ap}
-use Prim.Native.Nat.{◌-◌}
+use mathlib.Core.Path.{◌∙◌, ap}
 use native.Mathlib.Omega.{arith}
 use lib.Signed.{shr_z}
-use lib.ListN.{length}
 use Rattle.numbers.specs.Signal.{at}
-use Rattle.numbers.specs.Tests.{every}
 use Rattle.numbers.proofs.Words.{read_back}
 use Rattle.lifting.specs.Grid.{is_even}
 use Rattle.lifting.proofs.SingleTests.{even-start, even-turn, even-end}
-use Rattle.lifting.proofs.EachLaws.{Each, each_start, each_turn, each-end}
+use Rattle.lifting.proofs.EachLaws.{each_start, each_turn, each-end}
 use Rattle.lifting.proofs.single.halve_all.Goals as goal
 
 pub loop-i-init : goal.loop-i-init

@@ -1,15 +1,12 @@
 -- `lifting::single::halve_all` meets its contract: a sweep over the row, and the answer so far is that of the numbers passed. Assumes nothing.
-use mathlib.Core.Path.{◌≡◌, ◌∙◌, ap}
+use mathlib.Core.Path.{◌≡◌}
 use Prim.Native.Nat.{◌-◌}
-use native.Mathlib.Omega.{arith}
 use lib.Signed.{shr_z}
 use lib.ListN.{length}
 use Rattle.numbers.specs.Signal.{at}
 use Rattle.numbers.specs.Tests.{every}
-use Rattle.numbers.proofs.Words.{read_back}
 use Rattle.lifting.specs.Grid.{is_even}
-use Rattle.lifting.proofs.SingleTests.{even-start, even-turn, even-end}
-use Rattle.lifting.proofs.EachLaws.{Each, each_start, each_turn, each-end}
+use Rattle.lifting.proofs.EachLaws.{Each}
 use Rattle.lifting.proofs.single.halve_all.Given as goal
 
 abbrev pub invariant-loop-i : goal.invariant-loop-i
