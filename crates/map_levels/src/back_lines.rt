@@ -48,10 +48,8 @@ pub fn unlift_columns(lines: &mut [i32], width: usize) -> bool
     ensures is_height { result ≡ true → (j : ℕ) → j < width → IsHeight (odd_of (at lines.old) j) × IsHeight (even_of (at lines.old) j) }
 {
     let mut all = 0;
-    let mut k = 0;
-    while k < width {
-        all = all | unlift_at(lines, k);
-        k += 1;
+    for k in 0..width {
+        all |= unlift_at(lines, k);
     }
     (0 <= all) & (all <= limits::MAX_SAMPLE)
 }
@@ -68,10 +66,8 @@ pub fn unupdate_columns(lines: &mut [i32], width: usize)
     requires { (width ≤ line_long) × (5 * line_long ≤ length lines.old) }
     ensures { EvenBack width (at lines.old) (at lines.new) }
 {
-    let mut k = 0;
-    while k < width {
+    for k in 0..width {
         unupdate_at(lines, k);
-        k += 1;
     }
 }
 
@@ -88,9 +84,7 @@ pub fn unpredict_columns(lines: &mut [i32], width: usize)
     requires { (width ≤ line_long) × (5 * line_long ≤ length lines.old) }
     ensures { OddBack width (at lines.old) (at lines.new) }
 {
-    let mut k = 0;
-    while k < width {
+    for k in 0..width {
         unpredict_at(lines, k);
-        k += 1;
     }
 }

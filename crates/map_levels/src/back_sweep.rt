@@ -208,13 +208,14 @@ pub fn rows_back(
     let mut ok = first_rows(
         plane, heights, work, lines, across, x, width, y, height, level,
     );
-    let mut r = 1 - y % 2;
-    while r + 1 < height {
-        ok = ok
-            & pair_back(
-                plane, heights, work, lines, across, x, width, y, height, level, r,
-            );
-        r += 2;
+    let start = 1 - y % 2;
+    let pairs = (height - start) / 2;
+    for n in 0..pairs {
+        let r = start + 2 * n;
+        ok &= pair_back(
+            plane, heights, work, lines, across, x, width, y, height, level, r,
+        );
     }
-    ok & last_row(heights, work, lines, x, width, height, level, r)
+    let end = start + 2 * pairs;
+    ok & last_row(heights, work, lines, x, width, height, level, end)
 }

@@ -44,14 +44,12 @@ pub fn load_rows(
     let b = y % 2;
     let low = sizes::low_count(y, height);
     let pairs = height / 2;
-    let mut n = 0;
-    while n < pairs {
+    for n in 0..pairs {
         load_to(heights, 2 * n, plane, b * low + n, x, width);
         load_to(heights, 2 * n + 1, plane, (1 - b) * low + n, x, width);
-        n += 1;
     }
-    if 2 * n < height {
-        load_to(heights, 2 * n, plane, b * low + n, x, width);
+    if 2 * pairs < height {
+        load_to(heights, 2 * pairs, plane, b * low + pairs, x, width);
     }
 }
 
@@ -81,15 +79,13 @@ pub fn finish_rows(
     ensures { Finished result (side x width) height (at work.old) (at work.new)
         (heights_at heights.old) (heights_at heights.new) }
 {
-    let mut r = 0;
-    while r < height {
+    for r in 0..height {
         let a = r * width;
         let e = a + width;
         if !small::all_heights(&work[a..e]) {
             return false;
         }
         finish_row(&mut work[a..e], x, &mut heights[a..e]);
-        r += 1;
     }
     true
 }

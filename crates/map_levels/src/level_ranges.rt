@@ -35,14 +35,12 @@ fn rows_between(
     requires { Rows (length area.now) stride to last × (first ≤ last) × (from ≤ to) }
     ensures { result ≡ rows_between first last from to low high (cells stride (at area.now)) }
 {
-    let mut r = first;
-    while r < last {
+    for r in first..last {
         let a = r * stride + from;
         let e = r * stride + to;
         if !areas::ranges::all_between(&area[a..e], low, high) {
             return false;
         }
-        r += 1;
     }
     true
 }

@@ -65,10 +65,8 @@ pub fn save(plane: &[i32], work: &mut [i32], across: usize, width: usize, height
     ensures { at work.new ≡
         flat width (grid_copied width height (cells across (at plane.now)) (cells width (at work.old))) }
 {
-    let mut r = 0;
-    while r < height {
+    for r in 0..height {
         copy_part(plane, r * across, work, r * width, width);
-        r += 1;
     }
 }
 
@@ -86,11 +84,9 @@ pub fn spread(
     ensures { at plane.new ≡
         flat across (grid_halved (side x width) (side y height) (cells width (at work.now)) (cells across (at plane.old))) }
 {
-    let mut r = 0;
-    while r < height {
+    for r in 0..height {
         let a = level_row(y, height, r) * width;
         halve_part(work, a, plane, r * across, x, width);
-        r += 1;
     }
 }
 

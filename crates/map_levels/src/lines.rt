@@ -55,17 +55,15 @@ fn heights_columns(heights: &[u16], a: usize, b: usize, c: usize, width: usize, 
         (λ i. heights_at heights.now (c + i)) (at lines.old) (at lines.new) }
 {
     let pairs = width / 2;
-    let mut k = 0;
-    while k < pairs {
+    for k in 0..pairs {
         let i = 2 * k;
         let j = i + 1;
         lift_heights(heights, a + i, b + i, c + i, lines, k);
         lift_heights(heights, a + j, b + j, c + j, lines, HALF + k);
-        k += 1;
     }
-    let i = 2 * k;
+    let i = 2 * pairs;
     if i < width {
-        lift_heights(heights, a + i, b + i, c + i, lines, k);
+        lift_heights(heights, a + i, b + i, c + i, lines, pairs);
     }
 }
 
@@ -77,17 +75,15 @@ fn numbers_columns(area: &[i32], a: usize, b: usize, c: usize, width: usize, lin
         (λ i. at area.now (c + i)) (at lines.old) (at lines.new) }
 {
     let pairs = width / 2;
-    let mut k = 0;
-    while k < pairs {
+    for k in 0..pairs {
         let i = 2 * k;
         let j = i + 1;
         lift_numbers(area, a + i, b + i, c + i, lines, k);
         lift_numbers(area, a + j, b + j, c + j, lines, HALF + k);
-        k += 1;
     }
-    let i = 2 * k;
+    let i = 2 * pairs;
     if i < width {
-        lift_numbers(area, a + i, b + i, c + i, lines, k);
+        lift_numbers(area, a + i, b + i, c + i, lines, pairs);
     }
 }
 
@@ -104,10 +100,8 @@ fn heights_end(heights: &[u16], a: usize, width: usize, lines: &mut [i32])
     ensures { (b c : ℕ → ℤ) → ColumnsMade true width (λ i. heights_at heights.now (a + i)) b c (at lines.old)
         (at lines.new) }
 {
-    let mut i = 0;
-    while i < width {
+    for i in 0..width {
         end_place(lines, i % 2 * HALF + i / 2, heights[a + i] as i32);
-        i += 1;
     }
 }
 
@@ -116,10 +110,8 @@ fn numbers_end(area: &[i32], a: usize, width: usize, lines: &mut [i32])
     ensures { (b c : ℕ → ℤ) → ColumnsMade true width (λ i. at area.now (a + i)) b c (at lines.old)
         (at lines.new) }
 {
-    let mut i = 0;
-    while i < width {
+    for i in 0..width {
         end_place(lines, i % 2 * HALF + i / 2, area[a + i]);
-        i += 1;
     }
 }
 

@@ -137,10 +137,8 @@ fn copy_rows(
     ensures { at work.new ≡
         flat stride (rows_fetched from width (side y height) (cells across (at plane.now)) (cells stride (at work.old))) }
 {
-    let mut r = 0;
-    while r < height {
+    for r in 0..height {
         copy_row(plane, work, across, stride, from, width, y, height, r);
-        r += 1;
     }
 }
 
@@ -149,12 +147,10 @@ fn unlift_rows(work: &mut [i32], stride: usize, x: usize, width: usize, height: 
     ensures { at work.new ≡
         flat stride (rows_mapped (nine_seven_back (side x width)) width height (cells stride (at work.old))) }
 {
-    let mut r = 0;
-    while r < height {
+    for r in 0..height {
         let a = r * stride;
         let e = a + width;
         nine_seven::line::unlift(&mut work[a..e], x);
-        r += 1;
     }
 }
 

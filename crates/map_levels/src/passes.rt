@@ -59,12 +59,10 @@ fn lift_rows(area: &mut [i32], stride: usize, x: usize, width: usize, height: us
     ensures { at area.new ≡
         flat stride (rows_mapped (nine_seven_in_place (side x width)) width height (cells stride (at area.old))) }
 {
-    let mut r = 0;
-    while r < height {
+    for r in 0..height {
         let a = r * stride;
         let e = a + width;
         nine_seven::line::lift(&mut area[a..e], x);
-        r += 1;
     }
 }
 
@@ -102,12 +100,10 @@ pub fn interleave_rows(
 {
     let mut line = [0; rowwise::LONGEST];
     let mut ok = true;
-    let mut r = 0;
-    while r < height {
+    for r in 0..height {
         let a = r * stride;
         let e = a + width;
         ok = ok & rowwise::interleave(&mut area[a..e], x, &mut line, low, high);
-        r += 1;
     }
     ok
 }

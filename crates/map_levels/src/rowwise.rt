@@ -19,11 +19,9 @@ fn copy_tested(from: &[i32], to: &mut [i32], low: i32, high: i32) -> bool
 {
     let n = from.len();
     let mut ok = true;
-    let mut i = 0;
-    while i < n {
+    for i in 0..n {
         to[i] = from[i];
         ok = ok & (low <= from[i]) & (from[i] <= high);
-        i += 1;
     }
     ok
 }

@@ -67,12 +67,10 @@ fn unlift_lows(low: &[i32], row: &[i32], out: &mut [i32], o: usize)
 {
     let m = low.len();
     let end = row.len() - m - o;
-    let mut n = 0;
-    while n < end {
+    for n in 0..end {
         unupdate_to(low, row, out, n, m + n + o - 1, m + n + o);
-        n += 1;
     }
-    last_low(low, row, out, n);
+    last_low(low, row, out, end);
     first_low(low, row, out, o);
 }
 
@@ -111,12 +109,10 @@ fn unlift_highs(row: &[i32], out: &mut [i32], m: usize, o: usize)
         high_back o m (at row.now) (at out.old) n }
 {
     let end = m - o;
-    let mut n = 1 - o;
-    while n < end {
+    for n in 1 - o..end {
         unpredict_to(row, out, m + n, n + o - 1, n + o);
-        n += 1;
     }
-    last_high(row, out, m, n);
+    last_high(row, out, m, end);
     first_high(row, out, m, o);
 }
 

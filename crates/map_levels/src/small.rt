@@ -22,10 +22,8 @@ pub fn surely_within(row: &[i32], most: u32) -> bool
     ensures { result ≡ true → (i : ℕ) → i < length row.now → nat_abs (at row.now i) ≤ most }
 {
     let mut all: u32 = 0;
-    let mut i = 0;
-    while i < row.len() {
-        all = all | magnitude(row[i]);
-        i += 1;
+    for v in row {
+        all |= magnitude(*v);
     }
     all < most
 }
@@ -35,10 +33,8 @@ fn surely_heights(row: &[i32]) -> bool
     ensures { result ≡ true → (i : ℕ) → i < length row.now → between (pos 0) (pos max_sample) (at row.now i) ≡ true }
 {
     let mut all: i32 = 0;
-    let mut i = 0;
-    while i < row.len() {
-        all = all | row[i];
-        i += 1;
+    for v in row {
+        all |= *v;
     }
     (0 <= all) & (all <= limits::MAX_SAMPLE)
 }

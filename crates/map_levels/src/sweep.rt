@@ -185,12 +185,10 @@ fn lift_sets(
     first_high(
         heights, plane, work, &mut lines, first, across, x, width, y, height,
     );
-    let mut n = 0;
-    while n < low {
+    for n in 0..low {
         lift_set(
             heights, plane, work, &mut lines, first, across, x, width, y, height, n,
         );
-        n += 1;
     }
 }
 

@@ -12,16 +12,10 @@ use Rattle.map_levels.proofs.BackLineLaws.{pair-none, pair-more, even-bits, odd-
 use Rattle.map_levels.proofs.back_lines.unlift_columns.Goals as goal
 
 pub loop-k-init : goal.loop-k-init
-loop-k-init c = (omega arith, refl, pair-none _, bits_none _, bits_none _)
+loop-k-init c = (refl, pair-none _, bits_none _, bits_none _)
 
 pub unlift_at-all-requires : goal.unlift_at-all-requires
-unlift_at-all-requires c = (omega arith, omega (arith, c.loop-k.invariant.1))
-
-pub overflow_add-k : goal.overflow_add-k
-overflow_add-k c = omega arith
-
-pub loop-k-smaller : goal.loop-k-smaller
-loop-k-smaller c = omega arith
+unlift_at-all-requires c = (omega arith, omega (arith, c.loop-k.invariant.0))
 
 pub loop-k-preserved : goal.loop-k-preserved
 loop-k-preserved c =
@@ -32,19 +26,18 @@ loop-k-preserved c =
     let u = c.unlift_at-all in
     let kb = c.requires.0 in
     let fits = of_z_fits w32 u.result (sfits_of u.type_inv) in (
-      omega arith,
-      u.auto.lines ∙ inv.1,
-      pair-more k _ _ _ (omega arith) u.ensures.lines_after inv.2,
+      u.auto.lines ∙ inv.0,
+      pair-more k _ _ _ (omega arith) u.ensures.lines_after inv.1,
       bits-written (k + 1) _ (even_of (at lines)) (bits-over k all _ (even_of (at lines))
-          (bits-read k all (even_of (at lines)) c.loop-k.auto.all inv.3) (even-word (at lines) k) fits
-          (even-bits k _ _ _ (omega arith) u.ensures.lines_after inv.2 _ u.ensures.k_bound.0)),
+          (bits-read k all (even_of (at lines)) c.loop-k.auto.all inv.2) (even-word (at lines) k) fits
+          (even-bits k _ _ _ (omega arith) u.ensures.lines_after inv.1 _ u.ensures.k_bound.0)),
       bits-written (k + 1) _ (odd_of (at lines)) (bits-over k all _ (odd_of (at lines))
-          (bits-read k all (odd_of (at lines)) c.loop-k.auto.all inv.4) (odd-word (at lines) k) fits
-          (odd-bits k _ _ _ (omega arith) u.ensures.lines_after inv.2 _ u.ensures.k_bound.1)),
+          (bits-read k all (odd_of (at lines)) c.loop-k.auto.all inv.3) (odd-word (at lines) k) fits
+          (odd-bits k _ _ _ (omega arith) u.ensures.lines_after inv.1 _ u.ensures.k_bound.1)),
     )
 
 pub shape_of-lines : goal.shape_of-lines
-shape_of-lines c = c.loop-k.invariant.1
+shape_of-lines c = c.loop-k.invariant.0
 
 pub returns : goal.returns
 unfolding max_sample
@@ -54,11 +47,11 @@ returns c =
     let all = c.loop-k.all-bits in
     let e : c.loop-k.k ≡ c.args.width = omega (arith, c.loop-k-test.false) in
     record {
-      pair_back = rw e at inv.2.back;
+      pair_back = rw e at inv.1.back;
       is_height = λ t j b. (
         bits-end c.loop-k.k _ all (odd_of (at lines)) (omega (arith, c.loop-k-test.false))
-            (bits-read c.loop-k.k all (odd_of (at lines)) c.loop-k.auto.all inv.4) t j b,
+            (bits-read c.loop-k.k all (odd_of (at lines)) c.loop-k.auto.all inv.3) t j b,
         bits-end c.loop-k.k _ all (even_of (at lines)) (omega (arith, c.loop-k-test.false))
-            (bits-read c.loop-k.k all (even_of (at lines)) c.loop-k.auto.all inv.3) t j b,
+            (bits-read c.loop-k.k all (even_of (at lines)) c.loop-k.auto.all inv.2) t j b,
       );
     }

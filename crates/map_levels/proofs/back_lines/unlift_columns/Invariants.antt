@@ -12,8 +12,5 @@ use Rattle.map_levels.proofs.back_lines.unlift_columns.Given as goal
 
 abbrev pub invariant-loop-k : goal.invariant-loop-k
 invariant-loop-k l =
-    (l.k ≤ l.width) × (length l.lines ≡ length l.initial.lines) × PairRun l.k (at l.initial.lines) (at l.lines) × BitsWithin l.k (of_z w32 l.all) (even_of (at l.initial.lines))
+    (length l.lines ≡ length l.initial.lines) × PairRun l.k (at l.initial.lines) (at l.lines) × BitsWithin l.k (of_z w32 l.all) (even_of (at l.initial.lines))
     × BitsWithin l.k (of_z w32 l.all) (odd_of (at l.initial.lines))
-
-abbrev pub decreases-loop-k : goal.decreases-loop-k
-decreases-loop-k l = l.width - l.k

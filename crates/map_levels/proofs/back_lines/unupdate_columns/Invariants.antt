@@ -7,7 +7,4 @@ use Rattle.map_levels.proofs.BackLineLaws.{EvenRun}
 use Rattle.map_levels.proofs.back_lines.unupdate_columns.Given as goal
 
 abbrev pub invariant-loop-k : goal.invariant-loop-k
-invariant-loop-k l = (l.k ≤ l.width) × (length l.lines ≡ length l.initial.lines) × EvenRun l.k (at l.initial.lines) (at l.lines)
-
-abbrev pub decreases-loop-k : goal.decreases-loop-k
-decreases-loop-k l = l.width - l.k
+invariant-loop-k l = (length l.lines ≡ length l.initial.lines) × EvenRun l.k (at l.initial.lines) (at l.lines)

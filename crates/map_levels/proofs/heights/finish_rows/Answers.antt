@@ -33,12 +33,6 @@ offset_bounds-work-a c =
     c.loop-r.heights) = (pass-room c.loop-r.invariant.rows c.loop-r-test.true, swept-room c.loop-r.heights c.loop-r.invariant.heights c.loop-r-test.true) in
     omega (arith, room)
 
-pub slice_bounds-all_heights-count : goal.slice_bounds-all_heights-count
-slice_bounds-all_heights-count c = omega arith
-
-pub slice_bounds-all_heights-start : goal.slice_bounds-all_heights-start
-slice_bounds-all_heights-start c = omega arith
-
 pub slice_bounds-all_heights-end : goal.slice_bounds-all_heights-end
 slice_bounds-all_heights-end c =
     let room : (c.loop-r.r * c.args.width + c.args.width ≤ length
@@ -69,12 +63,6 @@ offset_bounds-work-a-in-loop-r c =
     c.loop-r.heights) = (pass-room c.loop-r.invariant.rows c.loop-r-test.true, swept-room c.loop-r.heights c.loop-r.invariant.heights c.loop-r-test.true) in
     omega (arith, room)
 
-pub slice_bounds-finish_row-count : goal.slice_bounds-finish_row-count
-slice_bounds-finish_row-count c = omega arith
-
-pub slice_bounds-finish_row-start : goal.slice_bounds-finish_row-start
-slice_bounds-finish_row-start c = omega arith
-
 pub slice_bounds-finish_row-end : goal.slice_bounds-finish_row-end
 slice_bounds-finish_row-end c =
     let room : (c.loop-r.r * c.args.width + c.args.width ≤ length
@@ -88,12 +76,6 @@ offset_bounds-heights-a c =
     c.loop-r.work) × (c.loop-r.r * c.args.width + c.args.width ≤ length
     c.loop-r.heights) = (pass-room c.loop-r.invariant.rows c.loop-r-test.true, swept-room c.loop-r.heights c.loop-r.invariant.heights c.loop-r-test.true) in
     omega (arith, room)
-
-pub slice_bounds-finish_row-count-in-loop-r : goal.slice_bounds-finish_row-count-in-loop-r
-slice_bounds-finish_row-count-in-loop-r c = omega arith
-
-pub slice_bounds-finish_row-start-in-loop-r : goal.slice_bounds-finish_row-start-in-loop-r
-slice_bounds-finish_row-start-in-loop-r c = omega arith
 
 pub slice_bounds-finish_row-end-in-loop-r : goal.slice_bounds-finish_row-end-in-loop-r
 slice_bounds-finish_row-end-in-loop-r c =
@@ -114,12 +96,6 @@ finish_row-requires c =
           ∙ sym (swept-length c.loop-r.heights inv.heights (a + w - a) (omega arith) c.loop-r-test.true),
       row-heights _ _ (sym c.all_heights.ensures ∙ not-false _ c.if-not-all_heights.false-raw),
     )
-
-pub overflow_add-r : goal.overflow_add-r
-overflow_add-r c = omega arith
-
-pub loop-r-smaller : goal.loop-r-smaller
-loop-r-smaller c = omega arith
 
 pub loop-r-preserved : goal.loop-r-preserved
 unfolding max_sample

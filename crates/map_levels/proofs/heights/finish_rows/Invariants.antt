@@ -6,6 +6,3 @@ use Rattle.map_levels.proofs.heights.finish_rows.Given as goal
 
 abbrev pub invariant-loop-r : goal.invariant-loop-r
 invariant-loop-r l = Finishing (side l.x l.width) l.height l.initial.work l.initial.heights l.r l.work l.heights
-
-abbrev pub decreases-loop-r : goal.decreases-loop-r
-decreases-loop-r l = l.height - l.r

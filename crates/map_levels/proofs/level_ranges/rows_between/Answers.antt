@@ -83,12 +83,6 @@ returns-then-not-all_between c =
     refl (omega (arith, room)) (omega (arith, room)) c.all_between.ensures) ∙ not-true _ c.if-not-all_between.true-raw)
     ∙ between-by a.first a.last a.from a.to _ (low-is c.before.before.before.before.before) (high_is c.before.before.before.before.before)
 
-pub overflow_add-r : goal.overflow_add-r
-overflow_add-r c = omega arith
-
-pub loop-r-smaller : goal.loop-r-smaller
-loop-r-smaller c = omega arith
-
 pub loop-r-preserved : goal.loop-r-preserved
 loop-r-preserved c =
     let room : c.loop-r.r * c.args.stride + c.args.to ≤ length

@@ -8,6 +8,3 @@ use Rattle.map_levels.proofs.level_ranges.rows_between.Given as goal
 abbrev pub invariant-loop-r : goal.invariant-loop-r
 invariant-loop-r l =
     Rows (length l.area) l.stride l.to l.last × (l.from ≤ l.to) × Tested l.stride l.first l.last l.from l.to l.low l.high l.area l.r
-
-abbrev pub decreases-loop-r : goal.decreases-loop-r
-decreases-loop-r l = l.last - l.r

@@ -10,11 +10,7 @@ use Rattle.map_levels.proofs.levels.save.Given as goal
 
 abbrev pub invariant-loop-r : goal.invariant-loop-r
 invariant-loop-r l =
-    (l.r ≤ l.height)
-    × (length l.work ≡ length l.initial.work)
+    (length l.work ≡ length l.initial.work)
     × Rows (length l.plane) l.across l.width l.height
     × Rows (length l.initial.work) l.width l.width l.height
     × RowSwept l.width (grid_copied l.width l.height (cells l.across (at l.plane)) (cells l.width (at l.initial.work))) (cells l.width (at l.initial.work)) l.r (at l.work)
-
-abbrev pub decreases-loop-r : goal.decreases-loop-r
-decreases-loop-r l = l.height - l.r

@@ -11,11 +11,7 @@ use Rattle.map_levels.proofs.levels.spread.Given as goal
 
 abbrev pub invariant-loop-r : goal.invariant-loop-r
 invariant-loop-r l =
-    (l.r ≤ l.height)
-    × (length l.plane ≡ length l.initial.plane)
+    (length l.plane ≡ length l.initial.plane)
     × Rows (length l.work) l.width l.width l.height
     × Rows (length l.initial.plane) l.across l.width l.height
     × RowSwept l.across (grid_halved (side l.x l.width) (side l.y l.height) (cells l.width (at l.work)) (cells l.across (at l.initial.plane))) (cells l.across (at l.initial.plane)) l.r (at l.plane)
-
-abbrev pub decreases-loop-r : goal.decreases-loop-r
-decreases-loop-r l = l.height - l.r

@@ -10,8 +10,5 @@ use Rattle.map_levels.proofs.lines.heights_columns.Given as goal
 
 abbrev pub invariant-loop-k : goal.invariant-loop-k
 invariant-loop-k l =
-    (l.k ≤ l.pairs) × (l.pairs ≡ l.width / 2) × (length l.lines ≡ length l.initial.lines)
+    (l.pairs ≡ l.width / 2) × (length l.lines ≡ length l.initial.lines)
     × ColumnsMade false (2 * l.k) (λ i. heights_at l.heights (l.a + i)) (λ i. heights_at l.heights (l.b + i)) (λ i. heights_at l.heights (l.c + i)) (at l.initial.lines) (at l.lines)
-
-abbrev pub decreases-loop-k : goal.decreases-loop-k
-decreases-loop-k l = l.pairs - l.k

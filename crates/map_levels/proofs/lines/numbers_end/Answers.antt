@@ -10,7 +10,7 @@ use Rattle.map_levels.proofs.SweepLines.{made_none, ended-more}
 use Rattle.map_levels.proofs.lines.numbers_end.Goals as goal
 
 pub loop-i-init : goal.loop-i-init
-loop-i-init c = (omega arith, refl, λ b c. made_none true _ _ _ _)
+loop-i-init c = (refl, λ b c. made_none true _ _ _ _)
 
 pub overflow_mul-i : goal.overflow_mul-i
 unfolding line_half max_width
@@ -20,39 +20,23 @@ pub overflow_add-i : goal.overflow_add-i
 unfolding line_half max_width
 overflow_add-i c = omega arith
 
-pub overflow_add-a : goal.overflow_add-a
-overflow_add-a c = omega arith
-
-pub offset_bounds-area-a : goal.offset_bounds-area-a
-offset_bounds-area-a c = omega arith
-
-pub bounds-area-a : goal.bounds-area-a
-bounds-area-a c = omega arith
-
 pub end_place-requires : goal.end_place-requires
 unfolding line_half max_width
 end_place-requires c = (omega arith, omega arith)
-
-pub overflow_add-i-in-loop-i : goal.overflow_add-i-in-loop-i
-overflow_add-i-in-loop-i c = omega arith
-
-pub loop-i-smaller : goal.loop-i-smaller
-loop-i-smaller c = omega arith
 
 pub loop-i-preserved : goal.loop-i-preserved
 unfolding line_half max_width
 loop-i-preserved c =
     let i = c.loop-i.i in (
-      omega arith,
-      c.end_place.auto.lines ∙ c.loop-i.invariant.1,
+      c.end_place.auto.lines ∙ c.loop-i.invariant.0,
       λ b d. ended-more i _ b d _ _ _ (omega arith) (c.end_place.ensures ∙ rw (read_back (at c.args.area.now (c.args.a + i))
-          c.end_place-arg-in-loop-i-1.given)) (c.loop-i.invariant.2 b d),
+          c.end_place-arg-in-loop-i-1.given)) (c.loop-i.invariant.1 b d),
     )
 
 pub shape_of-lines : goal.shape_of-lines
-shape_of-lines c = c.loop-i.invariant.1
+shape_of-lines c = c.loop-i.invariant.0
 
 pub returns : goal.returns
 returns c =
     let e : c.loop-i.i ≡ c.args.width = omega arith in
-    λ b d. rw e at (c.loop-i.invariant.2 b d)
+    λ b d. rw e at (c.loop-i.invariant.1 b d)

@@ -10,7 +10,4 @@ use Rattle.map_levels.proofs.lines.numbers_end.Given as goal
 
 abbrev pub invariant-loop-i : goal.invariant-loop-i
 invariant-loop-i l =
-    (l.i ≤ l.width) × (length l.lines ≡ length l.initial.lines) × ((b c : ℕ → ℤ) → ColumnsMade true l.i (λ i. at l.area (l.a + i)) b c (at l.initial.lines) (at l.lines))
-
-abbrev pub decreases-loop-i : goal.decreases-loop-i
-decreases-loop-i l = l.width - l.i
+    (length l.lines ≡ length l.initial.lines) × ((b c : ℕ → ℤ) → ColumnsMade true l.i (λ i. at l.area (l.a + i)) b c (at l.initial.lines) (at l.lines))

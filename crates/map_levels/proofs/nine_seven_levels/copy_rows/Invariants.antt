@@ -11,10 +11,6 @@ use Rattle.map_levels.proofs.nine_seven_levels.copy_rows.Given as goal
 
 abbrev pub invariant-loop-r : goal.invariant-loop-r
 invariant-loop-r l =
-    (l.r ≤ l.height)
-    × (l.height ≤ length l.initial.work + 1)
+    (l.height ≤ length l.initial.work + 1)
     × (length l.work ≡ length l.initial.work)
     × RowSwept l.stride (rows_fetched l.from l.width (side l.y l.height) (cells l.across (at l.plane)) (cells l.stride (at l.initial.work))) (cells l.stride (at l.initial.work)) l.r (at l.work)
-
-abbrev pub decreases-loop-r : goal.decreases-loop-r
-decreases-loop-r l = l.height - l.r

@@ -14,10 +14,6 @@ use Rattle.map_levels.proofs.passes.interleave_rows.Given as goal
 
 abbrev pub invariant-loop-r : goal.invariant-loop-r
 invariant-loop-r l =
-    (l.r ≤ l.height)
-    × (length l.line ≡ max_width - max_width / 2)
+    (length l.line ≡ max_width - max_width / 2)
     × (l.ok ≡ every l.r (λ i. every l.width (λ k. between l.low l.high (cells l.stride (at l.initial.area) i k))))
     × Passed l.stride l.width l.height (rows_mapped (interleaved_in_place (side l.x l.width)) l.width l.height (cells l.stride (at l.initial.area))) l.initial.area l.r l.area
-
-abbrev pub decreases-loop-r : goal.decreases-loop-r
-decreases-loop-r l = l.height - l.r

@@ -10,7 +10,4 @@ use Rattle.map_levels.proofs.passes.lift_rows.Given as goal
 
 abbrev pub invariant-loop-r : goal.invariant-loop-r
 invariant-loop-r l =
-    (l.r ≤ l.height) × Passed l.stride l.width l.height (rows_mapped (lifted_in_place (side l.x l.width)) l.width l.height (cells l.stride (at l.initial.area))) l.initial.area l.r l.area
-
-abbrev pub decreases-loop-r : goal.decreases-loop-r
-decreases-loop-r l = l.height - l.r
+    Passed l.stride l.width l.height (rows_mapped (lifted_in_place (side l.x l.width)) l.width l.height (cells l.stride (at l.initial.area))) l.initial.area l.r l.area

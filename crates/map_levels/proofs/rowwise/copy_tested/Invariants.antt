@@ -11,9 +11,5 @@ use Rattle.map_levels.proofs.rowwise.copy_tested.Given as goal
 
 abbrev pub invariant-loop-i : goal.invariant-loop-i
 invariant-loop-i l =
-    (l.i ≤ l.n)
-    × (l.ok ≡ every l.i (λ j. between l.low l.high (at l.from j)))
+    (l.ok ≡ every l.i (λ j. between l.low l.high (at l.from j)))
     × Swept (length l.initial.to) (fronted (length l.from) (at l.from) (at l.initial.to)) (at l.initial.to) l.i l.to
-
-abbrev pub decreases-loop-i : goal.decreases-loop-i
-decreases-loop-i l = l.n - l.i

@@ -1,14 +1,9 @@
-use mathlib.Core.Path.{refl, sym, ◌∙◌}
+use Prim.Native.Nat.{◌-◌}
+use mathlib.Core.Path.{◌≡◌, refl, sym, ◌∙◌}
 use native.Mathlib.Omega.{arith}
 use Rattle.map_levels.proofs.BackLineLaws.{high-run, highs-end}
 use Rattle.map_levels.proofs.Clauses.{by_index-by_index_2}
 use Rattle.map_levels.proofs.short_back.unlift_highs.Goals as goal
-
-pub overflow_sub-end : goal.overflow_sub-end
-overflow_sub-end c = omega arith
-
-pub overflow_sub-n : goal.overflow_sub-n
-overflow_sub-n c = omega arith
 
 pub loop-n-init : goal.loop-n-init
 loop-n-init c =
@@ -34,8 +29,8 @@ overflow_add-m c = let i = c.loop-n.invariant in omega (arith, i.room, i.both, i
 pub overflow_add-n : goal.overflow_add-n
 overflow_add-n c = let i = c.loop-n.invariant in omega (arith, i.room, i.both, i.within, i.few)
 
-pub overflow_sub-n-in-loop-n : goal.overflow_sub-n-in-loop-n
-overflow_sub-n-in-loop-n c = let i = c.loop-n.invariant in omega (arith, i.begun)
+pub overflow_sub-n : goal.overflow_sub-n
+overflow_sub-n c = let i = c.loop-n.invariant in omega (arith, i.begun)
 
 pub overflow_add-n-in-loop-n : goal.overflow_add-n-in-loop-n
 overflow_add-n-in-loop-n c = let i = c.loop-n.invariant in omega (arith, i.room, i.both, i.within, i.few)
@@ -50,17 +45,11 @@ unpredict_to-requires c =
       omega (arith, i.size, i.last, i.least, t),
     )
 
-pub overflow_add-n-in-loop-n-2 : goal.overflow_add-n-in-loop-n-2
-overflow_add-n-in-loop-n-2 c = let i = c.loop-n.invariant in omega (arith, i.room, i.both, i.within)
-
-pub loop-n-smaller : goal.loop-n-smaller
-loop-n-smaller c = omega arith
-
 pub loop-n-preserved : goal.loop-n-preserved
 loop-n-preserved c = high-run c.loop-n.invariant _ c.loop-n-test.true c.unpredict_to.ensures
 
 pub last_high-requires : goal.last_high-requires
-last_high-requires c = let i = c.loop-n.invariant in (i.some, i.both, i.within, i.size)
+last_high-requires c = let i = c.loop-n.invariant in (i.some, i.both, omega arith, i.size)
 
 pub first_high-requires : goal.first_high-requires
 first_high-requires c = let i = c.loop-n.invariant in (i.both, c.last_high.auto.out ∙ i.size)
@@ -75,5 +64,6 @@ pub returns : goal.returns
 returns c =
     let last = c.last_high.ensures in
     let first = c.first_high.ensures in
-    by_index-by_index_2 (highs-end c.loop-n.invariant _ _ c.loop-n-test.false
-    last.out_after last.out_unchanged first.out_after first.out_unchanged)
+    let all : c.loop-n.n ≡ c.args.m - c.args.o = omega (arith, c.loop-n-test.false, c.loop-n.invariant.within) in
+    by_index-by_index_2 (highs-end (rw all at c.loop-n.invariant) _ _ (omega arith) last.out_after last.out_unchanged first.out_after
+    first.out_unchanged)

@@ -1,13 +1,9 @@
-use mathlib.Core.Path.{refl, sym, ◌∙◌}
+use Prim.Native.Nat.{◌-◌}
+use lib.ListN.{length}
+use mathlib.Core.Path.{◌≡◌, refl, sym, ◌∙◌}
 use native.Mathlib.Omega.{arith}
 use Rattle.map_levels.proofs.BackLineLaws.{low_run, lows-end}
 use Rattle.map_levels.proofs.short_back.unlift_lows.Goals as goal
-
-pub overflow_sub-end : goal.overflow_sub-end
-overflow_sub-end c = omega arith
-
-pub overflow_sub-end-2 : goal.overflow_sub-end-2
-overflow_sub-end-2 c = omega arith
 
 pub loop-n-init : goal.loop-n-init
 loop-n-init c =
@@ -47,12 +43,6 @@ unupdate_to-requires c =
     let t = c.loop-n-test.true in
     (omega (arith, i.lows, i.last, i.most), omega (arith, i.last, i.some), omega (arith, i.last), omega (arith, i.size, i.last, i.both))
 
-pub overflow_add-n : goal.overflow_add-n
-overflow_add-n c = let i = c.loop-n.invariant in omega (arith, i.room, i.last)
-
-pub loop-n-smaller : goal.loop-n-smaller
-loop-n-smaller c = omega arith
-
 pub loop-n-preserved : goal.loop-n-preserved
 loop-n-preserved c = low_run c.loop-n.invariant _ c.loop-n-test.true c.unupdate_to.ensures
 
@@ -75,5 +65,6 @@ pub returns : goal.returns
 returns c =
     let last = c.last_low.ensures in
     let first = c.first_low.ensures in
-    lows-end c.loop-n.invariant _ _ c.loop-n-test.false
-    last.out_after last.out_unchanged first.out_after first.out_unchanged
+    let end = length c.args.row.now - length c.args.low.now - c.args.o in
+    let all : c.loop-n.n ≡ end = omega (arith, c.loop-n-test.false, c.loop-n.invariant.within) in
+    lows-end (rw all at c.loop-n.invariant) _ _ (omega arith) last.out_after last.out_unchanged first.out_after first.out_unchanged

@@ -5,6 +5,3 @@ use Rattle.map_levels.proofs.short_back.unlift_lows.Given as goal
 
 abbrev pub invariant-loop-n : goal.invariant-loop-n
 invariant-loop-n l = LowsRun l.low l.row l.m l.o l.end l.n l.out
-
-abbrev pub decreases-loop-n : goal.decreases-loop-n
-decreases-loop-n l = l.end - l.n

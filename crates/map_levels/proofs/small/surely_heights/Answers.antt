@@ -6,30 +6,19 @@ use Rattle.wavelet.specs.Limits.{max_sample}
 use Rattle.map_levels.proofs.SmallLaws.{bits_none, bits-read, bits-written, bits-more, bits-end}
 use Rattle.map_levels.proofs.small.surely_heights.Goals as goal
 
-pub loop-i-init : goal.loop-i-init
-loop-i-init c = (omega arith, bits_none _)
+pub loop-v-init : goal.loop-v-init
+loop-v-init c = bits_none _
 
-pub offset_bounds-row-i : goal.offset_bounds-row-i
-offset_bounds-row-i c = omega arith
-
-pub bounds-row-i : goal.bounds-row-i
-bounds-row-i c = omega arith
-
-pub overflow_add-i : goal.overflow_add-i
-overflow_add-i c = omega arith
-
-pub loop-i-smaller : goal.loop-i-smaller
-loop-i-smaller c = omega arith
-
-pub loop-i-preserved : goal.loop-i-preserved
-loop-i-preserved c =
+pub loop-v-preserved : goal.loop-v-preserved
+loop-v-preserved c =
     let x = at c.args.row.now in
-    let before = bits-read c.loop-i.i c.loop-i.all-bits x c.loop-i.auto.all c.loop-i.invariant.1 in
-    (omega arith, bits-written (c.loop-i.i + 1) _ x (bits-more c.loop-i.i c.loop-i.all-bits x before (sfits_of c.all-1.given)))
+    let i = c.loop-v.v-index in
+    let before = bits-read i c.loop-v.all-bits x c.loop-v.auto.all c.loop-v.invariant in
+    bits-written (i + 1) _ x (bits-more i c.loop-v.all-bits x before (sfits_of c.all-1.given))
 
 pub returns : goal.returns
 unfolding max_sample
 returns c =
     let x = at c.args.row.now in
-    bits-end c.loop-i.i _ c.loop-i.all-bits x (omega (arith, c.loop-i-test.false))
-    (bits-read c.loop-i.i c.loop-i.all-bits x c.loop-i.auto.all c.loop-i.invariant.1)
+    bits-end c.loop-v.v-index _ c.loop-v.all-bits x (omega (arith, c.loop-v-test.false))
+    (bits-read c.loop-v.v-index c.loop-v.all-bits x c.loop-v.auto.all c.loop-v.invariant)

@@ -7,8 +7,5 @@ use Rattle.numbers.specs.Signal.{at}
 use Rattle.map_levels.proofs.SmallLaws.{BitsWithin}
 use Rattle.map_levels.proofs.small.surely_heights.Given as goal
 
-abbrev pub invariant-loop-i : goal.invariant-loop-i
-invariant-loop-i l = (l.i ≤ length l.row) × BitsWithin l.i (of_z w32 l.all) (at l.row)
-
-abbrev pub decreases-loop-i : goal.decreases-loop-i
-decreases-loop-i l = length l.row - l.i
+abbrev pub invariant-loop-v : goal.invariant-loop-v
+invariant-loop-v l = BitsWithin l.v-index (of_z w32 l.all) (at l.row)

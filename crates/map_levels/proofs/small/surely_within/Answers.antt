@@ -7,29 +7,17 @@ use Rattle.numbers.proofs.Words.{read_back}
 use Rattle.map_levels.proofs.SmallLaws.{or-more, or-end}
 use Rattle.map_levels.proofs.small.surely_within.Goals as goal
 
-pub loop-i-init : goal.loop-i-init
-loop-i-init c = (omega arith, λ j b. absurd (omega arith))
+pub loop-v-init : goal.loop-v-init
+loop-v-init c = λ j b. absurd (omega arith)
 
-pub offset_bounds-row-i : goal.offset_bounds-row-i
-offset_bounds-row-i c = omega arith
-
-pub bounds-row-i : goal.bounds-row-i
-bounds-row-i c = omega arith
-
-pub overflow_add-i : goal.overflow_add-i
-overflow_add-i c = omega arith
-
-pub loop-i-smaller : goal.loop-i-smaller
-loop-i-smaller c = omega arith
-
-pub loop-i-preserved : goal.loop-i-preserved
-loop-i-preserved c =
+pub loop-v-preserved : goal.loop-v-preserved
+loop-v-preserved c =
     let x = at c.args.row.now in
-    let i = c.loop-i.i in
+    let i = c.loop-v.v-index in
     let one : nat_abs (x i) ≤ c.magnitude-all.result + 1 = rw (read_back (x i) c.magnitude-arg-1.given) at c.magnitude-all.ensures in
-    (omega arith, or-more i c.loop-i.all _ x c.loop-i.invariant.1 one)
+    or-more i c.loop-v.all _ x c.loop-v.invariant one
 
 pub returns : goal.returns
 returns c e =
-    or-end c.loop-i.i _ c.loop-i.all c.args.most (at c.args.row.now) (omega (arith, c.loop-i-test.false))
-    c.loop-i.invariant.1 (ltb-true _ _ e)
+    or-end c.loop-v.v-index _ c.loop-v.all c.args.most (at c.args.row.now) (omega (arith, c.loop-v-test.false))
+    c.loop-v.invariant (ltb-true _ _ e)

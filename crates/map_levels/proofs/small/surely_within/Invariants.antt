@@ -5,8 +5,5 @@ use lib.ListN.{length}
 use Rattle.numbers.specs.Signal.{at}
 use Rattle.map_levels.proofs.small.surely_within.Given as goal
 
-abbrev pub invariant-loop-i : goal.invariant-loop-i
-invariant-loop-i l = (l.i ≤ length l.row) × ((j : ℕ) → j < l.i → nat_abs (at l.row j) ≤ l.all + 1)
-
-abbrev pub decreases-loop-i : goal.decreases-loop-i
-decreases-loop-i l = length l.row - l.i
+abbrev pub invariant-loop-v : goal.invariant-loop-v
+invariant-loop-v l = ((j : ℕ) → j < l.v-index → nat_abs (at l.row j) ≤ l.all + 1)

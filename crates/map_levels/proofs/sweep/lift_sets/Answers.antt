@@ -17,51 +17,44 @@ first_high-requires c =
 
 pub loop-n-init : goal.loop-n-init
 unfolding line_half max_width
-loop-n-init c = (omega arith, c.first_high.auto.lines, refl, refl, λ z₀ x₀ S. S)
+loop-n-init c = (c.first_high.auto.lines, refl, refl, λ z₀ x₀ S. S)
 
 pub slice_bounds-lift_set-end : goal.slice_bounds-lift_set-end
 unfolding line_half max_width
-slice_bounds-lift_set-end c = sym c.loop-n.invariant.1
+slice_bounds-lift_set-end c = sym c.loop-n.invariant.0
 
 pub lift_set-requires : goal.lift_set-requires
 unfolding line_half max_width
 lift_set-requires c =
     let inv = c.loop-n.invariant in (
       record {
-        area = area-kept (inv.2 ∙ c.first_high.auto.plane) inv.3 c.requires.0;
+        area = area-kept (inv.1 ∙ c.first_high.auto.plane) inv.2 c.requires.0;
         more = c.requires.1;
-        lines = omega (arith, inv.1);
+        lines = omega (arith, inv.0);
         halves = lines-enough _ c.requires.0.narrow;
       },
       omega (arith, c.low_count-low.ensures, c.loop-n-test.true),
     )
 
-pub overflow_add-n : goal.overflow_add-n
-overflow_add-n c = omega arith
-
-pub loop-n-smaller : goal.loop-n-smaller
-loop-n-smaller c = omega arith
-
 pub loop-n-preserved : goal.loop-n-preserved
 loop-n-preserved c =
     let set = c.lift_set in
     let inv = c.loop-n.invariant in (
-      omega arith,
-      set.auto.lines ∙ inv.1,
-      set.auto.plane ∙ inv.2,
-      set.auto.work ∙ inv.3,
-      λ z₀ x₀ S. set.ensures z₀ x₀ (inv.4 z₀ x₀ S),
+      set.auto.lines ∙ inv.0,
+      set.auto.plane ∙ inv.1,
+      set.auto.work ∙ inv.2,
+      λ z₀ x₀ S. set.ensures z₀ x₀ (inv.3 z₀ x₀ S),
     )
 
 pub shape_of-plane : goal.shape_of-plane
-shape_of-plane c = c.loop-n.invariant.2 ∙ c.first_high.auto.plane
+shape_of-plane c = c.loop-n.invariant.1 ∙ c.first_high.auto.plane
 
 pub shape_of-work : goal.shape_of-work
-shape_of-work c = c.loop-n.invariant.3
+shape_of-work c = c.loop-n.invariant.2
 
 pub returns : goal.returns
 returns c =
     let a = c.args in
     let low = c.low_count-low.ensures in
     sets_end a.first a.across (side a.x a.width) (side a.y a.height) _ (at a.plane.now) (at a.work.now) _ _ _ c.loop-n.n
-    (omega (arith, low, c.loop-n.invariant.0)) (c.loop-n.invariant.4 (at a.plane.now) (at a.work.now) c.first_high.ensures)
+    (omega (arith, low, c.loop-n-test.false)) (c.loop-n.invariant.3 (at a.plane.now) (at a.work.now) c.first_high.ensures)
