@@ -10,9 +10,10 @@ use Rattle.lifting.specs.FiveThree.{five_three_filter}
 use Rattle.lifting.specs.Rows.{rows_changed}
 use Rattle.wavelet.specs.Bands.{Grid, band_of, subband}
 use Rattle.wavelet.specs.Plane.{plane_cell}
-use Rattle.map_levels.specs.Passes.{within, rows_mapped}
+use Rattle.map_levels.specs.Passes.{within, rows_mapped, Rows}
 use Rattle.strokes.specs.Reach.{Span, span, reached, in_reach}
 use Rattle.strokes.specs.declared.direction.Direction.{Direction}
+use Rattle.strokes.specs.declared.direction.Level.{Level}
 use Rattle.strokes.specs.declared.patch.Patch.{Patch}
 
 -- ---- one direction
@@ -25,6 +26,9 @@ changed_of d = span d.first d.last
 -- the next level's
 abbrev pub lowered_of : Direction → Direction
 lowered_of d = direction (d.length - d.length / 2) (d.start / 2) (d.size - d.size / 2) ((d.first - 1) / 2) (d.last / 2 + 1)
+
+abbrev pub next_of : Level → Level
+next_of l = record { columns = lowered_of l.columns; rows = lowered_of l.rows; stride = 2 * l.stride; across = l.across }
 
 -- the map's: n changed places from place f on, of N, with L levels to come
 abbrev pub window_start : ℕ → ℕ → ℕ
@@ -168,6 +172,15 @@ grid_mended L W H s t G P r c =
 pub record Ready (d : Direction) : Type 0 where
   pub more : ℕ
   pub placed : Placed (suc more) d
+
+-- and the areas have room for the level: `work` numbers the window, and `plane` numbers the plane
+abbrev pub Opened : Level → ℕ → ℕ → Type 0
+Opened l work plane =
+    Ready l.columns
+    × Ready l.rows
+    × (l.stride < 2 ^ 32)
+    × Rows work l.stride l.columns.size l.rows.size
+    × Rows plane l.across l.columns.length l.rows.length
 
 -- where number n of the half h down and m of the half a across stands in a window that is lifted, its rows s apart
 abbrev pub place_of : ℕ → Direction → Direction → ℕ → ℕ → ℕ → ℕ → ℕ

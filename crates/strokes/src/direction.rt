@@ -1,7 +1,7 @@
 // One direction of a level: its places, the window of them that is lifted, and the places that are changed.
 ghost use Rattle.std.specs.Prelude.{◌≡◌, ◌+◌, ◌-◌, ◌*◌, ◌/◌, ◌^◌, ◌≤◌, ◌<◌, min};
 ghost use Rattle.wavelet.specs.Limits.{max_levels};
-ghost use Rattle.strokes.specs.Local.{lowered_of, widened_of, unread_before, unread_past, used_in};
+ghost use Rattle.strokes.specs.Local.{lowered_of, next_of, widened_of, unread_before, unread_past, used_in};
 
 #[derive(Clone, Copy)]
 pub struct Direction {
@@ -12,6 +12,15 @@ pub struct Direction {
     pub last: usize,
 }
 
+// A level of a window: how far apart its rows stand in the work area, and the plane's in the plane.
+#[derive(Clone, Copy)]
+pub struct Level {
+    pub columns: Direction,
+    pub rows: Direction,
+    pub stride: usize,
+    pub across: usize,
+}
+
 // Some numbers of a half: the first one's place in the plane, in a row of the window and among its rows, and how many they are.
 #[derive(Clone, Copy)]
 pub struct Part {
@@ -19,35 +28,6 @@ pub struct Part {
     pub across: usize,
     pub down: usize,
     pub count: usize,
-}
-
-// Half the number before n, 0 having none before it.
-fn half_before(n: usize) -> usize
-    ensures { result ≡ (n - 1) / 2 }
-{
-    if n == 0 {
-        return 0;
-    }
-    (n - 1) / 2
-}
-
-fn least(a: usize, b: usize) -> usize
-    ensures { result ≡ min a b }
-{
-    if a < b {
-        return a;
-    }
-    b
-}
-
-// a less b, and 0 where b is more.
-fn less(a: usize, b: usize) -> usize
-    ensures { result ≡ a - b }
-{
-    if a < b {
-        return 0;
-    }
-    a - b
 }
 
 // 2 to the power of the levels.
@@ -65,15 +45,15 @@ pub fn widened(length: usize, first: usize, n: usize, levels: usize) -> Directio
     ensures { result ≡ widened_of length first n (2 ^ levels) }
 {
     let q = power(levels);
-    let start = q * less((first + 1) / q, 3);
+    let start = q * ((first + 1) / q).saturating_sub(3);
     let last = first + n - 1;
-    let end = least(length, q * ((last + q - 2) / q + 3) + 1);
+    let end = length.min(q * ((last + q - 2) / q + 3) + 1);
     Direction {
-        length: length,
-        start: start,
-        size: less(end, start),
-        first: first,
-        last: last,
+        length,
+        start,
+        size: end.saturating_sub(start),
+        first,
+        last,
     }
 }
 
@@ -98,7 +78,7 @@ pub fn past(d: Direction) -> usize
 }
 
 // The next level's.
-pub fn lowered(d: Direction) -> Direction
+fn lowered(d: Direction) -> Direction
     requires { d.last ≤ 2 ^ 32 }
     ensures { result ≡ lowered_of d }
 {
@@ -106,8 +86,21 @@ pub fn lowered(d: Direction) -> Direction
         length: d.length - d.length / 2,
         start: d.start / 2,
         size: d.size - d.size / 2,
-        first: half_before(d.first),
+        first: d.first.saturating_sub(1) / 2,
         last: d.last / 2 + 1,
+    }
+}
+
+// The next level of a window: every second row, the work area's next ones being the low ones.
+pub fn next(l: Level) -> Level
+    requires { (l.columns.last ≤ 2 ^ 32) × (l.rows.last ≤ 2 ^ 32) × (l.stride < 2 ^ 32) }
+    ensures { result ≡ next_of l }
+{
+    Level {
+        columns: lowered(l.columns),
+        rows: lowered(l.rows),
+        stride: 2 * l.stride,
+        across: l.across,
     }
 }
 
@@ -136,21 +129,21 @@ pub fn part_of(d: Direction, high: usize) -> Part
 {
     let length = d.length;
     let size = d.size;
-    let first = half_before(d.first);
+    let first = d.first.saturating_sub(1) / 2;
     let inner = first - d.start / 2;
-    let end = least((length + 1 - high) / 2, d.last / 2 + 2 - high);
+    let end = ((length + 1 - high) / 2).min(d.last / 2 + 2 - high);
     if high == 0 {
         return Part {
             plane: first,
             across: inner,
             down: 2 * inner,
-            count: less(end, first),
+            count: end.saturating_sub(first),
         };
     }
     Part {
         plane: length - length / 2 + first,
         across: size - size / 2 + inner,
         down: 2 * inner + 1,
-        count: less(end, first),
+        count: end.saturating_sub(first),
     }
 }

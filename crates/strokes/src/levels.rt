@@ -6,9 +6,9 @@ ghost use Rattle.wavelet.specs.Bands.{Grid};
 ghost use Rattle.wavelet.specs.Plane.{cells, flat};
 ghost use Rattle.map_levels.specs.Passes.{Rows};
 ghost use Rattle.map_levels.specs.LevelPasses.{Doubling};
-ghost use Rattle.strokes.specs.Local.{Ready, Placed, Lies, Agrees, changed_of, level_done, highs_mended, grid_mended};
+ghost use Rattle.strokes.specs.Local.{Opened, Placed, Lies, Agrees, changed_of, level_done, highs_mended, grid_mended};
 
-use crate::direction::Direction;
+use crate::direction::{Direction, Level};
 use crate::{direction, patch, window};
 
 // A level of the window lifted in place: all columns, then the rows that are used.
@@ -21,45 +21,29 @@ fn lift_level(work: &mut [i32], stride: usize, width: usize, rows: Direction)
 }
 
 // Its three high bands to the plane.
-fn copy_highs(
-    work: &[i32],
-    stride: usize,
-    plane: &mut [i32],
-    across: usize,
-    columns: Direction,
-    rows: Direction,
-)
-    requires { Ready columns × Ready rows × (stride < 2 ^ 32) × Rows (length work.now) stride columns.size rows.size
-        × Rows (length plane.old) across columns.length rows.length }
-    ensures { (k u v u' v' : ℕ) (G X : Grid) → Lies u v (suc k) columns → Lies u' v' (suc k) rows → Agrees u v u' v' columns rows G X →
-        at work.now ≡ flat stride (level_done columns.size rows X) →
-        at plane.new ≡ flat across (highs_mended columns.length rows.length (changed_of columns) (changed_of rows) G
-        (cells across (at plane.old))) }
+fn copy_highs(work: &[i32], plane: &mut [i32], l: Level)
+    requires { Opened l (length work.now) (length plane.old) }
+    ensures { (k u v u' v' : ℕ) (G X : Grid) → Lies u v (suc k) l.columns → Lies u' v' (suc k) l.rows → Agrees u v u' v' l.columns l.rows G X →
+        at work.now ≡ flat l.stride (level_done l.columns.size l.rows X) →
+        at plane.new ≡ flat l.across (highs_mended l.columns.length l.rows.length (changed_of l.columns) (changed_of l.rows) G
+        (cells l.across (at plane.old))) }
 {
-    patch::copy_band(work, stride, plane, across, columns, rows, 1, 0);
-    patch::copy_band(work, stride, plane, across, columns, rows, 0, 1);
-    patch::copy_band(work, stride, plane, across, columns, rows, 1, 1);
+    patch::copy_band(work, plane, l, 1, 0);
+    patch::copy_band(work, plane, l, 0, 1);
+    patch::copy_band(work, plane, l, 1, 1);
 }
 
 // One level: lifted, and its high bands copied. Its low-low part stays in the work area, for the next level.
-fn mend_level(
-    work: &mut [i32],
-    stride: usize,
-    plane: &mut [i32],
-    across: usize,
-    columns: Direction,
-    rows: Direction,
-)
-    requires { Ready columns × Ready rows × (stride < 2 ^ 32) × (columns.length ≤ max_width) × Rows (length work.old) stride columns.size rows.size
-        × Rows (length plane.old) across columns.length rows.length }
-    ensures work_after { at work.new ≡ flat stride (level_done columns.size rows (cells stride (at work.old))) }
-    ensures plane_after { (k u v u' v' : ℕ) (G : Grid) → Lies u v (suc k) columns → Lies u' v' (suc k) rows →
-        Agrees u v u' v' columns rows G (cells stride (at work.old)) →
-        at plane.new ≡ flat across (highs_mended columns.length rows.length (changed_of columns) (changed_of rows) G
-        (cells across (at plane.old))) }
+fn mend_level(work: &mut [i32], plane: &mut [i32], l: Level)
+    requires { Opened l (length work.old) (length plane.old) × (l.columns.length ≤ max_width) }
+    ensures work_after { at work.new ≡ flat l.stride (level_done l.columns.size l.rows (cells l.stride (at work.old))) }
+    ensures plane_after { (k u v u' v' : ℕ) (G : Grid) → Lies u v (suc k) l.columns → Lies u' v' (suc k) l.rows →
+        Agrees u v u' v' l.columns l.rows G (cells l.stride (at work.old)) →
+        at plane.new ≡ flat l.across (highs_mended l.columns.length l.rows.length (changed_of l.columns) (changed_of l.rows) G
+        (cells l.across (at plane.old))) }
 {
-    lift_level(work, stride, columns.size, rows);
-    copy_highs(work, stride, plane, across, columns, rows);
+    lift_level(work, l.stride, l.columns.size, l.rows);
+    copy_highs(work, plane, l);
 }
 
 // All levels.
@@ -79,17 +63,16 @@ pub fn mend_levels(
         at plane.new ≡ flat across (grid_mended levels columns.length rows.length (changed_of columns) (changed_of rows) G
         (cells across (at plane.old))) }
 {
-    let mut c = columns;
-    let mut r = rows;
-    let mut stride = columns.size;
-    let mut left = levels;
-    while 1 < left {
-        mend_level(work, stride, plane, across, c, r);
-        c = direction::lowered(c);
-        r = direction::lowered(r);
-        stride = 2 * stride;
-        left -= 1;
+    let mut l = Level {
+        columns,
+        rows,
+        stride: columns.size,
+        across,
+    };
+    for _level in 1..levels {
+        mend_level(work, plane, l);
+        l = direction::next(l);
     }
-    mend_level(work, stride, plane, across, c, r);
-    patch::copy_band(work, stride, plane, across, c, r, 0, 0);
+    mend_level(work, plane, l);
+    patch::copy_band(work, plane, l, 0, 0);
 }

@@ -1,15 +1,15 @@
-// Rectangles of numbers copied from the work area to the plane.
-ghost use Rattle.std.specs.Prelude.{◌≡◌, ℕ, ◌+◌, ◌-◌, ◌*◌, ◌/◌, ◌^◌, ◌≤◌, ◌<◌, length, true};
+// Rectangles of numbers copied: heights to the work area, and from there coefficients to the plane.
+ghost use Rattle.std.specs.Prelude.{◌≡◌, List, ℕ, ℤ, ◌+◌, ◌-◌, ◌*◌, ◌/◌, ◌^◌, ◌≤◌, ◌<◌, length, true};
 ghost use Rattle.numbers.specs.Signal.{at, windowed, spliced};
+ghost use Rattle.areas.specs.Areas.{heights_at};
 ghost use Rattle.wavelet.specs.Plane.{cells, flat};
 ghost use Rattle.lifting.specs.Grid.{side, count};
 ghost use Rattle.wavelet.specs.Bands.{Grid};
-ghost use Rattle.map_levels.specs.Passes.{Rows};
 ghost use Rattle.strokes.specs.Reach.{reached};
-ghost use Rattle.strokes.specs.Local.{patch_copied, band_mended, changed_of, half_of, Ready, place_of};
+ghost use Rattle.strokes.specs.Local.{patch_copied, band_mended, changed_of, half_of, Opened, place_of};
 
 use crate::direction;
-use crate::direction::Direction;
+use crate::direction::Level;
 
 // Rows and columns of a plane.
 #[derive(Clone, Copy)]
@@ -20,71 +20,85 @@ pub struct Patch {
     pub columns: usize,
 }
 
-// n numbers from place a of one area to place b of another.
-fn copy_to(from: &[i32], a: usize, to: &mut [i32], b: usize, n: usize)
-    requires { (a + n ≤ length from.now) × (b + n ≤ length to.old) }
-    ensures { at to.new ≡ spliced b n (λ i. at from.now (a + i)) (at to.old) }
-{
-    let mut i = 0;
-    while i < n {
-        to[b + i] = from[a + i];
-        i += 1;
+// What can be copied to the work area or the plane: coefficients as they are, heights as coefficients.
+pub trait Source: Sized {
+    ghost values: { List Self → ℕ → ℤ };
+
+    // Number i of a row.
+    fn read(row: &[Self], i: usize) -> i32
+        requires { i < length row.now }
+        ensures { result ≡ values row.now i };
+}
+
+impl Source for i32 {
+    ghost values = { at };
+
+    fn read(row: &[i32], i: usize) -> i32 {
+        row[i]
     }
 }
 
-// A patch of the plane, whose rows are `across` apart, from the rows from place a on, `stride` apart.
-fn copy_patch(from: &[i32], a: usize, stride: usize, to: &mut [i32], across: usize, p: Patch)
+impl Source for u16 {
+    ghost values = { heights_at };
+
+    fn read(row: &[u16], i: usize) -> i32 {
+        i32::from(row[i])
+    }
+}
+
+// n numbers from place a of one area to place b of another.
+fn copy_to<S: Source>(from: &[S], a: usize, to: &mut [i32], b: usize, n: usize)
+    requires { (a + n ≤ length from.now) × (b + n ≤ length to.old) }
+    ensures { at to.new ≡ spliced b n (λ i. S.values from.now (a + i)) (at to.old) }
+{
+    for i in 0..n {
+        to[b + i] = S::read(from, a + i);
+    }
+}
+
+// A patch of an area, whose rows are `across` apart, from the rows from place a on, `stride` apart.
+pub fn copy_patch<S: Source>(
+    from: &[S],
+    a: usize,
+    stride: usize,
+    to: &mut [i32],
+    across: usize,
+    p: Patch,
+)
     requires { (0 < across) × (p.column + p.columns ≤ across)
         × ((i : ℕ) → i < p.rows → a + i * stride + p.columns ≤ length from.now)
         × ((i : ℕ) → i < p.rows → (p.row + i) * across + p.column + p.columns ≤ length to.old) }
     ensures { at to.new ≡
-        flat across (patch_copied p (λ i j. at from.now (a + i * stride + j)) (cells across (at to.old))) }
+        flat across (patch_copied p (λ i j. S.values from.now (a + i * stride + j)) (cells across (at to.old))) }
 {
-    let row = p.row;
-    let column = p.column;
-    let rows = p.rows;
-    let columns = p.columns;
-    let mut i = 0;
-    while i < rows {
+    for i in 0..p.rows {
         copy_to(
             from,
             a + i * stride,
             to,
-            (row + i) * across + column,
-            columns,
+            (p.row + i) * across + p.column,
+            p.columns,
         );
-        i += 1;
     }
 }
 
-// The numbers of one band that are in reach, from a window whose rows are `stride` apart: low, high of it across and down are 0, 1.
-pub fn copy_band(
-    work: &[i32],
-    stride: usize,
-    plane: &mut [i32],
-    across: usize,
-    columns: Direction,
-    rows: Direction,
-    a: usize,
-    h: usize,
-)
-    requires { Ready columns × Ready rows × (a ≤ 1) × (h ≤ 1) × (stride < 2 ^ 32)
-        × Rows (length work.now) stride columns.size rows.size
-        × Rows (length plane.old) across columns.length rows.length }
-    ensures { (B : Grid) → ((n m : ℕ) → n < count (half_of h) (side 0 rows.length) → m < count (half_of a) (side 0 columns.length) →
-        reached (changed_of rows) (half_of h) n ≡ true → reached (changed_of columns) (half_of a) m ≡ true →
-        at work.now (place_of stride columns rows a h n m) ≡ B n m) →
-        at plane.new ≡ flat across (band_mended (half_of a) (half_of h) columns.length rows.length (changed_of columns) (changed_of rows) B
-        (cells across (at plane.old))) }
+// The numbers of one band of a level that are in reach, from the window to the plane: low, high of it across and down are 0, 1.
+pub fn copy_band(work: &[i32], plane: &mut [i32], l: Level, a: usize, h: usize)
+    requires { Opened l (length work.now) (length plane.old) × (a ≤ 1) × (h ≤ 1) }
+    ensures { (B : Grid) → ((n m : ℕ) → n < count (half_of h) (side 0 l.rows.length) → m < count (half_of a) (side 0 l.columns.length) →
+        reached (changed_of l.rows) (half_of h) n ≡ true → reached (changed_of l.columns) (half_of a) m ≡ true →
+        at work.now (place_of l.stride l.columns l.rows a h n m) ≡ B n m) →
+        at plane.new ≡ flat l.across (band_mended (half_of a) (half_of h) l.columns.length l.rows.length (changed_of l.columns) (changed_of l.rows) B
+        (cells l.across (at plane.old))) }
 {
-    let c = direction::part_of(columns, a);
-    let r = direction::part_of(rows, h);
-    let first = r.down * stride + c.across;
+    let c = direction::part_of(l.columns, a);
+    let r = direction::part_of(l.rows, h);
+    let first = r.down * l.stride + c.across;
     let p = Patch {
         row: r.plane,
         column: c.plane,
         rows: r.count,
         columns: c.count,
     };
-    copy_patch(work, first, 2 * stride, plane, across, p);
+    copy_patch(work, first, 2 * l.stride, plane, l.across, p);
 }

@@ -1,6 +1,6 @@
 // The window in the work area: loaded from the heights, its columns lifted, its rows lifted. Its rows stand in their own order, `stride` apart.
 ghost use Rattle.std.specs.Prelude.{◌≡◌, ℕ, ◌+◌, ◌-◌, ◌*◌, ◌/◌, ◌^◌, ◌≤◌, ◌<◌, length};
-ghost use Rattle.numbers.specs.Signal.{at, pick, spliced};
+ghost use Rattle.numbers.specs.Signal.{at, pick};
 ghost use Rattle.areas.specs.Areas.{heights_at};
 ghost use Rattle.lifting.specs.Grid.{side};
 ghost use Rattle.lifting.specs.GridHalves.{forward_into};
@@ -10,23 +10,12 @@ ghost use Rattle.wavelet.specs.Limits.{max_width};
 ghost use Rattle.strokes.specs.Local.{row_after, row_before, last_done, turn_done, columns_done, row_done, rows_done};
 ghost use Rattle.strokes.specs.Local.{patch_copied, unread_before, unread_past, read_of};
 
-use crate::direction;
 use crate::direction::Direction;
 use crate::patch::Patch;
+use crate::{direction, patch};
+use lifting::step::{Predict, Update};
 use lifting::{line, rows};
 use wavelet::limits;
-
-// n heights from place a on to place b of the work area.
-fn load_to(heights: &[u16], a: usize, work: &mut [i32], b: usize, n: usize)
-    requires { (a + n ≤ length heights.now) × (b + n ≤ length work.old) }
-    ensures { at work.new ≡ spliced b n (λ i. heights_at heights.now (a + i)) (at work.old) }
-{
-    let mut i = 0;
-    while i < n {
-        work[b + i] = heights[a + i] as i32;
-        i += 1;
-    }
-}
 
 // The row after the high row 2n + 1, mirrored at the end.
 fn row_after(height: usize, n: usize) -> usize
@@ -56,7 +45,7 @@ fn lift_last(area: &mut [i32], stride: usize, width: usize, height: usize, n: us
     ensures { at area.new ≡ last_done (length area.old) stride width height n (at area.old) }
 {
     if 2 * n + 1 == height {
-        rows::update_row(area, stride, width, 2 * n, 2 * n - 1, 2 * n - 1);
+        let _ = rows::change_row::<Update>(area, stride, width, 2 * n, 2 * n - 1, 2 * n - 1);
     }
 }
 
@@ -67,8 +56,8 @@ fn lift_turn(area: &mut [i32], stride: usize, width: usize, height: usize, n: us
     ensures { at area.new ≡ turn_done (length area.old) stride width height n (at area.old) }
 {
     let high = 2 * n + 1;
-    rows::predict_row(area, stride, width, high, 2 * n, row_after(height, n));
-    rows::update_row(area, stride, width, 2 * n, row_before(n), high);
+    let _ = rows::change_row::<Predict>(area, stride, width, high, 2 * n, row_after(height, n));
+    let _ = rows::change_row::<Update>(area, stride, width, 2 * n, row_before(n), high);
     lift_last(area, stride, width, height, n + 1);
 }
 
@@ -82,10 +71,8 @@ pub fn lift_columns(area: &mut [i32], stride: usize, width: usize, height: usize
     }
     let end = height / 2;
     lift_turn(area, stride, width, height, 0);
-    let mut n = 1;
-    while n < end {
+    for n in 1..end {
         lift_turn(area, stride, width, height, n);
-        n += 1;
     }
 }
 
@@ -108,38 +95,13 @@ pub fn lift_rows(area: &mut [i32], stride: usize, width: usize, rows: Direction)
     ensures { at area.new ≡ flat stride (rows_done width rows (cells stride (at area.old))) }
 {
     let mut other = [0; limits::MAX_WIDTH];
-    let height = rows.size;
-    let mut r = 0;
-    while r < height {
+    for r in 0..rows.size {
         let a = r * stride;
-        let e = a + width;
-        lift_row(&mut area[a..e], &mut other, direction::is_used(rows, r));
-        r += 1;
-    }
-}
-
-// A patch of the work area, whose rows are `stride` apart, from the rows of heights from place a on, `across` apart.
-fn load_patch(heights: &[u16], a: usize, across: usize, work: &mut [i32], stride: usize, p: Patch)
-    requires { (0 < stride) × (p.column + p.columns ≤ stride)
-        × ((i : ℕ) → i < p.rows → a + i * across + p.columns ≤ length heights.now)
-        × ((i : ℕ) → i < p.rows → (p.row + i) * stride + p.column + p.columns ≤ length work.old) }
-    ensures { at work.new ≡
-        flat stride (patch_copied p (λ i j. heights_at heights.now (a + i * across + j)) (cells stride (at work.old))) }
-{
-    let row = p.row;
-    let column = p.column;
-    let rows = p.rows;
-    let columns = p.columns;
-    let mut i = 0;
-    while i < rows {
-        load_to(
-            heights,
-            a + i * across,
-            work,
-            (row + i) * stride + column,
-            columns,
+        lift_row(
+            &mut area[a..a + width],
+            &mut other,
+            direction::is_used(rows, r),
         );
-        i += 1;
     }
 }
 
@@ -162,5 +124,5 @@ pub fn load(heights: &[u16], across: usize, columns: Direction, rows: Direction,
         columns: columns.size - left - direction::past(columns),
     };
     let a = (rows.start + top) * across + (columns.start + left);
-    load_patch(heights, a, across, work, columns.size, p);
+    patch::copy_patch(heights, a, across, work, columns.size, p);
 }

@@ -7,8 +7,9 @@ use Rattle.strokes.proofs.direction.widened.Goals as goal
 pub overflow_mul-start : goal.overflow_mul-start
 overflow_mul-start c =
     let q = c.power-q.result in
-    let k : q * c.less.result ≤ 65536 * c.less.result = mul-le-mul_right c.less.result (omega (arith, c.power-q.ensures.2)) in
-    omega (arith, k, div-le_self (c.args.first + 1) q, c.less.ensures)
+    let x = c.saturating_sub.result in
+    let k : q * x ≤ 65536 * x = mul-le-mul_right x (omega (arith, c.power-q.ensures.2)) in
+    omega (arith, k, div-le_self (c.args.first + 1) q, c.saturating_sub.ensures)
 
 pub overflow_add-last : goal.overflow_add-last
 overflow_add-last c = omega arith

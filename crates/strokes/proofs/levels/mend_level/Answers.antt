@@ -8,19 +8,19 @@ use Rattle.strokes.proofs.levels.mend_level.Goals as goal
 pub returns : goal.returns
 returns c =
     let a = c.args in
-    record { work_after = c.lift_level.ensures; plane_after = λ k u v u' v' G Lc Lr same. c.copy_highs.ensures k u v u' v' G (cells a.stride (at a.work.now)) Lc Lr same c.lift_level.ensures }
+    record { work_after = c.lift_level.ensures; plane_after = λ k u v u' v' G Lc Lr same. c.copy_highs.ensures k u v u' v' G (cells a.l.stride (at a.work.now)) Lc Lr same c.lift_level.ensures }
 
 pub lift_level-requires : goal.lift_level-requires
 lift_level-requires c =
     let p = c.requires in
-    let C = p.0.placed.lies in
-    let R = p.1.placed.lies in
-    (p.4, omega (arith, C.cut.inside, p.3), omega (arith, R.cut.inside, R.long), R.ends)
+    let C = p.0.0.placed.lies in
+    let R = p.0.1.placed.lies in
+    (p.0.3, omega (arith, C.cut.inside, p.1), omega (arith, R.cut.inside, R.long), R.ends)
 
 pub copy_highs-requires : goal.copy_highs-requires
 copy_highs-requires c =
-    let p = c.requires in
-    (p.0, p.1, p.2, rows-kept c.lift_level.auto.work p.4, p.5)
+    let p = c.requires.0 in
+    (p.0, p.1, p.2, rows-kept c.lift_level.auto.work p.3, p.4)
 
 pub shape_of-work : goal.shape_of-work
 shape_of-work c = c.lift_level.auto.work

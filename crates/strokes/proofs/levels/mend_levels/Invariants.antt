@@ -1,6 +1,6 @@
 -- `levels::mend_levels` meets its contract: what is still to be done stays the same from level to level. Assumes nothing.
 use mathlib.Core.Path.{◌≡◌}
-use Prim.Native.Nat.{ℕ, ◌≤◌}
+use Prim.Native.Nat.{ℕ, ◌+◌, ◌-◌, ◌≤◌}
 use lib.IntN.{ℤ}
 use lib.ListN.{length}
 use Rattle.numbers.specs.Signal.{at}
@@ -11,19 +11,16 @@ use Rattle.strokes.specs.Local.{Placed}
 use Rattle.strokes.proofs.Standing.{Standing}
 use Rattle.strokes.proofs.levels.mend_levels.Given as goal
 
-abbrev pub invariant-loop-left : goal.invariant-loop-left
-invariant-loop-left l =
-    (1 ≤ l.left)
-    × (length l.work ≡ length l.initial.work)
+abbrev pub invariant-loop-level : goal.invariant-loop-level
+invariant-loop-level l =
+    (length l.work ≡ length l.initial.work)
     × (length l.plane ≡ length l.initial.plane)
-    × Placed l.left l.c
-    × Placed l.left l.r
-    × Doubling l.left l.stride l.c.size
-    × Rows (length l.work) l.stride l.c.size l.r.size
-    × Rows (length l.plane) l.across l.c.length l.r.length
-    × (l.c.length ≤ max_width)
-    × ((goal : ℕ → ℤ) (u v u' v' : ℕ) → Standing l.across goal u v u' v' l.initial.left l.initial.stride l.initial.c l.initial.r (at l.initial.work) (at l.initial.plane) →
-    Standing l.across goal u v u' v' l.left l.stride l.c l.r (at l.work) (at l.plane))
-
-abbrev pub decreases-loop-left : goal.decreases-loop-left
-decreases-loop-left l = l.left
+    × Placed (l.levels + 1 - l._level) l.l.columns
+    × Placed (l.levels + 1 - l._level) l.l.rows
+    × Doubling (l.levels + 1 - l._level) l.l.stride l.l.columns.size
+    × Rows (length l.work) l.l.stride l.l.columns.size l.l.rows.size
+    × Rows (length l.plane) l.l.across l.l.columns.length l.l.rows.length
+    × (l.l.columns.length ≤ max_width)
+    × ((goal : ℕ → ℤ) (u v u' v' : ℕ) → Standing l.across goal u v u' v' l.levels l.initial.l.stride l.initial.l.columns l.initial.l.rows (at l.initial.work) (at l.initial.plane) →
+    Standing l.across goal u v u' v' (l.levels + 1 - l._level) l.l.stride l.l.columns l.l.rows (at l.work) (at l.plane))
+    × (l.l.across ≡ l.across)

@@ -1,86 +1,52 @@
-use mathlib.Core.Path.{refl, ◌∙◌}
-use Prim.Native.Nat.{◌+◌, ◌*◌, ◌≤◌}
+use Rattle.std.proofs.Common.{refl, ◌∙◌, ◌+◌, ◌*◌, arith}
 use native.Mathlib.Nat.{mul-le-mul_left}
-use lib.ListN.{length}
 use Rattle.numbers.specs.Signal.{at}
 use Rattle.map_levels.proofs.GridSweep.{start, finish}
 use Rattle.strokes.proofs.PatchLaws.{patch-above, patch-below, patch-turn}
-use native.Mathlib.Omega.{arith}
 use Rattle.strokes.proofs.patch.copy_patch.Goals as goal
 
 pub loop-i-init : goal.loop-i-init
-loop-i-init c =
-    let p = c.requires in (
-      omega arith,
-      refl,
-      p.0,
-      p.1,
-      p.2,
-      p.3,
-      start _ _ _ _ (λ r k lt. patch-above _ _ _ r k (omega arith)),
-    )
+loop-i-init g c =
+    let p = c.requires in
+    (refl, p.0, p.1, p.2, p.3, start _ _ _ _ (λ r k lt. patch-above _ _ _ r k (omega arith)))
 
 pub overflow_mul-i : goal.overflow_mul-i
-overflow_mul-i c =
-    let room : c.args.a + c.loop-i.i * c.args.stride + c.args.p.columns ≤ length
-    c.args.from.now = c.loop-i.invariant.4 c.loop-i.i c.loop-i-test.true in
-    omega (arith, room)
+overflow_mul-i g c = omega (arith, c.loop-i.invariant.3 c.loop-i.i (omega arith))
 
 pub overflow_add-a : goal.overflow_add-a
-overflow_add-a c =
-    let room : c.args.a + c.loop-i.i * c.args.stride + c.args.p.columns ≤ length
-    c.args.from.now = c.loop-i.invariant.4 c.loop-i.i c.loop-i-test.true in
-    omega (arith, room)
+overflow_add-a g c = omega (arith, c.loop-i.invariant.3 c.loop-i.i (omega arith))
 
-pub overflow_add-row : goal.overflow_add-row
-overflow_add-row c =
-    let room-to : (c.args.p.row + c.loop-i.i) * c.args.across + c.args.p.column +
-    c.args.p.columns ≤ length c.loop-i.to = omega (arith, c.loop-i.invariant.5 c.loop-i.i c.loop-i-test.true, c.loop-i.invariant.1, c.loop-i.invariant.3) in
-    omega (arith, room-to, mul-le-mul_left (c.args.p.row + c.loop-i.i) c.loop-i.invariant.2)
+pub overflow_add-p : goal.overflow_add-p
+overflow_add-p g c =
+    omega (arith, c.loop-i.invariant.4 c.loop-i.i (omega arith), mul-le-mul_left (c.args.p.row + c.loop-i.i) c.loop-i.invariant.1)
 
-pub overflow_mul-row : goal.overflow_mul-row
-overflow_mul-row c =
-    let room-to : (c.args.p.row + c.loop-i.i) * c.args.across + c.args.p.column +
-    c.args.p.columns ≤ length c.loop-i.to = omega (arith, c.loop-i.invariant.5 c.loop-i.i c.loop-i-test.true, c.loop-i.invariant.1, c.loop-i.invariant.3) in
-    omega (arith, room-to)
+pub overflow_mul-p : goal.overflow_mul-p
+overflow_mul-p g c = omega (arith, c.loop-i.invariant.4 c.loop-i.i (omega arith))
 
-pub overflow_add-row-in-loop-i : goal.overflow_add-row-in-loop-i
-overflow_add-row-in-loop-i c =
-    let room-to : (c.args.p.row + c.loop-i.i) * c.args.across + c.args.p.column +
-    c.args.p.columns ≤ length c.loop-i.to = omega (arith, c.loop-i.invariant.5 c.loop-i.i c.loop-i-test.true, c.loop-i.invariant.1, c.loop-i.invariant.3) in
-    omega (arith, room-to)
+pub overflow_add-p-in-loop-i : goal.overflow_add-p-in-loop-i
+overflow_add-p-in-loop-i g c = omega (arith, c.loop-i.invariant.4 c.loop-i.i (omega arith))
 
 pub copy_to-requires : goal.copy_to-requires
-copy_to-requires c =
-    let room : c.args.a + c.loop-i.i * c.args.stride + c.args.p.columns ≤ length
-    c.args.from.now = c.loop-i.invariant.4 c.loop-i.i c.loop-i-test.true in
-    let room-to : (c.args.p.row + c.loop-i.i) * c.args.across + c.args.p.column +
-    c.args.p.columns ≤ length c.loop-i.to = omega (arith, c.loop-i.invariant.5 c.loop-i.i c.loop-i-test.true, c.loop-i.invariant.1, c.loop-i.invariant.3) in
-    (room, omega (arith, room-to))
-
-pub overflow_add-i : goal.overflow_add-i
-overflow_add-i c = omega arith
-
-pub loop-i-smaller : goal.loop-i-smaller
-loop-i-smaller c = omega arith
+copy_to-requires g c =
+    let inv = c.loop-i.invariant in
+    (inv.3 c.loop-i.i (omega arith), omega (arith, inv.4 c.loop-i.i (omega arith), inv.0))
 
 pub loop-i-preserved : goal.loop-i-preserved
-loop-i-preserved c =
+loop-i-preserved g c =
     let a = c.args in
     let inv = c.loop-i.invariant in (
-      omega arith,
-      c.copy_to.auto.to ∙ inv.1,
+      c.copy_to.auto.to ∙ inv.0,
+      inv.1,
       inv.2,
       inv.3,
       inv.4,
-      inv.5,
-      patch-turn a.across a.p.row a.p.column a.p.rows a.p.columns c.loop-i.i (λ j k. at a.from.now (a.a + j * a.stride + k))
+      patch-turn a.across a.p.row a.p.column a.p.rows a.p.columns c.loop-i.i (λ j k. g.S.Source.values a.from.now (a.a + j * a.stride + k))
           (at a.to.now)
-          (at c.loop-i.to) _ inv.3 c.loop-i-test.true c.copy_to.ensures inv.6,
+          (at c.loop-i.to) _ inv.2 (omega arith) c.copy_to.ensures inv.5,
     )
 
 pub shape_of-to : goal.shape_of-to
-shape_of-to c = c.loop-i.invariant.1
+shape_of-to g c = c.loop-i.invariant.0
 
 pub returns : goal.returns
-returns c = finish c.loop-i.invariant.2 c.loop-i.invariant.6 (λ r k le. patch-below _ _ _ r k (omega arith))
+returns g c = finish c.loop-i.invariant.1 c.loop-i.invariant.5 (λ r k le. patch-below _ _ _ r k (omega arith))

@@ -1,24 +1,17 @@
 -- `patch::copy_patch` meets its contract: a pass over the rows of the patch. Assumes nothing.
-use mathlib.Core.Path.{◌≡◌}
-use Prim.Native.Nat.{ℕ, ◌+◌, ◌-◌, ◌*◌, ◌≤◌, ◌<◌}
-use lib.ListN.{length}
+use Rattle.std.proofs.Common.{◌≡◌, ℕ, ◌+◌, ◌*◌, ◌≤◌, ◌<◌, length}
 use Rattle.numbers.specs.Signal.{at}
 use Rattle.wavelet.specs.Plane.{cells}
 use Rattle.map_levels.proofs.GridSweep.{RowSwept}
-use Rattle.strokes.specs.Local.{patch_copied, patch}
+use Rattle.strokes.specs.Local.{patch_copied}
 use Rattle.strokes.proofs.patch.copy_patch.Given as goal
 
 abbrev pub invariant-loop-i : goal.invariant-loop-i
-invariant-loop-i l =
-    (l.i ≤ l.rows)
-    × (length l.to ≡ length l.initial.to)
+invariant-loop-i g l =
+    (length l.to ≡ length l.initial.to)
     × (0 < l.across)
-    × (l.column + l.columns ≤ l.across)
-    × ((j : ℕ) → j < l.rows → l.a + j * l.stride + l.columns ≤ length l.from)
-    × ((j : ℕ) → j < l.rows → (l.row + j) * l.across + l.column + l.columns ≤ length l.initial.to)
-    × RowSwept l.across (patch_copied (patch l.row l.column l.rows l.columns) (λ j k. at l.from (l.a + j * l.stride + k)) (cells l.across (at l.initial.to))) (cells l.across (at l.initial.to))
-    (l.row + l.i)
-    (at l.to)
-
-abbrev pub decreases-loop-i : goal.decreases-loop-i
-decreases-loop-i l = l.rows - l.i
+    × (l.p.column + l.p.columns ≤ l.across)
+    × ((j : ℕ) → j < l.p.rows → l.a + j * l.stride + l.p.columns ≤ length l.from)
+    × ((j : ℕ) → j < l.p.rows → (l.p.row + j) * l.across + l.p.column + l.p.columns ≤ length l.initial.to)
+    × RowSwept l.across (patch_copied l.p (λ j k. g.S.Source.values l.from (l.a + j * l.stride + k)) (cells l.across (at l.initial.to)))
+    (cells l.across (at l.initial.to)) (l.p.row + l.i) (at l.to)

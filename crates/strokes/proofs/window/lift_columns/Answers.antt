@@ -15,8 +15,6 @@ lift_turn-requires c = (omega arith, omega arith)
 
 pub loop-n-init : goal.loop-n-init
 loop-n-init c = (
-  omega arith,
-  omega arith,
   refl,
   omega arith,
   omega (arith, c.well_formed.0.1, c.lift_turn.auto.area),
@@ -28,34 +26,25 @@ loop-n-init c = (
 pub lift_turn-requires-in-loop-n : goal.lift_turn-requires-in-loop-n
 lift_turn-requires-in-loop-n c =
     let inv = c.loop-n.invariant in
-    (omega arith, omega (arith, few _ _ _ _ inv.6))
-
-pub overflow_add-n : goal.overflow_add-n
-overflow_add-n c =
-    omega (arith, few _ _ _ _ c.loop-n.invariant.6)
-
-pub loop-n-smaller : goal.loop-n-smaller
-loop-n-smaller c = omega arith
+    (omega arith, omega (arith, few _ _ _ _ inv.4))
 
 pub loop-n-preserved : goal.loop-n-preserved
 loop-n-preserved c =
     let inv = c.loop-n.invariant in
     let a = c.args in
     let n = c.loop-n.n in (
-      omega arith,
-      omega arith,
+      inv.0,
+      inv.1,
       inv.2,
-      inv.3,
+      c.lift_turn-in-loop-n.auto.area ∙ inv.3,
       inv.4,
-      c.lift_turn-in-loop-n.auto.area ∙ inv.5,
-      inv.6,
       λ X r.
-          turn (length c.loop-n.area) a.stride a.width a.height (rows-kept inv.5 inv.6) X n (omega arith) (at c.loop-n.area) _
-          c.lift_turn-in-loop-n.ensures (rw (rows_before a.height n (omega arith)) at (inv.7 X r)),
+          turn (length c.loop-n.area) a.stride a.width a.height (rows-kept inv.3 inv.4) X n (omega arith) (at c.loop-n.area) _
+          c.lift_turn-in-loop-n.ensures (rw (rows_before a.height n (omega arith)) at (inv.5 X r)),
     )
 
 pub shape_of-area : goal.shape_of-area
-shape_of-area c = c.loop-n.invariant.5 ∙ c.lift_turn.auto.area
+shape_of-area c = c.loop-n.invariant.3 ∙ c.lift_turn.auto.area
 
 pub returns : goal.returns
 returns c =
@@ -63,5 +52,5 @@ returns c =
     let a = c.args in
     let X = cells a.stride (at a.area.now) in
     finish c.requires.apart
-    (inv.7 X (turn _ _ _ _ c.requires X 0 (omega arith) _ _ c.lift_turn.ensures (start-rows _ _ 0 _ (λ r k lt. absurd (omega arith)))))
+    (inv.5 X (turn _ _ _ _ c.requires X 0 (omega arith) _ _ c.lift_turn.ensures (start-rows _ _ 0 _ (λ r k lt. absurd (omega arith)))))
     (λ r k le. done-past _ _ X r k (omega (arith, rows-after a.height c.loop-n.n (omega arith))))

@@ -8,5 +8,5 @@ pub returns : goal.returns
 returns c =
     let a = c.args in
     turn-lifted (length a.area.now) a.stride a.width a.height a.n _ _ _ _ _ _ _ _ c.row_after.ensures.0
-    c.row_before.ensures.0 c.predict_row.auto.area (c.update_row.auto.area ∙ c.predict_row.auto.area)
-    c.predict_row.ensures.area_after c.update_row.ensures.area_after c.lift_last.ensures
+    c.row_before.ensures.0 c.change_row.auto.area (c.change_row-2.auto.area ∙ c.change_row.auto.area)
+    c.change_row.ensures.area_after c.change_row-2.ensures.area_after c.lift_last.ensures

@@ -49,8 +49,8 @@ overflow_add-a-3 c =
     (omega (arith, c.before-top.ensures, p.3, p.5, p.7)) p.4 (omega (arith, c.before-left.ensures, p.2, p.4, p.6)) in
     omega (arith, k)
 
-pub load_patch-requires : goal.load_patch-requires
-load_patch-requires c =
+pub copy_patch-requires : goal.copy_patch-requires
+copy_patch-requires c =
     let a = c.args in
     let p = c.requires in
     load_asks _ _ a.across a.columns a.rows p.0 p.1 p.2 p.3 _ _ _ _ _ c.before-left.ensures c.before-top.ensures
@@ -58,7 +58,7 @@ load_patch-requires c =
     (ap₂ (λ (x y : ℕ). a.rows.size - x - y) c.before-top.ensures c.past.ensures) refl p.6 p.7
 
 pub shape_of-work : goal.shape_of-work
-shape_of-work c = c.load_patch.auto.work
+shape_of-work c = c.copy_patch.auto.to
 
 pub returns : goal.returns
 returns c =
@@ -67,4 +67,4 @@ returns c =
     load-made _ _ a.across a.columns a.rows p.0 p.1 p.2 p.3 _ _ _ _ 0 c.before-left.ensures c.before-top.ensures
     (ap₂ (λ (x y : ℕ). a.columns.size - x - y) c.before-left.ensures c.past-2.ensures)
     (ap₂ (λ (x y : ℕ). a.rows.size - x - y) c.before-top.ensures c.past.ensures) (heights_at a.heights.now) _ (at a.work.now)
-    c.load_patch.ensures
+    c.copy_patch.ensures
