@@ -1,33 +1,16 @@
 // What the state arrays share: the caller's numbers, sixteen for writer and reader, thirty-two for a saver: a kind, the counts, and 0 in the rest.
 ghost use Rattle.std.specs.Prelude.{◌≡◌, length};
-ghost use Rattle.states.specs.States.{flag, zero_from, zero_to};
+ghost use Rattle.states.specs.States.{flag, zero_to};
 
 // Is every number 0 from place `from` on? All are looked at: the compiler then tests them together.
-pub fn zero_from(s: &[u64; 16], from: usize) -> bool
-    ensures { result ≡ zero_from from s.now }
+pub fn zero_from<const N: usize>(s: &[u64; N], from: usize) -> bool
+    ensures { result ≡ zero_to N from s.now }
 {
     let mut zero = true;
-    let mut i = from;
-    while i < 16 {
+    for i in from..N {
         if s[i] != 0 {
             zero = false;
         }
-        i += 1;
-    }
-    zero
-}
-
-// The same of thirty-two numbers.
-pub fn long_zero_from(s: &[u64; 32], from: usize) -> bool
-    ensures { result ≡ zero_to 32 from s.now }
-{
-    let mut zero = true;
-    let mut i = from;
-    while i < 32 {
-        if s[i] != 0 {
-            zero = false;
-        }
-        i += 1;
     }
     zero
 }

@@ -19,7 +19,7 @@ pub fn is_loader(s: &[u64; 32]) -> bool
     if 1 < s[7] {
         return false;
     }
-    array::long_zero_from(s, 27)
+    array::zero_from(s, 27)
 }
 
 // The loader that the array holds.

@@ -23,7 +23,7 @@ pub fn is_saver(s: &[u64; 32]) -> bool
     if 4294967295 < s[6] {
         return false;
     }
-    array::long_zero_from(s, 16)
+    array::zero_from(s, 16)
 }
 
 // The saver that the array holds.

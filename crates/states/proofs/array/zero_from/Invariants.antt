@@ -1,12 +1,8 @@
 -- `array::zero_from` meets its contract: the answer is always what was found so far, and that of the places left. Assumes nothing.
-use mathlib.Core.Path.{◌≡◌}
-use Prim.Native.Nat.{◌-◌}
+use Rattle.std.proofs.Common.{◌≡◌}
 use Rattle.numbers.specs.Signal.{both}
-use Rattle.states.specs.States.{zero_from}
+use Rattle.states.specs.States.{zero_to}
 use Rattle.states.proofs.array.zero_from.Given as goal
 
 abbrev pub invariant-loop-i : goal.invariant-loop-i
-invariant-loop-i l = zero_from l.from l.s ≡ both l.zero (zero_from l.i l.s)
-
-abbrev pub decreases-loop-i : goal.decreases-loop-i
-decreases-loop-i l = 16 - l.i
+invariant-loop-i g l = zero_to g.row.N l.from l.s ≡ both l.zero (zero_to g.row.N l.i l.s)

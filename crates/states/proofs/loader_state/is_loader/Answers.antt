@@ -11,4 +11,4 @@ returns-then-s-gt1 c = loader-flag c.args.s.now c.if-s-ne5.false c.if-s-gt1.true
 
 pub returns : goal.returns
 returns c =
-    c.long_zero_from.ensures ∙ loader-rest c.args.s.now c.if-s-ne5.false c.if-s-gt1.false
+    c.zero_from.ensures ∙ loader-rest c.args.s.now c.if-s-ne5.false c.if-s-gt1.false

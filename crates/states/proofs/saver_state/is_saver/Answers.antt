@@ -19,4 +19,4 @@ returns-then-s-gt4294967295 c =
 
 pub returns : goal.returns
 returns c =
-    c.long_zero_from.ensures ∙ saver-rest c.args.s.now c.if-s-ne4.false c.if-s-gt65535.false c.if-s-gt65535-2.false c.if-s-gt4294967295.false
+    c.zero_from.ensures ∙ saver-rest c.args.s.now c.if-s-ne4.false c.if-s-gt65535.false c.if-s-gt65535-2.false c.if-s-gt4294967295.false
