@@ -1,13 +1,17 @@
 -- The laws of numbers at the front of an area, of a test gathered number by number, and of a call that has room or has not. Assumes nothing.
-use mathlib.Core.Path.{◌≡◌, refl, ap, ◌∙◌}
+use mathlib.Core.Path.{◌≡◌, refl, sym, ap, ◌∙◌, fun_ext}
 use mathlib.Core.Bool.{Bool, true, false, ◌&&◌}
-use Prim.Native.Nat.{ℕ, suc, ◌+◌, ◌≤◌, ◌<◌}
+use mathlib.Core.List.{List, ◌++◌}
+use Prim.Native.Nat.{ℕ, suc, ◌+◌, ◌-◌, ◌≤◌, ◌<◌}
+use native.Mathlib.Decide.{dec_lt}
 use native.Mathlib.Omega.{arith}
-use lib.IntN.{ℤ}
+use lib.IntN.{ℤ, pos}
+use lib.ListN.{length, drop, get_or-append}
+use lib.Seq.{get_or-drop, get_or-append-add}
 use lib.Signed.{le_z}
 use borrow.Author.Tests.{lt-ltb, le-ltb, le-leb}
 use lib.Dec.{leb}
-use Rattle.numbers.specs.Signal.{pick, both}
+use Rattle.numbers.specs.Signal.{at, pick, both}
 use Rattle.lifting.specs.Halves.{fronted}
 use Rattle.numbers.specs.Tests.{every}
 use Rattle.areas.specs.Areas.{between}
@@ -60,3 +64,18 @@ between-turn ok i low high x is =
 pub between-end : (ok : Bool) (i n : ℕ) (low' high' low high : ℤ) (x : ℕ → ℤ) → low' ≡ low → high' ≡ high → i ≤ n → n ≤ i →
     ok ≡ every i (λ j. between low' high' (x j)) → ok ≡ every n (λ j. between low high (x j))
 between-end ok i n low' high' low high x el eh le ge is = let e : i ≡ n = omega arith in rw (el, eh, e) at is
+
+-- a list over the front of a longer one
+pub fronted-by : (xs l : List ℤ) → at (xs ++ drop (length xs) l) ≡ fronted (length xs) (at xs) (at l)
+fronted-by xs l =
+    fun_ext λ j.
+    elim (dec_lt j (length xs)) [
+      | yes p ↦ get_or-append xs _ (pos 0) j p ∙ sym (front_at (length xs) (at xs) (at l) j p)
+      | no d ↦
+          let k : j ≡ length xs + (j - length xs) = omega arith in
+          ap (at (xs ++ drop (length xs) l)) k
+          ∙ get_or-append-add xs _ (j - length xs) (pos 0)
+          ∙ get_or-drop (length xs) l (j - length xs) (pos 0)
+          ∙ ap (at l) (sym k)
+          ∙ sym (front_rest (length xs) (at xs) (at l) j (omega arith))
+    ]

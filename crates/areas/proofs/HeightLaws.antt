@@ -1,29 +1,21 @@
 -- Heights, u16, as whole numbers: a list l of them is the list `wholes l` of i32's kind, so that its loops go by the same laws. Assumes nothing.
-use mathlib.Core.Path.{◌≡◌, refl, sym, ap, ◌∙◌, fun_ext}
-use mathlib.Core.List.{List, [], ◌∷◌}
-use Prim.Native.Nat.{ℕ, zero, suc, ◌≤◌, ◌<◌}
+use mathlib.Core.Path.{◌≡◌, refl, sym, ap, ◌∙◌}
+use mathlib.Core.List.{List}
+use Prim.Native.Nat.{ℕ, ◌≤◌, ◌<◌}
 use native.Mathlib.Omega.{arith}
 use lib.Dec.{T}
 use lib.IntN.{ℤ, pos, negsuc, nat_abs, ◌-ℤ◌, ◌*ℤ◌}
 use lib.Signed.{shr_z, non_neg, mag_shr, ◌≤ℤ◌}
-use lib.ListN.{length, set, length-map, get_or-map}
+use lib.ListN.{length, length-map}
 use mir.Syntax.{w32}
 use mir.Val.{SFits, to_z}
 use borrow.Author.Rules.{sfits_of}
 use mir.ValLaws.{sfits_le}
-use Rattle.numbers.specs.Signal.{at}
 use Rattle.numbers.proofs.Integers.{each, lin}
 use Rattle.numbers.proofs.Words.{read_back}
 use Rattle.numbers.proofs.Sweep.{Swept, finish}
 use Rattle.areas.specs.Areas.{heights_at, height16, wholes}
-
-pub wholes-at : (l : List ℕ) → at (wholes l) ≡ heights_at l
-wholes-at l = fun_ext λ i. get_or-map pos l i 0
-
-pub wholes-set : (l : List ℕ) (k v : ℕ) → wholes (set l k v) ≡ set (wholes l) k (pos v)
-wholes-set [] k v = refl
-wholes-set (x ∷ xs) zero v = refl
-wholes-set (x ∷ xs) (suc k) v = ap (λ (r : List ℤ). pos x ∷ r) (wholes-set xs k v)
+pub use Rattle.areas.specs.Kept.{wholes-at, wholes-set}
 
 pub start-heights : (l : List ℕ) (y : ℕ → ℤ) (k : ℕ) → ((j : ℕ) → j < k → y j ≡ heights_at l j) → Swept (length l) y (heights_at l) k (wholes l)
 start-heights l y k h =

@@ -26,11 +26,8 @@ store_pair : (L : ℕ) (y x : ℕ → ℤ) (q : ℕ) (l : List ℤ) (a b : ℤ) 
     Swept L y x (q + 1 + 1) (set (set l q a) (q + 1) b)
 store_pair L y x q l a b sw h ea eb = store b (store a sw (omega arith) ea) (omega arith) eb
 
--- ---- two rows a and b in turn, at the front of an area z
+-- ---- two rows a and b in turn
 module _ (n : ℕ) (a b z : ℕ → ℤ) where
-  abbrev pub turns : ℕ → ℤ
-  turns = fronted n (alternated a b) z
-
   first-is : (j : ℕ) → alternated a b (2 * j) ≡ a j
   unfolding alternated
   first-is j = let k : 2 * j / 2 ≡ j = omega arith in rw (eq-eqb (2 * j % 2) 0 (omega arith), k) refl
@@ -39,20 +36,25 @@ module _ (n : ℕ) (a b z : ℕ → ℤ) where
   unfolding alternated
   second_is j = let k : (2 * j + 1) / 2 ≡ j = omega arith in rw (ne_eqb ((2 * j + 1) % 2) 0 (omega arith), k) refl
 
-  module _ (L j : ℕ) (l : List ℤ) (room : n ≤ L) (sw : Swept L turns z (2 * j) l) where
-    pub pair_turn : 2 * j + 1 < n → Swept L turns z (2 * (j + 1)) (set (set l (2 * j) (a j)) (2 * j + 1) (b j))
-    pair_turn h =
-        subst (λ (m : ℕ). Swept L turns z m (set (set l (2 * j) (a j)) (2 * j + 1) (b j))) (omega arith)
-        (store_pair L turns z (2 * j) l _ _ sw (omega arith) (sym (front_at n _ z (2 * j) (omega arith) ∙ first-is j))
-        (sym (front_at n _ z (2 * j + 1) h ∙ second_is j)))
+-- and at the front of an area z, each number by f
+module _ (f : ℤ → ℤ) (n : ℕ) (a b z : ℕ → ℤ) where
+  abbrev pub turns : ℕ → ℤ
+  turns = fronted n (λ i. f (alternated a b i)) z
 
-    pub pair-last : 2 * j < n → Swept L turns z (2 * j + 1) (set l (2 * j) (a j))
-    pair-last h = store _ sw (omega arith) (sym (front_at n _ z (2 * j) h ∙ first-is j))
+  module _ (L j : ℕ) (l : List ℤ) (room : n ≤ L) (sw : Swept L turns z (2 * j) l) where
+    pub pair_turn : 2 * j + 1 < n → Swept L turns z (2 * (j + 1)) (set (set l (2 * j) (f (a j))) (2 * j + 1) (f (b j)))
+    pair_turn h =
+        subst (λ (m : ℕ). Swept L turns z m (set (set l (2 * j) (f (a j))) (2 * j + 1) (f (b j)))) (omega arith)
+        (store_pair L turns z (2 * j) l _ _ sw (omega arith) (sym (front_at n _ z (2 * j) (omega arith) ∙ ap f (first-is n a b z j)))
+        (sym (front_at n _ z (2 * j + 1) h ∙ ap f (second_is n a b z j))))
+
+    pub pair-last : 2 * j < n → Swept L turns z (2 * j + 1) (set l (2 * j) (f (a j)))
+    pair-last h = store _ sw (omega arith) (sym (front_at n _ z (2 * j) h ∙ ap f (first-is n a b z j)))
 
 -- the even and the odd places of a row in halves, in turn, are the line
-turns-are : (S : Side) (x z : ℕ → ℤ) (e o p q n : ℕ) → Halves S 0 e o → p ≡ S.length - S.length / 2 → q ≡ S.length / 2 → n ≡ p + q →
-    fronted n (alternated (windowed e p x) (windowed o q x)) z ≡ fronted S.length (joined S (halves_of S x)) z
-turns-are S x z e o p q n h ep eq en =
+turns-are : (S : Side) (f : ℤ → ℤ) (x z : ℕ → ℤ) (e o p q n : ℕ) → Halves S 0 e o → p ≡ S.length - S.length / 2 → q ≡ S.length / 2 → n ≡ p + q →
+    fronted n (λ i. f (alternated (windowed e p x) (windowed o q x) i)) z ≡ fronted S.length (λ i. f (joined S (halves_of S x) i)) z
+turns-are S f x z e o p q n h ep eq en =
     let a = windowed e p x in
     let b = windowed o q x in
     let y = joined S (halves_of S x) in
@@ -60,7 +62,7 @@ turns-are S x z e o p q n h ep eq en =
     elim (dec_lt j S.length) [
       | yes l ↦
           front_at n _ z j (omega arith)
-          ∙ elim (ℕ_discrete (j % 2) 0) [
+          ∙ ap f (elim (ℕ_discrete (j % 2) 0) [
             | yes z ↦
                 let k : j ≡ 2 * (j / 2) = omega arith in
                 let m : e + j / 2 ≡ begins S (evens S) + j / 2 = omega arith in
@@ -71,7 +73,7 @@ turns-are S x z e o p q n h ep eq en =
                 let m : o + j / 2 ≡ begins S (odds S) + j / 2 = omega arith in
                 ap (alternated a b) k ∙ second_is n a b x (j / 2) ∙ window-in o q x (j / 2) (omega arith) ∙ ap x m
                 ∙ sym (ap y k ∙ odd_place S (halves_of S x) (j / 2) ∙ half-at S x (odds S) (j / 2))
-          ]
+          ])
           ∙ sym (front_at S.length _ z j l)
       | no l ↦ front_rest n _ z j (omega arith) ∙ sym (front_rest S.length _ z j (omega arith))
     ]
@@ -86,14 +88,15 @@ module _ (S : Side) (l : List ℤ) (a b p q : ℕ) (h : Halves S 0 a b) (room : 
       × (length (mid_of a p l) + length (mid_of b q l) ≤ L)
   parts-fit L le = let s = sizes in (omega arith, omega arith, omega arith)
 
-  pub parts-interleaved : (z w : ℕ → ℤ) → w ≡ fronted (length (mid_of a p l) + length (mid_of b q l)) (alternated (at (mid_of a p l)) (at (mid_of b q l))) z
-      → w ≡ fronted S.length (joined S (halves_of S (at l))) z
-  parts-interleaved z w e =
+  pub parts-interleaved : (f : ℤ → ℤ) (z w : ℕ → ℤ)
+      → w ≡ fronted (length (mid_of a p l) + length (mid_of b q l)) (λ i. f (alternated (at (mid_of a p l)) (at (mid_of b q l)) i)) z
+      → w ≡ fronted S.length (λ i. f (joined S (halves_of S (at l)) i)) z
+  parts-interleaved f z w e =
       let s = sizes in
       let n = length (mid_of a p l) + length (mid_of b q l) in
-      e ∙ ap (λ (f : ℕ → ℤ). fronted n (alternated f (at (mid_of b q l))) z) (at_mid a p l)
-      ∙ ap (λ (f : ℕ → ℤ). fronted n (alternated (windowed a p (at l)) f) z) (at_mid b q l)
-      ∙ turns-are S (at l) z a b p q n h ep eq (omega arith)
+      e ∙ ap (λ (v : ℕ → ℤ). fronted n (λ i. f (alternated v (at (mid_of b q l)) i)) z) (at_mid a p l)
+      ∙ ap (λ (v : ℕ → ℤ). fronted n (λ i. f (alternated (windowed a p (at l)) v i)) z) (at_mid b q l)
+      ∙ turns-are S f (at l) z a b p q n h ep eq (omega arith)
 
 -- ---- within one area: the numbers at `even` and at `odd` in turn, n of them, laid from `to` on, before both
 module _ (to even odd n : ℕ) (x : ℕ → ℤ) where

@@ -6,3 +6,4 @@ pub mod Splices
 pub mod HalfLaws
 pub mod ApartLaws
 mod Clauses
+pub mod ElementLaws

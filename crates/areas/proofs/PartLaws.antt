@@ -1,5 +1,5 @@
 -- A row in halves whose line starts at any coordinate: its even places are one half and its odd places the other, whichever these are. Assumes nothing.
-use mathlib.Core.Path.{◌≡◌, refl, sym, ap, ◌∙◌, subst}
+use mathlib.Core.Path.{◌≡◌, refl, sym, ap, ◌∙◌, subst, fun_ext}
 use mathlib.Core.List.{List}
 use Prim.Native.Nat.{ℕ, ◌+◌, ◌-◌, ◌*◌, ◌/◌, ◌%◌, ◌≤◌, ◌<◌}
 use native.Mathlib.Omega.{arith}
@@ -26,6 +26,10 @@ module _ (a m : ℕ) (f z : ℕ → ℤ) where
       Swept L (spliced a m f z) z (a + (n + 1)) (set l (a + n) (f n))
   splice-turn L n l h room sw =
       subst (λ (k : ℕ). Swept L (spliced a m f z) z k (set l (a + n) (f n))) (omega arith) (store (f n) sw (omega arith) (sym (splice_at (a + n) n refl h)))
+
+-- the places from the first on
+pub from_first : (a m : ℕ) (f z w : ℕ → ℤ) → w ≡ spliced a m (λ j. f (2 * j + 0)) z → w ≡ spliced a m (λ j. f (2 * j)) z
+from_first a m f z w e = e ∙ ap (λ (v : ℕ → ℤ). spliced a m v z) (fun_ext λ j. ap f (omega arith))
 
 -- ---- the halves of a line
 module _ (S : Side) where

@@ -1,2 +1,4 @@
 pub mod Areas
+pub mod Elements
+pub mod Kept
 pub mod Places

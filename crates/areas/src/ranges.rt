@@ -9,10 +9,8 @@ pub fn all_between(row: &[i32], low: i32, high: i32) -> bool
     ensures { result ≡ every (length row.now) (λ i. between low high (at row.now i)) }
 {
     let mut ok = true;
-    let mut i = 0;
-    while i < row.len() {
-        ok = ok & (low <= row[i]) & (row[i] <= high);
-        i += 1;
+    for v in row {
+        ok = ok & (low <= *v) & (*v <= high);
     }
     ok
 }

@@ -144,7 +144,7 @@ fn put_heights(
     let e = from + width;
     let a = r * width;
     let f = a + width;
-    areas::height_rows::draw_heights(&lines[from..e], x, &mut heights[a..f]);
+    let _ = areas::lines::interleave_line(&lines[from..e], x, &mut heights[a..f]);
     if sure {
         return true;
     }
@@ -180,7 +180,7 @@ fn put_numbers(
     let e = from + width;
     let a = r * width;
     let f = a + width;
-    areas::lines::interleave_line(&lines[from..e], x, &mut work[a..f]);
+    let _ = areas::lines::interleave_line(&lines[from..e], x, &mut work[a..f]);
     all_in_range(&lines[from..e], level)
 }
 

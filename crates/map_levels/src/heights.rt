@@ -24,7 +24,7 @@ fn load_to(heights: &[u16], m: usize, plane: &mut [i32], r: usize, x: usize, wid
     let e = a + width;
     let b = r * width;
     let f = b + width;
-    areas::height_rows::load_heights(&heights[a..e], x, &mut plane[b..f]);
+    let _ = areas::lines::part_line(&heights[a..e], x, &mut plane[b..f]);
 }
 
 // The heights of a map to the plane as a level takes them: the rows at even coordinates first, each row in halves. They are read one after the other, two a
@@ -62,9 +62,9 @@ fn finish_row(row: &mut [i32], x: usize, heights: &mut [u16])
         (heights_at heights.old) }
     ensures row_after { at row.new ≡ fronted (length row.old) (λ _. pos 0) (at row.old) }
 {
-    areas::height_rows::draw_heights(row, x, heights);
+    let _ = areas::lines::interleave_line(row, x, heights);
     let n = row.len();
-    areas::copies::clear(row, n);
+    let _ = areas::copies::clear(row, n);
 }
 
 // The work area's rows in halves to heights, each tested, stored and cleared while it is near. False at the first number that is no height.

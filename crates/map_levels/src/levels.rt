@@ -45,7 +45,7 @@ pub fn copy_part(from: &[i32], a: usize, to: &mut [i32], b: usize, n: usize)
 {
     let e = a + n;
     let f = b + n;
-    areas::copies::copy(&from[a..e], &mut to[b..f]);
+    let _ = areas::copies::copy(&from[a..e], &mut to[b..f]);
 }
 
 // The same, a row that goes from its own order into halves.
@@ -56,7 +56,7 @@ pub fn halve_part(from: &[i32], a: usize, to: &mut [i32], b: usize, x: usize, n:
 {
     let e = a + n;
     let f = b + n;
-    areas::lines::part_line(&from[a..e], x, &mut to[b..f]);
+    let _ = areas::lines::part_line(&from[a..e], x, &mut to[b..f]);
 }
 
 // A grid from the plane's corner to the work area, its rows one after the other.

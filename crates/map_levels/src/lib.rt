@@ -102,7 +102,7 @@ fn transform(
     ensures work_after { at work.new ≡ fronted (width * height) zeros (at work.old) }
 {
     lift_by(heights, x, width, y, height, levels, plane, work, filter);
-    areas::copies::clear(work, width * height);
+    let _ = areas::copies::clear(work, width * height);
 }
 
 // The plane of a map of heights. It answers 0, or the number of the question that turned it away.
@@ -164,7 +164,7 @@ fn rebuild_swept(
     ) {
         return false;
     }
-    areas::copies::clear(work, width * height);
+    let _ = areas::copies::clear(work, width * height);
     true
 }
 
@@ -238,8 +238,8 @@ fn restore(
         return 7;
     }
     if !rebuild(plane, x, width, y, height, levels, heights, work, filter) {
-        areas::height_rows::clear_heights(heights, width * height);
-        areas::copies::clear(work, width * height);
+        let _ = areas::copies::clear(heights, width * height);
+        let _ = areas::copies::clear(work, width * height);
         return 14;
     }
     0

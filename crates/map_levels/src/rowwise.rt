@@ -34,6 +34,6 @@ pub fn interleave(row: &mut [i32], x: usize, line: &mut [i32], low: i32, high: i
 {
     let n = row.len();
     let ok = copy_tested(row, line, low, high);
-    areas::lines::interleave_line(&line[0..n], x, row);
+    let _ = areas::lines::interleave_line(&line[0..n], x, row);
     ok
 }

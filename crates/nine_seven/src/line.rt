@@ -197,7 +197,7 @@ pub fn forward(line: &[i32], start: usize, out: &mut [i32]) -> u8
     if out.len() < n {
         return 5;
     }
-    lines::part_line(line, start, out);
+    let _ = lines::part_line(line, start, out);
     lift(&mut out[0..n], start);
     0
 }

@@ -146,7 +146,7 @@ pub fn feed(s: Reader, store: &mut [i32], run: &[i32]) -> Fed
     if r != 0 {
         return Fed::Refused(r);
     }
-    copies::copy(run, store);
+    let _ = copies::copy(run, store);
     Fed::Passed(moved(s, s.drawn, 4))
 }
 

@@ -172,7 +172,7 @@ impl Reader {
             return SetUp::Refused(q);
         }
         let n = filters::store_length(filter, map.width, x, map.levels);
-        copies::clear(store, n);
+        let _ = copies::clear(store, n);
         SetUp::Ready(Reader::begun(0, filter, map.levels, x, map.width, y, map.height, 0, 0))
     }
 
@@ -243,7 +243,7 @@ impl Reader {
             return SetUp::Refused(q);
         }
         let n = filters::store_length(filter, map.width, x, map.levels);
-        copies::clear(store, n);
+        let _ = copies::clear(store, n);
         SetUp::Ready(stops::reader_at(filter, map.levels, x, map.width, y, map.height, stop, n))
     }
 
@@ -260,7 +260,7 @@ impl Reader {
             return SetUp::Refused(q);
         }
         let n = filters::store_length(0, width, 0, levels);
-        copies::clear(store, n);
+        let _ = copies::clear(store, n);
         SetUp::Ready(Reader::begun(1, 0, levels, 0, width, 0, height, 0, 0))
     }
 

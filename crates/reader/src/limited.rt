@@ -8,7 +8,7 @@ ghost use Rattle.lifting.specs.GridHalves.{halves_of};
 ghost use Rattle.areas.specs.Areas.{heights_at, wholes};
 ghost use Rattle.reader.specs.Limited.{limited, shown};
 
-use areas::{height_rows, rows};
+use areas::{lines, rows};
 use wavelet::limits;
 
 // A value limited to 0 to 65,535.
@@ -78,7 +78,7 @@ pub fn draw_row(stop: usize, row: &[i32], start: usize, out: &mut [u16])
         (heights_at out.old) }
 {
     if stop == 0 {
-        height_rows::draw_heights(row, start, out);
+        let _ = lines::interleave_line(row, start, out);
         return;
     }
     interleave_limited(row, start, out);

@@ -193,7 +193,7 @@ fn put_row(
 {
     let a = l.start + walk::half_place(filter, l.x, l.width, l.set, band);
     let e = a + run.len();
-    copies::copy(run, &mut store[a..e]);
+    let _ = copies::copy(run, &mut store[a..e]);
 }
 
 // Where the reader goes on after the set of n is worked out: to the next finer level, if a row is made that waits, else to the next set.

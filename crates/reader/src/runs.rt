@@ -174,7 +174,7 @@ fn last_feed(s: Reader, p: Place, store: &mut [i32], run: &[i32], done: Tally) -
     if !questions::run_fits(s.filter, &run[a..e], s.stop) {
         return stays(where_some(7, run.len()), done, p);
     }
-    copies::copy(&run[a..e], store);
+    let _ = copies::copy(&run[a..e], store);
     let l = p.at;
     goes(
         done,

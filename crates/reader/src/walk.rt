@@ -243,7 +243,7 @@ pub fn put_row(
 {
     let a = l.start + half_place(filter, l.x, l.width, l.set, band);
     let e = a + run.len();
-    copies::copy(run, &mut store[a..e]);
+    let _ = copies::copy(run, &mut store[a..e]);
 }
 
 // A set worked out in its level's stretch by the admission: strictly, or with each value limited. Whether it went on.
@@ -381,5 +381,5 @@ pub fn zero(filter: usize, x: usize, width: usize, levels: usize, spare: usize, 
     ensures { at store.new ≡ zeroed (spare + store_by filter (side x width) levels) (at store.old) }
 {
     let n = spare + filters::store_length(filter, width, x, levels);
-    copies::clear(store, n);
+    let _ = copies::clear(store, n);
 }

@@ -59,7 +59,7 @@ fn mend_map(
 {
     let n = width * height;
     mend_window(heights, width, height, levels, q, plane, &mut work[0..n]);
-    areas::copies::clear(work, n);
+    let _ = areas::copies::clear(work, n);
 }
 
 // The plane of a map mended after a stroke in a rectangle of it, the heights being the new ones. It answers 0, or the number of the question that turned it

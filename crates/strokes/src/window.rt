@@ -85,7 +85,7 @@ fn lift_row(row: &mut [i32], other: &mut [i32], used: bool)
         return;
     }
     let n = row.len();
-    areas::copies::copy(row, other);
+    let _ = areas::copies::copy(row, other);
     line::forward(&other[0..n], 0, row);
 }
 

@@ -110,7 +110,7 @@ pub fn work_set(
     if work::work_set(stretch, filter, last, k, w, h, x, y, n) {
         return 0;
     }
-    copies::clear(stretch, filters::rows_kept(filter) * w);
+    let _ = copies::clear(stretch, filters::rows_kept(filter) * w);
     14
 }
 
@@ -133,6 +133,6 @@ pub fn work_tolerant(stretch: &mut [i32], last: bool, k: usize, w: usize, h: usi
     if tolerant::work_set(stretch, last, k, w, h, n) {
         return 0;
     }
-    copies::clear(stretch, filters::rows_kept(0) * w);
+    let _ = copies::clear(stretch, filters::rows_kept(0) * w);
     14
 }

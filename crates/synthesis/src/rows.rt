@@ -169,5 +169,5 @@ pub fn take_low_row(
     let low = sizes::low_count(x, w);
     let from = filters::rows_kept(filter) * w + row_place(filter, low, sets::low_row(y, n));
     let to = row_place(filter, w, 2 * n);
-    lines::interleave_down(stretch, sizes::next_start(x), from, to, low);
+    let _ = lines::interleave_down(stretch, sizes::next_start(x), from, to, low);
 }

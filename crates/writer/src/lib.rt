@@ -152,7 +152,7 @@ impl Writer {
             return SetUp::Refused(no);
         }
         let n = filters::writer_store_length(filter, shape.width, x, shape.levels);
-        copies::clear(store, n);
+        let _ = copies::clear(store, n);
         SetUp::Ready(Writer {
             width: shape.width,
             levels: shape.levels,

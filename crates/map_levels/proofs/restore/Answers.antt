@@ -37,11 +37,11 @@ overflow_mul-width-then-not-rebuild c = omega arith
 
 pub shape_of-heights-then-not-rebuild : goal.shape_of-heights-then-not-rebuild
 shape_of-heights-then-not-rebuild c =
-    c.clear_heights.auto.heights ∙ c.rebuild.auto.heights
+    c.clear.auto.area ∙ c.rebuild.auto.heights
 
 pub shape_of-work-then-not-rebuild : goal.shape_of-work-then-not-rebuild
 shape_of-work-then-not-rebuild c =
-    c.clear.auto.area ∙ c.rebuild.auto.work
+    c.clear-then-not-rebuild.auto.area ∙ c.rebuild.auto.work
 
 pub returns-then-not-rebuild : goal.returns-then-not-rebuild
 returns-then-not-rebuild c =
@@ -52,9 +52,9 @@ returns-then-not-rebuild c =
       value = not-rebuilt (filter_of c.args.filter) (filter-laws c.args.filter) _ _ _ _ _ c.plane_in_range.ensures
           (not-false _ c.if-not-plane_in_range.false-raw) _ b.answer (not-true _ c.if-not-rebuild.true-raw);
       heights_after = cleared _ _ _ _ _ c.requires.0.height.0 b.kept_heights
-          (did _ _ _ _ (room _ _ c.rebuild.auto.heights c.requires.2) c.clear_heights.ensures.area) ∙ sym (rebuilt-zero _ _ _);
+          (did _ _ _ _ (room _ _ c.rebuild.auto.heights c.requires.2) c.clear.ensures.area) ∙ sym (rebuilt-zero _ _ _);
       work_after = cleared _ _ _ _ _ c.requires.0.height.0 b.kept
-          (did _ _ _ _ (room _ _ c.rebuild.auto.work c.requires.3) c.clear.ensures.area) ∙ sym (rebuilt-zero _ _ _);
+          (did _ _ _ _ (room _ _ c.rebuild.auto.work c.requires.3) c.clear-then-not-rebuild.ensures.area) ∙ sym (rebuilt-zero _ _ _);
     }
 
 pub shape_of-heights : goal.shape_of-heights

@@ -1,11 +1,8 @@
-use mathlib.Core.Path.{◌≡◌, ◌∙◌}
-use Prim.Native.Nat.{◌+◌, ◌-◌, ◌*◌, ◌/◌, ◌≤◌}
+use mathlib.Core.Path.{◌∙◌}
 use native.Mathlib.Omega.{arith}
-use lib.ListN.{length}
-use Rattle.numbers.specs.Signal.{at}
-use Rattle.numbers.proofs.Sweep.{Swept, start}
+use Rattle.numbers.proofs.Sweep.{start}
 use Rattle.numbers.proofs.Parts.{splice-below}
-use Rattle.areas.proofs.InterleaveLaws.{interleaved, interleave-eight, interleave-end}
+use Rattle.areas.proofs.InterleaveLaws.{interleave-eight, interleave-end}
 use Rattle.areas.proofs.lines.interleave_pairs.Goals as goal
 
 pub loop-j-init : goal.loop-j-init

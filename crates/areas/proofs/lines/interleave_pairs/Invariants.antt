@@ -1,12 +1,10 @@
 -- `areas::lines::interleave_pairs` meets its contract: a sweep from place `to` on, eight places a turn, and the rest by `interleave_rest`. Assumes nothing.
-use mathlib.Core.Path.{◌≡◌, ◌∙◌}
+use mathlib.Core.Path.{◌≡◌}
 use Prim.Native.Nat.{◌+◌, ◌-◌, ◌*◌, ◌/◌, ◌≤◌}
-use native.Mathlib.Omega.{arith}
 use lib.ListN.{length}
 use Rattle.numbers.specs.Signal.{at}
-use Rattle.numbers.proofs.Sweep.{Swept, start}
-use Rattle.numbers.proofs.Parts.{splice-below}
-use Rattle.areas.proofs.InterleaveLaws.{interleaved, interleave-eight, interleave-end}
+use Rattle.numbers.proofs.Sweep.{Swept}
+use Rattle.areas.proofs.InterleaveLaws.{interleaved}
 use Rattle.areas.proofs.lines.interleave_pairs.Given as goal
 
 abbrev pub invariant-loop-j : goal.invariant-loop-j

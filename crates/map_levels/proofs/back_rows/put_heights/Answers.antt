@@ -17,8 +17,8 @@ returns-then-sure c =
     let k = p + a.width - p in
     λ x₀.
     heights-put a.x a.width a.r a.from m k a.lines.now (omega arith) (omega arith) c.requires.0 a.heights.now
-    c.draw_heights.new.out _ x₀
-    c.requires.1 c.draw_heights.auto.out c.draw_heights.ensures.area
+    c.interleave_line.new.line _ x₀
+    c.requires.1 c.interleave_line.auto.line c.interleave_line.ensures.area
     (all-heights a.width (λ j. at a.lines.now (a.from + j)) (c.requires.2 c.if-sure.true))
 
 pub returns : goal.returns
@@ -29,7 +29,7 @@ returns c =
     let k = p + a.width - p in
     λ x₀.
     heights-put a.x a.width a.r a.from m k a.lines.now (omega arith) (omega arith) c.requires.0 a.heights.now
-    c.draw_heights.new.out _ x₀
-    c.requires.1 c.draw_heights.auto.out c.draw_heights.ensures.area
+    c.interleave_line.new.line _ x₀
+    c.requires.1 c.interleave_line.auto.line c.interleave_line.ensures.area
     (c.all_heights.ensures ∙ lent-test (between (pos 0) (pos max_sample)) a.from m a.width a.lines.now (omega arith) c.requires.0
     ∙ heights-test a.width (λ j. at a.lines.now (a.from + j)))

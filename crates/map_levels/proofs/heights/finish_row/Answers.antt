@@ -11,7 +11,7 @@ use Rattle.map_levels.proofs.heights.finish_row.Goals as goal
 
 pub returns : goal.returns
 returns c =
-    let drawn = c.draw_heights in
+    let drawn = c.interleave_line in
     let row = c.args.row.now in
     let n = length row in
     record {

@@ -18,7 +18,7 @@ overflow_add-f c = omega arith
 
 pub returns : goal.returns
 returns c =
-    let called = c.load_heights in
+    let called = c.part_line in
     let args = c.args in
     let w = args.width in
     let a = args.m * w in

@@ -7,13 +7,13 @@ use Rattle.reader.proofs.LimitedLaws.{shown-none, shown-some}
 use Rattle.reader.proofs.limited.draw_row.Goals as goal
 
 pub shape_of-out-then-stop-eq0 : goal.shape_of-out-then-stop-eq0
-shape_of-out-then-stop-eq0 c = c.draw_heights.auto.out
+shape_of-out-then-stop-eq0 c = c.interleave_line.auto.line
 
 pub returns-then-stop-eq0 : goal.returns-then-stop-eq0
 returns-then-stop-eq0 c =
     let a = c.args in
     shown-none a.stop c.if-stop-eq0.true _ _ _ _
-    (did _ _ _ _ (le-leb (length a.row.now) (length a.out.now) c.requires) c.draw_heights.ensures.area)
+    (did _ _ _ _ (le-leb (length a.row.now) (length a.out.now) c.requires) c.interleave_line.ensures.area)
 
 pub interleave_limited-requires : goal.interleave_limited-requires
 interleave_limited-requires c = c.requires
