@@ -143,7 +143,7 @@ made-cut b u n x e h = h ∙ sym (pick_yes b _ _ e)
 pub made-raise : (b : Bool) (u n x : ℕ) → b ≡ false → x ≡ u + n → x ≡ pick b (u - n) (u + n)
 made-raise b u n x e h = h ∙ sym (pick_no b _ _ e)
 
-pub cell-eq : (H W r c : ℕ) {p p' q q' l l' : Five} {v v' : ℕ} → p ≡ p' → q ≡ q' → l ≡ l' → v ≡ v'
-    → ◌≡◌ {A = Cell} (record { height = H; width = W; row = r; column = c; rows = p; columns = q; lows = l; value = v })
-    (record { height = H; width = W; row = r; column = c; rows = p'; columns = q'; lows = l'; value = v' })
-cell-eq H W r c a b d e = λ i. record { height = H; width = W; row = r; column = c; rows = a i; columns = b i; lows = d i; value = e i }
+pub cell-eq : (w : List ℕ) (H W r c : ℕ) {p p' q q' l l' : Five} {v v' : ℕ} → p ≡ p' → q ≡ q' → l ≡ l' → v ≡ v'
+    → ◌≡◌ {A = Cell} (record { window = w; height = H; width = W; row = r; column = c; rows = p; columns = q; lows = l; value = v })
+    (record { window = w; height = H; width = W; row = r; column = c; rows = p'; columns = q'; lows = l'; value = v' })
+cell-eq w H W r c a b d e = λ i. record { window = w; height = H; width = W; row = r; column = c; rows = a i; columns = b i; lows = d i; value = e i }

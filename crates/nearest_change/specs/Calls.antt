@@ -1,5 +1,7 @@
 -- What the call answers.
-use Rattle.std.specs.Prelude.{◌≡◌, List, ℕ, ◌*◌, ◌<◌, get_or, leb, ltb}
+use Rattle.std.specs.Prelude.{◌≡◌, List, ℕ, ◌*◌, ◌<◌, get_or, leb, ltb, Result, Ok, Err}
+use Rattle.refusal.specs.Numbers.{number}
+use Rattle.refusal.specs.declared.Refusal.{Refusal}
 use Rattle.numbers.specs.Signal.{both}
 use Rattle.lifting.specs.Grid.{side}
 use Rattle.wavelet.specs.Limits.{max_width, max_height}
@@ -8,8 +10,6 @@ use Rattle.wavelet.specs.Bands.{LL}
 use Rattle.wavelet.specs.View.{band_rows, band_columns}
 use Rattle.nearest_change.specs.NearestChange.{Ground, IsNearest}
 use Rattle.nearest_change.specs.declared.Change.{Change}
-use Rattle.nearest_change.specs.declared.Nearest.{Nearest}
-use Rattle.nearest_change.specs.declared.Nearest.TheVariants.{At, Refused}
 
 -- "Questions 2, 3 and 5 are asked as of the whole map. Cell numbers outside LL give 6." n is the number of heights lent.
 unfoldable pub nearest_question : ℕ → ℕ → ℕ → ℕ → ℕ → ℕ
@@ -21,9 +21,9 @@ nearest_question n W H r c =
     0)))
 
 -- the nearest change where the question q is 0, and else its number
-unfoldable pub Answers : ℕ → ℕ → ℕ → Ground → ℕ → ℕ → Nearest → Type 0
-Answers q W H g r c (At d) = (q ≡ 0) × IsNearest W H g r c d
-Answers q W H g r c (Refused n) = (q ≡ n) × (0 < n)
+unfoldable pub Answers : ℕ → ℕ → ℕ → Ground → ℕ → ℕ → Result Change Refusal → Type 0
+Answers q W H g r c (Ok d) = (q ≡ 0) × IsNearest W H g r c d
+Answers q W H g r c (Err why) = (q ≡ number why) × (0 < number why)
 
 -- a change in an array of three numbers
 abbrev pub change_in : List ℕ → Change

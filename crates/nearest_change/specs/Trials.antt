@@ -83,6 +83,7 @@ lows_in w =
 abbrev pub cell_in : List ℕ → ℕ → ℕ → ℕ → ℕ → Cell
 cell_in w H W r c =
     record {
+      window = w;
       height = H;
       width = W;
       row = r;

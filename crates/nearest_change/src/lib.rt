@@ -9,7 +9,9 @@ ghost use Rattle.std.specs.Prelude.{◌≡◌, ℕ, ◌<◌, length, get_or};
 ghost use Rattle.nearest_change.specs.NearestChange.{ground_of};
 ghost use Rattle.nearest_change.specs.Calls.{nearest_question, Answers};
 ghost use Rattle.nearest_change.specs.Trials.{Ready, IsFirst, Makes, cell_in, tried, made_by};
+ghost use Rattle.refusal.specs.Numbers.{answer};
 
+use refusal::Refusal;
 use trial::Cell;
 use wavelet::{limits, sizes};
 
@@ -21,46 +23,40 @@ pub struct Change {
     pub height: usize,
 }
 
-// The nearest change, or the number of the question that turned the call away.
-#[derive(Clone, Copy)]
-pub enum Nearest {
-    At(Change),
-    Refused(u8),
-}
-
-// Questions 2, 3, 5 and 6, of n heights: 0, or the number of the first that says no.
-fn question(n: usize, width: usize, height: usize, row: usize, column: usize) -> u8
-    ensures { result ≡ nearest_question n width height row column }
+// Questions 2, 3, 5 and 6, of n heights: the first that says no.
+fn question(n: usize, width: usize, height: usize, row: usize, column: usize) -> Result<(), Refusal>
+    ensures { answer result ≡ nearest_question n width height row column }
 {
     if !limits::is_within(width, limits::MAX_WIDTH) {
-        return 2;
+        return Err(Refusal::BadWidth);
     }
     if !limits::is_within(height, limits::MAX_HEIGHT) {
-        return 3;
+        return Err(Refusal::BadHeight);
     }
     if n < width * height {
-        return 5;
+        return Err(Refusal::AreaShort);
     }
     if sizes::low_count(0, height) <= row {
-        return 6;
+        return Err(Refusal::NoBandRow);
     }
     if sizes::low_count(0, width) <= column {
-        return 6;
+        return Err(Refusal::NoBandRow);
     }
-    0
+    Ok(())
 }
 
 // The cell beside its window.
-fn cell(w: &[usize; 25], height: usize, width: usize, row: usize, column: usize) -> Cell
-    requires by_index { (j : ℕ) → get_or w.now j 0 < 65536 }
+fn cell(window: [usize; 25], height: usize, width: usize, row: usize, column: usize) -> Cell
+    requires by_index { (j : ℕ) → get_or window j 0 < 65536 }
     requires row_lt_height { (row < height) × (column < width) × (height < 4294967296) × (width < 4294967296) }
-    ensures { result ≡ cell_in w.now height width row column }
+    ensures { result ≡ cell_in window height width row column }
 {
     let rows = five::places(height, row);
     let columns = five::places(width, column);
-    let lows = window::lows(w);
+    let lows = window::lows(&window);
     let value = five::lifted(lows);
     Cell {
+        window,
         height,
         width,
         row,
@@ -73,18 +69,16 @@ fn cell(w: &[usize; 25], height: usize, width: usize, row: usize, column: usize)
 }
 
 // The first trial that works.
-fn first(w: &[usize; 25], cell: Cell) -> usize
-    requires { Ready w.now cell }
-    ensures { IsFirst (tried w.now cell) result }
+fn first(cell: &Cell) -> usize
+    requires { Ready cell.now.window cell.now }
+    ensures { IsFirst (tried cell.now.window cell.now) result }
 {
-    let mut t = 0;
-    while t < 200 {
-        if trial::works(w, cell, t) {
+    for t in 0..200 {
+        if cell.works(t) {
             return t;
         }
-        t += 1;
     }
-    t
+    200
 }
 
 // The change that trial t makes.
@@ -105,20 +99,23 @@ fn made(w: &[usize; 25], row: usize, column: usize, t: usize) -> Change
 }
 
 // The nearest change that alters the cell in this row and column. The questions are 2, 3, 5 and 6.
-pub fn find(heights: &[u16], width: usize, height: usize, row: usize, column: usize) -> Nearest
+pub fn find(
+    heights: &[u16],
+    width: usize,
+    height: usize,
+    row: usize,
+    column: usize,
+) -> Result<Change, Refusal>
     ensures { Answers (nearest_question (length heights.now) width height row column) width height
         (ground_of width heights.now) row column result }
 {
-    let no = question(heights.len(), width, height, row, column);
-    if no != 0 {
-        return Nearest::Refused(no);
-    }
+    question(heights.len(), width, height, row, column)?;
     let w = window::window(
         heights,
         width,
         five::places(height, row),
         five::places(width, column),
     );
-    let t = first(&w, cell(&w, height, width, row, column));
-    Nearest::At(made(&w, row, column, t))
+    let t = first(&cell(w, height, width, row, column));
+    Ok(made(&w, row, column, t))
 }

@@ -21,15 +21,13 @@ pub fn window(heights: &[u16], width: usize, rows: Five, columns: Five) -> [usiz
     ensures by_index { (j : ℕ) → get_or result j 0 < 65536 }
 {
     let mut w = [0; 25];
-    let mut j = 0;
-    while j < 25 {
+    for j in 0..25 {
         w[j] = height(
             heights,
             width,
             five::number(rows, j % 5),
             five::number(columns, j / 5),
         );
-        j += 1;
     }
     w
 }

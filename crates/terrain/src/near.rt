@@ -4,8 +4,6 @@ ghost use Rattle.numbers.specs.Signal.{pick};
 ghost use Rattle.nearest_change.specs.NearestChange.{ground_of, IsNearest};
 ghost use Rattle.nearest_change.specs.Calls.{nearest_question, change_in};
 
-use nearest_change::Nearest;
-
 // The nearest change that alters a cell of the level-1 LL: row, column and new height. The questions are 2, 3, 5 and 6; a no leaves all three numbers.
 pub fn terrain_nearest_change(
     heights: &[u16],
@@ -20,10 +18,10 @@ pub fn terrain_nearest_change(
         (change.new ≡ change.old) }
 {
     match nearest_change::find(heights, width, height, row, column) {
-        Nearest::At(c) => {
+        Ok(c) => {
             *change = [c.row as u64, c.column as u64, c.height as u64];
             0
         }
-        Nearest::Refused(no) => no as u32,
+        Err(why) => why.number() as u32,
     }
 }

@@ -7,8 +7,8 @@ use Rattle.nearest_change.proofs.cell.Goals as goal
 
 pub lifted-value-requires : goal.lifted-value-requires
 lifted-value-requires c =
-    small_of (2 * bias) _ (lows_in c.args.w.now) c.lows-lows.ensures (lows-small c.args.w.now c.requires.by_index)
+    small_of (2 * bias) _ (lows_in c.args.window) c.lows-lows.ensures (lows-small c.args.window c.requires.by_index)
 
 pub returns : goal.returns
 returns c =
-    cell-eq _ _ _ _ c.places-rows.ensures c.places-columns.ensures c.lows-lows.ensures (c.lifted-value.ensures ∙ ap lifted_of c.lows-lows.ensures)
+    cell-eq _ _ _ _ _ c.places-rows.ensures c.places-columns.ensures c.lows-lows.ensures (c.lifted-value.ensures ∙ ap lifted_of c.lows-lows.ensures)

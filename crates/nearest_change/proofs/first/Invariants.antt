@@ -1,12 +1,7 @@
 -- `first`: no trial before t works. Assumes nothing.
-use mathlib.Core.Path.{◌≡◌}
-use mathlib.Core.Bool.{false}
-use Prim.Native.Nat.{ℕ, ◌-◌, ◌≤◌, ◌<◌}
+use Rattle.std.proofs.Common.{◌≡◌, false, ℕ, ◌<◌}
 use Rattle.nearest_change.specs.Trials.{tried}
 use Rattle.nearest_change.proofs.first.Given as goal
 
 abbrev pub invariant-loop-t : goal.invariant-loop-t
-invariant-loop-t l = (l.t ≤ 200) × ((s : ℕ) → s < l.t → tried l.w l.cell s ≡ false)
-
-abbrev pub decreases-loop-t : goal.decreases-loop-t
-decreases-loop-t l = 200 - l.t
+invariant-loop-t l = (s : ℕ) → s < l.t → tried l.cell.window l.cell s ≡ false

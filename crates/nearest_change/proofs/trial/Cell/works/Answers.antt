@@ -3,17 +3,17 @@ use mathlib.Core.Path.{sym, ◌∙◌}
 use native.Mathlib.Omega.{arith}
 use borrow.Author.Tests.{not-true, not-false}
 use Rattle.nearest_change.proofs.StepLaws.{outside-rows, outside-columns, tried_of, inside-from}
-use Rattle.nearest_change.proofs.trial.works.Goals as goal
+use Rattle.nearest_change.proofs.trial.Cell.works.Goals as goal
 
 pub returns-then-not-is_inside : goal.returns-then-not-is_inside
 returns-then-not-is_inside c =
     let a = c.args in
-    outside-rows a.w.now a.cell a.t (sym c.is_inside.ensures ∙ not-true _ c.if-not-is_inside.true-raw)
+    outside-rows a.self.now.window a.self.now a.t (sym c.is_inside.ensures ∙ not-true _ c.if-not-is_inside.true-raw)
 
 pub returns-then-not-is_inside-2 : goal.returns-then-not-is_inside-2
 returns-then-not-is_inside-2 c =
     let a = c.args in
-    outside-columns a.w.now a.cell a.t (sym c.is_inside.ensures ∙ not-false _ c.if-not-is_inside.false-raw)
+    outside-columns a.self.now.window a.self.now a.t (sym c.is_inside.ensures ∙ not-false _ c.if-not-is_inside.false-raw)
     (sym c.is_inside-2.ensures ∙ not-true _ c.if-not-is_inside-2.true-raw)
 
 pub alters_by-requires : goal.alters_by-requires
@@ -25,5 +25,5 @@ alters_by-requires c =
 pub returns : goal.returns
 returns c =
     let a = c.args in
-    tried_of a.w.now a.cell a.t _ (sym c.is_inside.ensures ∙ not-false _ c.if-not-is_inside.false-raw)
+    tried_of a.self.now.window a.self.now a.t _ (sym c.is_inside.ensures ∙ not-false _ c.if-not-is_inside.false-raw)
     (sym c.is_inside-2.ensures ∙ not-false _ c.if-not-is_inside-2.false-raw) c.alters_by.ensures

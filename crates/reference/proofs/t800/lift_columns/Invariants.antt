@@ -1,9 +1,0 @@
--- `reference::t800::lift_columns` is safe and ends. In the loop the area keeps its length. Assumes nothing.
-use Rattle.std.proofs.Common.{◌≡◌, ◌-◌, length}
-use Rattle.reference.proofs.t800.lift_columns.Given as goal
-
-abbrev pub invariant-loop-j : goal.invariant-loop-j
-invariant-loop-j l = (length l.book ≡ length l.initial.book)
-
-abbrev pub decreases-loop-j : goal.decreases-loop-j
-decreases-loop-j l = l.n - l.j
