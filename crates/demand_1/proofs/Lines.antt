@@ -22,8 +22,7 @@ use Rattle.wavelet.proofs.SideLaws.{count-le}
 use Rattle.wavelet.proofs.AskLaws.{asked, room, width-exactly, height-exactly}
 use Rattle.profile.specs.Profile.{profile}
 use Rattle.profile.specs.Calls.{heights, floats, profile_question, profiled, fronted as float_fronted}
-use Rattle.picture.specs.declared.form.Put.{Put}
-use Rattle.picture.specs.Form.{head_question, HeadPut, refused, written, answered}
+use Rattle.picture.specs.Form.{Put, head_question, HeadPut, refused, written, answered}
 use Rattle.level.specs.Level.{Memory}
 use Rattle.demand_1.specs.Words.{Kept, Surplus}
 use Rattle.demand_1.specs.Lines.{LineForward, LineBackward, LineUnlift, LineCalls, Profile, ProfileCalls}

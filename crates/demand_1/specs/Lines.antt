@@ -8,9 +8,8 @@ use Rattle.lifting.specs.GridHalves as five
 use Rattle.nine_seven.specs.Memory as nine
 use Rattle.wavelet.specs.Asks.{Asks, Passes, Width, Height}
 use Rattle.profile.specs.Calls.{floats, profile_question, smoothed}
-use Rattle.picture.specs.declared.form.Put.{Put}
-use Rattle.picture.specs.declared.form.Put.TheVariants as put
-use Rattle.picture.specs.Form.{HeadPut, answered}
+use Rattle.picture.specs.Form.{Put, HeadPut, answered}
+use Rattle.picture.specs.Form as put
 use Rattle.level.specs.Level.{Memory}
 use Rattle.demand_1.specs.Words.{Kept, Surplus}
 

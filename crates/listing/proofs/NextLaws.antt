@@ -1,15 +1,7 @@
 -- What a test says of numbers, over plain variables: in a function's own proof `omega` would read all of its places. Assumes nothing.
-use mathlib.Core.Path.{◌≡◌, sym, subst}
-use mathlib.Core.Bool.{true, false}
+use mathlib.Core.Path.{◌≡◌}
 use Prim.Native.Nat.{ℕ, ◌+◌, ◌-◌, ◌≤◌, ◌<◌, min}
 use native.Mathlib.Omega.{arith}
-use lib.Dec.{T}
-
-pub never : {A : Type 0} → false ≡ true → A
-never e = absurd (subst T (sym e) tt)
-
-pub is_none : {n : ℕ} → n ≤ 0 → n ≡ 0
-is_none h = omega arith
 
 pub is_some : {n : ℕ} → (n ≡ 0 → ⊥) → 0 < n
 is_some h = omega arith

@@ -1,6 +1,6 @@
 -- What a listing does, move by move: the bytes that each move reads of the input and those it writes. n and k are the lengths of line store and row area.
 -- proofs/ListingTheorem: whatever the calls, the bytes written are `due_of` the bytes read, and after the end of the input `listing_of` them.
-use Rattle.std.specs.Prelude.{Bool, true, false, ◌≡◌, List, [], ◌∷◌, ◌++◌, ℕ, ◌+◌, ◌*◌, ◌≤◌, ◌<◌, length, take, drop}
+use Rattle.std.specs.Prelude.{Bool, false, ◌≡◌, List, [], ◌∷◌, ◌++◌, ℕ, ◌+◌, ◌*◌, ◌≤◌, ◌<◌, length, take, drop}
 use Rattle.pgm.specs.Runs.{sample_size, heights_of}
 use Rattle.calls.specs.Lists.{gives}
 use Rattle.writer.specs.Answers.{Took}
@@ -89,11 +89,6 @@ busy_on s = (line_on s).part
 
 abbrev pub Stops : State → List ℕ → ℕ → List ℕ → ℕ → Bool → Type 0
 Stops = moves.Stops busy_on
-
--- one turn of it: something was read or written, or it stops
-pub data Onward (s : State) (p : List ℕ) (a a' : ℕ) (o : List ℕ) (b b' : ℕ) : Bool → Type 0 where
-  on : a + b < a' + b' → Onward s p a a' o b b' true
-  off : (i : Bool) → Stops s p a' o b' i → Onward s p a a' o b b' false
 
 -- ---- any calls, one after the other: u is all that was read of the pieces, t all that was written
 abbrev pub Session : ℕ → ℕ → State → List ℕ → List ℕ → State → Type 0

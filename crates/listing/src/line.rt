@@ -38,11 +38,9 @@ impl Line {
         Line {
             part: 1,
             level: levels,
-            band: 0,
             row: height,
             length: width,
-            value: 0,
-            done: 0,
+            ..Line::none()
         }
     }
 
@@ -51,12 +49,8 @@ impl Line {
     {
         Line {
             part: 2,
-            level: 0,
-            band: 0,
             row: number,
-            length: 0,
-            value: 0,
-            done: 0,
+            ..Line::none()
         }
     }
 
@@ -69,8 +63,7 @@ impl Line {
             band,
             row,
             length,
-            value: 0,
-            done: 0,
+            ..Line::none()
         }
     }
 
@@ -78,14 +71,6 @@ impl Line {
     pub fn with_done(self, done: usize) -> Self
         ensures { result ≡ done_part self done }
     {
-        Line {
-            part: self.part,
-            level: self.level,
-            band: self.band,
-            row: self.row,
-            length: self.length,
-            value: self.value,
-            done,
-        }
+        Line { done, ..self }
     }
 }

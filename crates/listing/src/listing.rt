@@ -1,14 +1,15 @@
 // The listing: bytes of the input in, bytes of the lines out. Each band row that comes due is written as a line before more input is read.
-ghost use Rattle.std.specs.Prelude.{◌≡◌, ◌≤◌, length};
+ghost use Rattle.std.specs.Prelude.{◌≡◌, ◌+◌, ◌≤◌, ◌<◌, eqb, length, IfSome, IfNone};
 ghost use Rattle.numbers.specs.Signal.{at};
 ghost use Rattle.pgm.specs.Limits.{max_picture_width};
 ghost use Rattle.listing.specs.States.{map_store, state_of, Leaves, started, end_state};
-ghost use Rattle.listing.specs.Moves.{Went, Stops, Onward};
+ghost use Rattle.listing.specs.Moves.{Went, Stops};
 
 use crate::line::Line;
 use crate::{reading, states, writing};
-use pgm::input::{Ended, Input};
+use pgm::input::{Incomplete, Input};
 use pgm::limits;
+use refusal::Refusal;
 use writer::Writer;
 
 #[derive(Clone, Copy)]
@@ -81,53 +82,47 @@ impl Listing {
         let mut state = self;
         let mut used = 0;
         let mut written = 0;
-        let mut going = true;
-        while going {
-            let t = turn(state, piece, used, store, row, out, written);
-            let next = t.listing;
-            state = next;
-            used = t.used;
-            written = t.written;
-            going = t.going;
+        while let Some(next) = turn(state, piece, used, store, row, out, written) {
+            state = next.listing;
+            used = next.used;
+            written = next.written;
         }
-        let line = state.line;
         Fed {
             listing: state,
             used,
             written,
-            idle: line.part == 0,
+            idle: state.line.part == 0,
         }
     }
 
     // The input has ended. To be called once no line is being written.
+    #[tactic(auto, unfolding(crate::specs::States::end_state))]
     pub fn end(self, store: &mut [i32], row: &mut [i32]) -> Listing
         ensures { Leaves (end_state (length store.old) (length row.old)
             (state_of self (at store.old) (at row.old))) result (at store.new) (at row.new) }
     {
-        let input = self.input;
-        let writer = self.writer;
-        let line = self.line;
-        let part = line.part;
-        if 0 < part {
+        if 0 < self.line.part {
             return self;
         }
-        match input.end() {
-            Ended::Whole(next) => states::finish(next, writer, store, row),
-            Ended::Short(next) => states::refuse(next, writer, 15),
-            Ended::Before => self,
+        match self.input.end() {
+            Ok(next) => states::finish(next, self.writer, store, row),
+            Err(Incomplete::Short) => {
+                states::refuse(self.input, self.writer, Refusal::BadInput.number())
+            }
+            Err(Incomplete::Before) => self,
         }
     }
 }
 
-// One turn: input is read while no line is being written, else the line is. `going` while there may be another turn.
+// What a turn left.
 #[derive(Clone, Copy)]
 struct Turned {
     listing: Listing,
     used: usize,
     written: usize,
-    going: bool,
 }
 
+// One turn: input is read while no line is being written, else the line is. None where there is nothing to read, or no room to write.
 fn turn(
     listing: Listing,
     piece: &[u8],
@@ -136,40 +131,33 @@ fn turn(
     row: &mut [i32],
     out: &mut [u8],
     written: usize,
-) -> Turned
+) -> Option<Turned>
     requires { (used ≤ length piece.now) × (written ≤ length out.old) }
-    ensures went { Went (length store.old) (length row.old) (state_of listing (at store.old) (at row.old))
-        piece.now used result.used out.old out.new written result.written
-        (state_of result.listing (at store.new) (at row.new)) }
-    ensures onward { Onward (state_of result.listing (at store.new) (at row.new)) piece.now used result.used
-        out.old written result.written result.going }
+    ensures went { IfSome result (λ t. Went (length store.old) (length row.old) (state_of listing (at store.old) (at row.old))
+        piece.now used t.used out.old out.new written t.written (state_of t.listing (at store.new) (at row.new))) }
+    ensures onward { IfSome result (λ t. used + written < t.used + t.written) }
+    ensures stops { IfNone result (Stops (state_of listing (at store.old) (at row.old)) piece.now used out.old written
+        (eqb listing.line.part 0)) }
+    ensures kept { IfNone result ((store.new ≡ store.old) × (row.new ≡ row.old) × (out.new ≡ out.old)) }
 {
-    let line = listing.line;
-    if line.part == 0 {
-        if used < piece.len() {
-            let r = reading::read_on(listing, piece, used, store, row);
-            let next = r.listing;
-            return Turned {
-                listing: next,
-                used: r.used,
-                written,
-                going: true,
-            };
+    if listing.line.part == 0 {
+        if used == piece.len() {
+            return None;
         }
-    } else if written < out.len() {
-        let w = writing::write_on(listing, store, row, out, written);
-        let next = w.listing;
-        return Turned {
-            listing: next,
-            used,
-            written: w.place,
-            going: true,
-        };
+        let read = reading::read_on(listing, piece, used, store, row);
+        return Some(Turned {
+            listing: read.listing,
+            used: read.used,
+            written,
+        });
     }
-    Turned {
-        listing,
+    if written == out.len() {
+        return None;
+    }
+    let wrote = writing::write_on(listing, store, row, out, written);
+    Some(Turned {
+        listing: wrote.listing,
         used,
-        written,
-        going: false,
-    }
+        written: wrote.place,
+    })
 }

@@ -90,20 +90,8 @@ fn read_heights(
 fn are_next(input: Input, level: usize, bytes: usize) -> bool
     ensures { result ≡ true → (input.phase ≡ 3) × (input.samples.half ≡ false) × (0 < input.left) × (2 ≤ bytes) × (level ≡ 0) }
 {
-    if 0 < level {
-        return false;
-    }
-    let samples = input.samples;
-    if input.phase != 3 {
-        return false;
-    }
-    if samples.half {
-        return false;
-    }
-    if input.left == 0 {
-        return false;
-    }
-    2 <= bytes
+    let heights = input.phase == 3 && !input.samples.half && 0 < input.left;
+    heights && 2 <= bytes && level == 0
 }
 
 pub fn read_on(

@@ -2,9 +2,8 @@
 // private: `listing` has the calls.
 ghost use Rattle.std.specs.Prelude.{◌≡◌, length};
 ghost use Rattle.numbers.specs.Signal.{at};
-ghost use Rattle.lifting.specs.Grid.{side};
-ghost use Rattle.writer.specs.Calls.{set_up_reply, set_up_store};
-ghost use Rattle.listing.specs.States.{state_of, Leaves, refused_to, draw_state, begun_to, offer_state, finish_state, read_state, value_part, advance_state};
+ghost use Rattle.level.specs.Level.{Memory};
+ghost use Rattle.listing.specs.States.{state_of, listed, Leaves, refused_to, draw_state, begin_state, offer_state, finish_state, read_state, value_part, advance_state};
 
 use crate::line::Line;
 use crate::listing::Listing;
@@ -25,6 +24,7 @@ pub fn refuse(input: Input, writer: Writer, number: u8) -> Listing
 }
 
 // The next band row that waits becomes the line.
+#[tactic(auto, unfolding(crate::specs::States::draw_state))]
 pub fn draw(input: Input, writer: Writer, store: &mut [i32], row: &mut [i32]) -> Listing
     ensures { Leaves (draw_state (length store.old) (length row.old) input writer (at store.old)
         (at row.old)) result (at store.new) (at row.new) }
@@ -45,9 +45,11 @@ pub fn draw(input: Input, writer: Writer, store: &mut [i32], row: &mut [i32]) ->
 }
 
 // The head is read: a fresh writer, and the line of W, H and L. A picture starts at coordinate 0, and the filter is the 5/3.
+#[tactic(auto, unfolding(crate::specs::States::begin_state))]
 fn begin(input: Input, writer: Writer, width: usize, height: usize, store: &mut [i32]) -> Listing
-    ensures value { result ≡ begun_to input writer width height (set_up_reply 0 (side 0 width) 0 input.levels (length store.old)) }
-    ensures store_after { at store.new ≡ set_up_store 0 (side 0 width) input.levels (length store.old) (at store.old) }
+    // whatever stands in the row area
+    ensures { (z : Memory) → Leaves (begin_state (length store.old) input writer width height (at store.old) z) result
+        (at store.new) z }
 {
     let levels = input.levels;
     let shape = Shape {
@@ -68,6 +70,7 @@ fn begin(input: Input, writer: Writer, width: usize, height: usize, store: &mut 
     }
 }
 
+#[tactic(auto, unfolding(crate::specs::States::offer_state))]
 fn offer(input: Input, writer: Writer, height: u16, store: &mut [i32], row: &mut [i32]) -> Listing
     ensures { Leaves (offer_state (length store.old) (length row.old) input writer height (at store.old)
         (at row.old)) result (at store.new) (at row.new) }
@@ -79,6 +82,7 @@ fn offer(input: Input, writer: Writer, height: u16, store: &mut [i32], row: &mut
     }
 }
 
+#[tactic(auto, unfolding(crate::specs::States::finish_state))]
 pub fn finish(input: Input, writer: Writer, store: &mut [i32], row: &mut [i32]) -> Listing
     ensures { Leaves (finish_state (length store.old) (length row.old) input writer (at store.old)
         (at row.old)) result (at store.new) (at row.new) }
@@ -90,6 +94,7 @@ pub fn finish(input: Input, writer: Writer, store: &mut [i32], row: &mut [i32]) 
 }
 
 // One byte of the input, while no line is being written.
+#[tactic(auto, unfolding(crate::specs::States::read_state, wavelet::specs::Limits::max_levels))]
 pub fn read(listing: Listing, byte: u8, store: &mut [i32], row: &mut [i32]) -> Listing
     ensures { Leaves (read_state (length store.old) (length row.old) byte
         (state_of listing (at store.old) (at row.old))) result (at store.new) (at row.new) }
@@ -97,15 +102,21 @@ pub fn read(listing: Listing, byte: u8, store: &mut [i32], row: &mut [i32]) -> L
     let input = listing.input;
     let writer = listing.writer;
     match input.read(byte, limits::MAX_LEVELS) {
-        Step::More(next) => Listing {
+        Ok(Step::More(next)) => Listing {
             input: next,
             writer,
             line: Line::none(),
         },
-        Step::Begun(next, width, height) => begin(next, writer, width, height, store),
-        Step::Height(next, height) => offer(next, writer, height, store, row),
-        Step::Refused(next, number) => refuse(next, writer, number),
+        Ok(Step::Begun(next, width, height)) => begin(next, writer, width, height, store),
+        Ok(Step::Height(next, height)) => offer(next, writer, height, store, row),
+        Err(why) => refuse(input, writer, why.number()),
     }
+}
+
+pub fn with_line(listing: Listing, line: Line) -> Listing
+    ensures { result ≡ listed listing.input listing.writer line }
+{
+    Listing { line, ..listing }
 }
 
 // The line with the value v next.
@@ -114,45 +125,27 @@ pub fn at_value(line: Line, v: usize) -> Line
 {
     Line {
         part: 4,
-        level: line.level,
-        band: line.band,
-        row: line.row,
-        length: line.length,
         value: v,
         done: 0,
+        ..line
     }
 }
 
 // The line's part is written whole: what comes after it.
+#[tactic(auto, unfolding(crate::specs::States::advance_state))]
 pub fn advance(listing: Listing, store: &mut [i32], row: &mut [i32]) -> Listing
     ensures { Leaves (advance_state (length store.old) (length row.old)
         (state_of listing (at store.old) (at row.old))) result (at store.new) (at row.new) }
 {
-    let input = listing.input;
-    let writer = listing.writer;
     let line = listing.line;
-    let part = line.part;
-    let value = line.value;
-    if part < 3 {
-        return Listing {
-            input,
-            writer,
-            line: Line::none(),
-        };
+    if line.part < 3 {
+        return with_line(listing, Line::none());
     }
-    if part == 3 {
-        return Listing {
-            input,
-            writer,
-            line: at_value(line, 0),
-        };
+    if line.part == 3 {
+        return with_line(listing, at_value(line, 0));
     }
-    if value < line.length {
-        return Listing {
-            input,
-            writer,
-            line: at_value(line, value + 1),
-        };
+    if line.value < line.length {
+        return with_line(listing, at_value(line, line.value + 1));
     }
-    draw(input, writer, store, row)
+    draw(listing.input, listing.writer, store, row)
 }

@@ -34,11 +34,12 @@ pub fn put_values(row: &[i32], from: usize, end: usize, out: &mut [u8], at: usiz
     ensures wrote { Wrote (spaced (result.value - from) (λ i. number_at row.now (from + i))) at result.place out.old out.new }
     ensures from_lt_value { from < end → at + 12 ≤ length out.old → from < result.value }
 {
-    let mut value = from;
     let mut place = at;
-    while value < end && LONGEST <= out.len() - place {
+    for value in from..end {
+        if out.len() - place < LONGEST {
+            return Values { value, place };
+        }
         place = write_value(row[value], out, place);
-        value += 1;
     }
-    Values { value, place }
+    Values { value: end, place }
 }

@@ -2,7 +2,7 @@
 // as there is room. The module is private: only this crate, which meets what is required, can call it.
 ghost use Rattle.std.specs.Prelude.{◌≡◌, true, ◌+◌, ◌<◌, ◌≤◌, length};
 ghost use Rattle.numbers.specs.Signal.{at};
-ghost use Rattle.listing.specs.States.{state_of, listed};
+ghost use Rattle.listing.specs.States.{state_of};
 ghost use Rattle.listing.specs.Moves.{Writes, WritesOnly};
 
 use crate::line::Line;
@@ -16,18 +16,6 @@ pub struct Written {
     pub place: usize,
 }
 
-fn with_line(listing: Listing, line: Line) -> Listing
-    ensures { result ≡ listed listing.input listing.writer line }
-{
-    let input = listing.input;
-    let writer = listing.writer;
-    Listing {
-        input,
-        writer,
-        line,
-    }
-}
-
 // The store is not lent here, so it stays.
 fn write_values(listing: Listing, row: &[i32], out: &mut [u8], place: usize) -> Written
     requires { (3 < listing.line.part) × (listing.line.done ≡ 0) × (listing.line.value < listing.line.length) ×
@@ -39,7 +27,7 @@ fn write_values(listing: Listing, row: &[i32], out: &mut [u8], place: usize) -> 
     let end = bytes::least(line.length, row.len());
     let v = values::put_values(row, line.value, end, out, place);
     Written {
-        listing: with_line(listing, states::at_value(line, v.value)),
+        listing: states::with_line(listing, states::at_value(line, v.value)),
         place: v.place,
     }
 }
@@ -64,7 +52,7 @@ fn write_part(
         };
     }
     Written {
-        listing: with_line(listing, line.with_done(s.done)),
+        listing: states::with_line(listing, line.with_done(s.done)),
         place: place + s.written,
     }
 }
@@ -73,19 +61,8 @@ fn write_part(
 fn are_next(line: Line, row: usize, room: usize) -> bool
     ensures { result ≡ true → (3 < line.part) × (line.done ≡ 0) × (line.value < line.length) × (line.value < row) × (12 ≤ room) }
 {
-    if line.part < 4 {
-        return false;
-    }
-    if 0 < line.done {
-        return false;
-    }
-    if line.length <= line.value {
-        return false;
-    }
-    if row <= line.value {
-        return false;
-    }
-    values::LONGEST <= room
+    let next = 3 < line.part && line.done == 0;
+    next && line.value < line.length && line.value < row && values::LONGEST <= room
 }
 
 pub fn write_on(

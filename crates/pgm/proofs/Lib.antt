@@ -1,4 +1,3 @@
-mod CharacterLaws
 pub mod LimitLaws
 pub mod HeaderReads
 pub mod RunReads

@@ -1,12 +1,9 @@
 -- What the limits say of numbers. Assumes nothing.
-use mathlib.Core.Path.{◌≡◌, refl, ap, ◌∙◌}
-use mathlib.Core.Bool.{Bool, true, false}
-use Prim.Native.Nat.{ℕ, ◌*◌, ◌≤◌, ◌<◌, ◌^◌}
-use native.Mathlib.Omega.{arith}
-use native.Mathlib.Nat.{mul-le-mul}
+use mathlib.Core.Path.{◌≡◌}
+use mathlib.Core.Bool.{true}
+use Prim.Native.Nat.{ℕ, ◌≤◌}
 use lib.Dec.{leb}
 use borrow.Author.Tests.{le-leb, leb-true}
-use Rattle.numbers.specs.Signal.{pick}
 use Rattle.numbers.proofs.Sweep.{both as split-both}
 use Rattle.pgm.specs.Limits.{max_picture_width, max_picture_height, up_to, size_fits}
 
@@ -29,26 +26,4 @@ size-fits W H e =
     let p = split-both (up_to max_picture_width W) (up_to max_picture_height H) e in
     record { columns = up-to max_picture_width W p.0; rows = up-to max_picture_height H p.1 }
 
--- its heights can be counted
-pub area_small : (W H : ℕ) → W ≤ max_picture_width → H ≤ max_picture_height → W * H < 2 ^ 64
-unfolding max_picture_width max_picture_height
-area_small W H a b = omega (arith, mul-le-mul a b)
-
 -- ---- n heights as `limits::cells` counts them
-module _ (W H n : ℕ) (e : n ≡ pick (size_fits W H) (W * H) 0) where
-  pub cells-none : n ≡ 0 → size_fits W H ≡ false
-  cells-none z = go (size_fits W H) refl
-    where
-      go : (b : Bool) → size_fits W H ≡ b → b ≡ false
-      go false p = refl
-      go true p =
-          let f = size-fits W H p in
-          let g : n ≡ W * H = e ∙ ap (λ b. pick b (W * H) 0) p in
-          absurd (omega (arith, mul-le-mul f.columns.0 f.rows.0))
-
-  pub cells-some : (n ≡ 0 → ⊥) → (size_fits W H ≡ true) × (n ≡ W * H)
-  cells-some d = go (size_fits W H) refl
-    where
-      go : (b : Bool) → size_fits W H ≡ b → (b ≡ true) × (n ≡ W * H)
-      go false p = absurd (d (e ∙ ap (λ b. pick b (W * H) 0) p))
-      go true p = (refl, e ∙ ap (λ b. pick b (W * H) 0) p)

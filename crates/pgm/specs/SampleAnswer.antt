@@ -1,7 +1,8 @@
 -- What a byte of a sample brings, in document 02's terms (Q-1): half of a sample, a height, or question 16 says no.
-use Rattle.std.specs.Prelude.{ℕ}
+use Rattle.std.specs.Prelude.{ℕ, Result, Ok, Err}
 use Rattle.pgm.specs.declared.samples.Samples.{Samples}
 use Rattle.pgm.specs.declared.samples.Sample.{Sample}
+use Rattle.pgm.specs.declared.samples.TooLarge.{TooLarge}
 use Rattle.pgm.specs.declared.samples.Sample.TheVariants as sample
 
 pub data SampleAnswer : Type 0 where
@@ -9,7 +10,7 @@ pub data SampleAnswer : Type 0 where
   Height : ℕ → SampleAnswer
   No16 : SampleAnswer
 
-abbrev pub of_sample : Sample → SampleAnswer
-of_sample (sample.Half x) = Half x
-of_sample (sample.Height v) = Height v
-of_sample sample.TooLarge = No16
+abbrev pub of_sample : Result Sample TooLarge → SampleAnswer
+of_sample (Ok (sample.Half x)) = Half x
+of_sample (Ok (sample.Height v)) = Height v
+of_sample (Err _) = No16

@@ -2,10 +2,12 @@
 // larger one, and such a header is refused.
 ghost use Rattle.std.specs.Prelude.{◌≡◌, true, false};
 ghost use Rattle.pgm.specs.Header.{side, sized};
+ghost use Rattle.refusal.specs.declared.Refusal.TheVariants.{BadInput};
 ghost use Rattle.pgm.specs.NextAnswer.{of_next};
 ghost use Rattle.pgm.specs.Steps.{staged, begun, expected, commented, gap_ended, gap_read, comment_read, number_ended, in_number, step_of};
 
 use crate::{characters, limits};
+use refusal::Refusal;
 
 // What the bytes so far have told. Stage 0 waits for P, 1 for 5, 2 for the first gap, 3 reads the width, 4 the height, 5 the largest value, 6 the
 // comment that ends the header.
@@ -22,31 +24,39 @@ pub struct Header {
     pub largest: usize,
 }
 
+// What a byte of a header brings.
 #[derive(Clone, Copy)]
 pub enum Next {
     More(Header),
     // The byte was the header's last: width, height and largest value.
     Done(usize, usize, usize),
-    Refused,
+}
+
+// No header has this byte here.
+#[derive(Clone, Copy, Debug, PartialEq, Eq)]
+pub struct Malformed;
+
+impl From<Malformed> for Refusal {
+    ghost from_gives = { λ _ e. e ≡ BadInput };
+
+    fn from(_: Malformed) -> Refusal {
+        Refusal::BadInput
+    }
 }
 
 // Is it a width, a height or a largest value?
+#[tactic(auto, unfolding(crate::specs::Header::side))]
 fn is_side(n: usize) -> bool
     ensures { result ≡ side n }
 {
     limits::is_up_to(n, characters::max_field())
 }
 
+#[tactic(auto, unfolding(crate::specs::Header::sized))]
 fn is_sized(width: usize, height: usize, largest: usize) -> bool
     ensures { result ≡ sized width height largest }
 {
-    if !is_side(width) {
-        return false;
-    }
-    if !is_side(height) {
-        return false;
-    }
-    is_side(largest)
+    is_side(width) && is_side(height) && is_side(largest)
 }
 
 // At a stage, no digit of its number read yet.
@@ -65,13 +75,14 @@ fn at_stage(stage: usize, width: usize, height: usize, largest: usize) -> Header
 }
 
 // Before the gaps: a byte that is right leads to the next stage.
-fn expect(right: bool, stage: usize) -> Next
+#[tactic(auto, unfolding(crate::specs::Steps::expected))]
+fn expect(right: bool, stage: usize) -> Result<Next, Malformed>
     ensures { of_next result ≡ expected right stage }
 {
     if right {
-        Next::More(at_stage(stage, 0, 0, 0))
+        Ok(Next::More(at_stage(stage, 0, 0, 0)))
     } else {
-        Next::Refused
+        Err(Malformed)
     }
 }
 
@@ -85,53 +96,49 @@ impl Header {
     fn with_comment(self, comment: bool) -> Header
         ensures { result ≡ commented comment self }
     {
-        Header {
-            stage: self.stage,
-            comment,
-            any: self.any,
-            number: self.number,
-            width: self.width,
-            height: self.height,
-            largest: self.largest,
-        }
+        Header { comment, ..self }
     }
 
     // The last byte of a gap.
-    fn end_gap(self) -> Next
+    #[tactic(auto, unfolding(crate::specs::Steps::gap_ended))]
+    fn end_gap(self) -> Result<Next, Malformed>
         ensures { of_next result ≡ gap_ended self }
     {
         if self.stage != 6 {
-            return Next::More(self.with_comment(false));
+            return Ok(Next::More(self.with_comment(false)));
         }
         if is_sized(self.width, self.height, self.largest) {
-            return Next::Done(self.width, self.height, self.largest);
+            return Ok(Next::Done(self.width, self.height, self.largest));
         }
-        Next::Refused
+        Err(Malformed)
     }
 
     // The first byte of a gap.
-    fn step_gap(self, byte: u8) -> Next
+    #[tactic(auto, unfolding(crate::specs::Steps::gap_read))]
+    fn step_gap(self, byte: u8) -> Result<Next, Malformed>
         ensures { of_next result ≡ gap_read self byte }
     {
         if characters::is_space(byte) {
             return self.end_gap();
         }
         if byte == b'#' {
-            return Next::More(self.with_comment(true));
+            return Ok(Next::More(self.with_comment(true)));
         }
-        Next::Refused
+        Err(Malformed)
     }
 
-    fn step_comment(self, byte: u8) -> Next
+    #[tactic(auto, unfolding(crate::specs::Steps::comment_read))]
+    fn step_comment(self, byte: u8) -> Result<Next, Malformed>
         ensures { of_next result ≡ comment_read self byte }
     {
         if characters::is_line_end(byte) {
             return self.end_gap();
         }
-        Next::More(self)
+        Ok(Next::More(self))
     }
 
     // The number of the stage is read.
+    #[tactic(auto, unfolding(crate::specs::Steps::number_ended))]
     fn end_number(self) -> Header
         ensures { result ≡ number_ended self }
     {
@@ -145,19 +152,17 @@ impl Header {
         at_stage(6, self.width, self.height, self.number)
     }
 
-    fn step_number(self, byte: u8) -> Next
+    #[tactic(auto, unfolding(crate::specs::Steps::in_number))]
+    fn step_number(self, byte: u8) -> Result<Next, Malformed>
         ensures { of_next result ≡ in_number self byte }
     {
         if characters::is_digit(byte) {
-            return Next::More(Header {
-                stage: self.stage,
+            return Ok(Next::More(Header {
                 comment: false,
                 any: true,
                 number: characters::with_digit(self.number, byte),
-                width: self.width,
-                height: self.height,
-                largest: self.largest,
-            });
+                ..self
+            }));
         }
         if self.any {
             return self.end_number().step_gap(byte);
@@ -166,7 +171,8 @@ impl Header {
     }
 
     // The header with one byte more.
-    pub fn step(self, byte: u8) -> Next
+    #[tactic(auto, unfolding(crate::specs::Steps::step_of))]
+    pub fn step(self, byte: u8) -> Result<Next, Malformed>
         ensures { of_next result ≡ step_of self byte }
     {
         let stage = self.stage;

@@ -1,6 +1,6 @@
 // The input of a program that reads a picture, a byte at a time: a line with the number of levels, where the program takes one (the listing, document 01;
 // not the rewriting, document 02, Q-7), then a header and heights.
-ghost use Rattle.std.specs.Prelude.{◌≡◌, ◌-◌};
+ghost use Rattle.std.specs.Prelude.{◌≡◌};
 ghost use Rattle.pgm.specs.InputSteps.{start_at, phased, level_digit, levels_read, line_feed_read, shape_read, header_read, height_read, read_byte};
 ghost use Rattle.pgm.specs.InputSteps.{input_ended, heights_came};
 ghost use Rattle.pgm.specs.StepAnswer.{of_step};
@@ -9,6 +9,7 @@ ghost use Rattle.pgm.specs.EndedAnswer.{of_ended};
 use crate::header::{Header, Next};
 use crate::samples::{Sample, Samples};
 use crate::{characters, limits};
+use refusal::Refusal;
 
 #[derive(Clone, Copy)]
 pub struct Input {
@@ -21,36 +22,30 @@ pub struct Input {
     pub samples: Samples,
 }
 
-// What a byte brings.
+// What a byte brings. Where a question says no, 15 or 16, nothing more is read (`refused`).
 #[derive(Clone, Copy)]
 pub enum Step {
     More(Input),
     // The header ended: width and height.
     Begun(Input, usize, usize),
     Height(Input, u16),
-    // A question says no: 15 or 16.
-    Refused(Input, u8),
 }
 
-// What the end of the input brings.
-#[derive(Clone, Copy)]
-pub enum Ended {
-    // All heights came, and no more.
-    Whole(Input),
-    // Question 15 says no.
-    Short(Input),
-    // A question said no before.
+// Why the end of the input does not complete it.
+#[derive(Clone, Copy, Debug, PartialEq, Eq)]
+pub enum Incomplete {
+    // Not all heights came: question 15 says no.
+    Short,
+    // A question said no before, or the input had ended already.
     Before,
 }
 
 // A digit from 1 to `most`?
+#[tactic(auto, unfolding(crate::specs::InputSteps::level_digit))]
 fn is_level(byte: u8, most: usize) -> bool
     ensures { result ≡ level_digit most byte }
 {
-    if !characters::is_digit(byte) {
-        return false;
-    }
-    limits::is_up_to(characters::digit_value(byte), most)
+    characters::is_digit(byte) && limits::is_up_to(characters::digit_value(byte), most)
 }
 
 impl Input {
@@ -70,134 +65,107 @@ impl Input {
     pub fn at_phase(self, phase: usize) -> Self
         ensures { result ≡ phased phase self }
     {
-        let header = self.header;
-        let samples = self.samples;
-        Input {
-            phase,
-            levels: self.levels,
-            header,
-            left: self.left,
-            samples,
-        }
+        Input { phase, ..self }
     }
 
     // Some heights came whole.
     pub fn took(self, count: usize) -> Self
         ensures { result ≡ heights_came count self }
     {
-        let header = self.header;
-        let samples = self.samples;
-        let left = less(self.left, count);
         Input {
-            phase: self.phase,
-            levels: self.levels,
-            header,
-            left,
-            samples: Samples::start(samples.largest),
+            left: self.left.saturating_sub(count),
+            samples: Samples::start(self.samples.largest),
+            ..self
         }
     }
 
-    fn read_levels(self, byte: u8, most: usize) -> Step
-        ensures { of_step result ≡ levels_read most self byte }
+    #[tactic(auto, unfolding(crate::specs::InputSteps::levels_read))]
+    fn read_levels(self, byte: u8, most: usize) -> Result<Step, Refusal>
+        ensures { of_step self result ≡ levels_read most self byte }
     {
         if !is_level(byte, most) {
-            return Step::Refused(self.at_phase(4), 15);
+            return Err(Refusal::BadInput);
         }
-        let header = self.header;
-        let samples = self.samples;
-        Step::More(Input {
+        Ok(Step::More(Input {
             phase: 1,
             levels: characters::digit_value(byte),
-            header,
-            left: self.left,
-            samples,
-        })
+            ..self
+        }))
     }
 
-    fn read_line_feed(self, byte: u8) -> Step
-        ensures { of_step result ≡ line_feed_read self byte }
+    #[tactic(auto, unfolding(crate::specs::InputSteps::line_feed_read))]
+    fn read_line_feed(self, byte: u8) -> Result<Step, Refusal>
+        ensures { of_step self result ≡ line_feed_read self byte }
     {
         if byte == b'\n' {
-            Step::More(self.at_phase(2))
+            Ok(Step::More(self.at_phase(2)))
         } else {
-            Step::Refused(self.at_phase(4), 15)
+            Err(Refusal::BadInput)
         }
     }
 
-    fn begin(self, width: usize, height: usize, largest: usize) -> Step
-        ensures { of_step result ≡ shape_read self width height largest }
+    #[tactic(auto, unfolding(crate::specs::InputSteps::shape_read))]
+    fn begin(self, width: usize, height: usize, largest: usize) -> Result<Step, Refusal>
+        ensures { of_step self result ≡ shape_read self width height largest }
     {
-        let left = limits::cells(width, height);
-        if left == 0 {
-            return Step::Refused(self.at_phase(4), 15);
-        }
-        let header = self.header;
-        Step::Begun(
+        let Some(left) = limits::cells(width, height) else {
+            return Err(Refusal::BadInput);
+        };
+        Ok(Step::Begun(
             Input {
                 phase: 3,
-                levels: self.levels,
-                header,
                 left,
                 samples: Samples::start(largest),
+                ..self
             },
             width,
             height,
-        )
+        ))
     }
 
-    fn read_header(self, byte: u8) -> Step
-        ensures { of_step result ≡ header_read self byte }
+    #[tactic(auto, unfolding(crate::specs::InputSteps::header_read))]
+    fn read_header(self, byte: u8) -> Result<Step, Refusal>
+        ensures { of_step self result ≡ header_read self byte }
     {
-        let header = self.header;
-        match header.step(byte) {
-            Next::More(next) => {
-                let samples = self.samples;
-                Step::More(Input {
-                    phase: 2,
-                    levels: self.levels,
-                    header: next,
-                    left: self.left,
-                    samples,
-                })
-            }
+        match self.header.step(byte)? {
+            Next::More(header) => Ok(Step::More(Input {
+                phase: 2,
+                header,
+                ..self
+            })),
             Next::Done(width, height, largest) => self.begin(width, height, largest),
-            Next::Refused => Step::Refused(self.at_phase(4), 15),
         }
     }
 
-    fn read_height(self, byte: u8) -> Step
-        ensures { of_step result ≡ height_read self byte }
+    #[tactic(auto, unfolding(crate::specs::InputSteps::height_read))]
+    fn read_height(self, byte: u8) -> Result<Step, Refusal>
+        ensures { of_step self result ≡ height_read self byte }
     {
         if self.left == 0 {
-            return Step::Refused(self.at_phase(4), 15);
+            return Err(Refusal::BadInput);
         }
-        let header = self.header;
-        let samples = self.samples;
-        match samples.step(byte) {
-            Sample::Half(half) => Step::More(Input {
+        match self.samples.step(byte)? {
+            Sample::Half(samples) => Ok(Step::More(Input {
                 phase: 3,
-                levels: self.levels,
-                header,
-                left: self.left,
-                samples: half,
-            }),
-            Sample::Height(height) => Step::Height(
+                samples,
+                ..self
+            })),
+            Sample::Height(height) => Ok(Step::Height(
                 Input {
                     phase: 3,
-                    levels: self.levels,
-                    header,
                     left: self.left - 1,
-                    samples: Samples::start(samples.largest),
+                    samples: Samples::start(self.samples.largest),
+                    ..self
                 },
                 height,
-            ),
-            Sample::TooLarge => Step::Refused(self.at_phase(4), 16),
+            )),
         }
     }
 
     // One byte more; the levels are 1 to `most`.
-    pub fn read(self, byte: u8, most: usize) -> Step
-        ensures { of_step result ≡ read_byte most self byte }
+    #[tactic(auto, unfolding(crate::specs::InputSteps::read_byte))]
+    pub fn read(self, byte: u8, most: usize) -> Result<Step, Refusal>
+        ensures { of_step self result ≡ read_byte most self byte }
     {
         let phase = self.phase;
         if phase == 0 {
@@ -212,30 +180,24 @@ impl Input {
         if phase == 3 {
             return self.read_height(byte);
         }
-        Step::More(self)
+        Ok(Step::More(self))
     }
 
-    // No byte more.
-    pub fn end(self) -> Ended
-        ensures { of_ended result ≡ input_ended self }
+    // No byte more: nothing is read after it.
+    #[tactic(auto, unfolding(crate::specs::InputSteps::input_ended))]
+    pub fn end(self) -> Result<Input, Incomplete>
+        ensures { of_ended self result ≡ input_ended self }
     {
         let phase = self.phase;
         if 3 < phase {
-            return Ended::Before;
+            return Err(Incomplete::Before);
         }
         if phase < 3 {
-            return Ended::Short(self.at_phase(4));
+            return Err(Incomplete::Short);
         }
         if 0 < self.left {
-            return Ended::Short(self.at_phase(4));
+            return Err(Incomplete::Short);
         }
-        Ended::Whole(self.at_phase(4))
+        Ok(self.at_phase(4))
     }
-}
-
-// What is left of a after b, if anything.
-fn less(a: usize, b: usize) -> usize
-    ensures { result ≡ a - b }
-{
-    if a < b { 0 } else { a - b }
 }

@@ -16,6 +16,7 @@ pub fn single(byte: u8) -> u16
 }
 
 // Two bytes a sample?
+#[tactic(auto, unfolding(crate::specs::Runs::wide))]
 pub fn is_wide(largest: usize) -> bool
     ensures { result ≡ wide largest }
 {
@@ -23,6 +24,7 @@ pub fn is_wide(largest: usize) -> bool
 }
 
 // Bytes a sample.
+#[tactic(auto, unfolding(crate::specs::Runs::sample_size))]
 pub fn size(largest: usize) -> usize
     ensures { result ≡ sample_size largest }
 {
@@ -33,20 +35,14 @@ pub fn size(largest: usize) -> usize
 fn count(bytes: usize, from: usize, wide: bool) -> usize
     ensures { result ≡ pick wide ((bytes - from) / 2) (bytes - from) }
 {
-    if bytes < from {
-        return 0;
-    }
-    if wide {
-        return (bytes - from) / 2;
-    }
-    bytes - from
+    let left = bytes.saturating_sub(from);
+    if wide { left / 2 } else { left }
 }
 
 fn whole(bytes: usize, from: usize, wide: bool, most: usize) -> usize
     ensures { result ≡ min (pick wide ((bytes - from) / 2) (bytes - from)) most }
 {
-    let n = count(bytes, from, wide);
-    if n < most { n } else { most }
+    count(bytes, from, wide).min(most)
 }
 
 // Sample i after place `from`. The call is private: only `read`, which meets what is required, makes it.
@@ -76,14 +72,12 @@ pub fn read(bytes: &[u8], from: usize, largest: usize, run: &mut [u16]) -> usize
 {
     let wide = is_wide(largest);
     let n = whole(bytes.len(), from, wide, run.len());
-    let mut i = 0;
-    while i < n {
+    for i in 0..n {
         let sample = sample_at(bytes, from, wide, i);
         if !is_within(sample, largest) {
             return i;
         }
         run[i] = sample;
-        i += 1;
     }
     n
 }

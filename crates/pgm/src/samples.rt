@@ -1,9 +1,11 @@
 // Samples of one byte or two, the most significant first. A state may hold half a sample, so the bytes may be cut anywhere.
 ghost use Rattle.std.specs.Prelude.{◌≡◌};
+ghost use Rattle.refusal.specs.declared.Refusal.TheVariants.{BadSample};
 ghost use Rattle.pgm.specs.SampleAnswer.{of_sample};
 ghost use Rattle.pgm.specs.Samples.{no_byte, sampled, sample_of};
 
 use crate::runs;
+use refusal::Refusal;
 
 #[derive(Clone, Copy)]
 pub struct Samples {
@@ -19,8 +21,18 @@ pub enum Sample {
     Half(Samples),
     // The last byte: a whole sample, and no byte is held.
     Height(u16),
-    // A whole sample that exceeds the largest value.
-    TooLarge,
+}
+
+// A whole sample that exceeds the largest value.
+#[derive(Clone, Copy, Debug, PartialEq, Eq)]
+pub struct TooLarge;
+
+impl From<TooLarge> for Refusal {
+    ghost from_gives = { λ _ e. e ≡ BadSample };
+
+    fn from(_: TooLarge) -> Refusal {
+        Refusal::BadSample
+    }
 }
 
 impl Samples {
@@ -34,7 +46,8 @@ impl Samples {
         }
     }
 
-    pub fn step(self, byte: u8) -> Sample
+    #[tactic(auto, unfolding(crate::specs::Samples::sample_of))]
+    pub fn step(self, byte: u8) -> Result<Sample, TooLarge>
         ensures { of_sample result ≡ sample_of self byte }
     {
         if !runs::is_wide(self.largest) {
@@ -43,19 +56,20 @@ impl Samples {
         if self.half {
             return checked(runs::joined(self.high, byte), self.largest);
         }
-        Sample::Half(Samples {
-            largest: self.largest,
+        Ok(Sample::Half(Samples {
             half: true,
             high: byte,
-        })
+            ..self
+        }))
     }
 }
 
-fn checked(sample: u16, largest: usize) -> Sample
+#[tactic(auto, unfolding(crate::specs::Samples::sampled))]
+fn checked(sample: u16, largest: usize) -> Result<Sample, TooLarge>
     ensures { of_sample result ≡ sampled largest sample }
 {
     if runs::is_within(sample, largest) {
-        return Sample::Height(sample);
+        return Ok(Sample::Height(sample));
     }
-    Sample::TooLarge
+    Err(TooLarge)
 }

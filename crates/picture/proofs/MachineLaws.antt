@@ -4,12 +4,11 @@ use mathlib.Core.Bool.{Bool, true, false}
 use mathlib.Core.List.{List, [], ◌∷◌, ◌++◌, append-nil, append_assoc}
 use Prim.Native.Nat.{ℕ, zero, suc, ◌+◌, ◌≤◌, ◌<◌}
 use native.Mathlib.Omega.{arith}
-use lib.Dec.{eqb}
 use lib.ListN.{length, take, drop, set, take-append-drop}
 use lib.Seq.{drop-drop}
-use borrow.Author.Tests.{eq-eqb, ne_eqb, lt-ltb, le-ltb, le-leb, lt-leb}
+use borrow.Author.Tests.{eq-eqb, ne_eqb, le-ltb, lt-leb}
 use Rattle.numbers.specs.Signal.{pick}
-use Rattle.pgm.specs.InputSteps.{phased, read_byte, input_ended}
+use Rattle.pgm.specs.InputSteps.{read_byte, input_ended}
 use Rattle.picture.specs.Machine.{part_of, no_part, part_text, rewriting, moved, text_on, left_on, settled, done_on, row_part, begun_on, height_kept}
 use Rattle.picture.specs.Machine.{Kept, step_to, byte_read, owed, end_to, end_of, Move, partly, wholly, reads}
 use Rattle.text.specs.Moves.{Goes, stays, then}
@@ -22,25 +21,12 @@ use Rattle.picture.specs.declared.parts.Part.{Part}
 use Rattle.picture.specs.declared.rewriting.Rewriting.{Rewriting}
 
 -- ---- the code's choices
-pub settles : (r : Rewriting) (f : ℕ) (p : Part) → f ≡ pick (eqb r.part.kind 2) 0 r.filled → p ≡ no_part → moved r r.input f p ≡ settled r
-unfolding settled
-settles r f p e g = rw (e, g)
-
 module _ (r : Rewriting) (i : Input) (W H room : ℕ) where
-  pub begun-short : (j : Input) (p : Part) → room < W → j ≡ phased 4 i → p ≡ part_of 3 5 → moved r j r.filled p ≡ begun_on r i W H room
-  unfolding begun_on
-  begun-short j p h e g = rw (lt-ltb room W h, e, g)
-
   pub begun-room : (p : Part) → W ≤ room → p ≡ part_of 1 0 → rewriting i W H 0 p ≡ begun_on r i W H room
   unfolding begun_on
   begun-room p h g = rw (le-ltb room W h, g)
 
 module _ (r : Rewriting) (i : Input) (v : ℕ) (z : List ℕ) where
-  pub kept-none : (j : Input) (p : Part) → length z ≤ r.filled → j ≡ phased 4 i → p ≡ part_of 3 5
-      → (moved r j r.filled p ≡ (height_kept r i v z).state) × (z ≡ (height_kept r i v z).row)
-  unfolding height_kept
-  kept-none j p h e g = (rw (le-leb (length z) r.filled h, e, g), rw (le-leb (length z) r.filled h))
-
   pub kept-some : (p : Part) → r.filled < length z → p ≡ row_part (r.filled + 1) r.width
       → (moved r i (r.filled + 1) p ≡ (height_kept r i v z).state) × (set z r.filled v ≡ (height_kept r i v z).row)
   unfolding height_kept
@@ -55,22 +41,9 @@ pub row-begun : (f W : ℕ) → (f ≡ W → ⊥) → no_part ≡ row_part f W
 unfolding row_part
 row-begun f W d = sym (ap (λ t. pick t (part_of 2 0) no_part) (ne_eqb f W d))
 
-pub ends_on : (r : Rewriting) → (r.part.kind ≡ 0 → ⊥) → r ≡ end_of r
-unfolding end_of
-ends_on r d = rw (ne_eqb r.part.kind 0 d)
-
 pub ends_as : (r : Rewriting) (y : EndedAnswer) → r.part.kind ≡ 0 → y ≡ input_ended r.input → end_to r y ≡ end_of r
 unfolding end_of
 ends_as r y d e = rw (eq-eqb r.part.kind 0 d) (ap (end_to r) e)
-
-module _ (r : Rewriting) (z : List ℕ) (b : ℕ) (y : StepAnswer) (e : y ≡ read_byte 0 r.input b) where
-  pub step-state : (step_to r z y).state ≡ (byte_read r z b).state
-  unfolding byte_read
-  step-state = ap (λ y. (step_to r z y).state) e
-
-  pub step_row : (step_to r z y).row ≡ (byte_read r z b).row
-  unfolding byte_read
-  step_row = ap (λ y. (step_to r z y).row) e
 
 -- ---- what is owed
 drop-none : (n : ℕ) → drop {A = ℕ} n [] ≡ []

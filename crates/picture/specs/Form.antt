@@ -1,11 +1,11 @@
 -- The fixed form. Document 02, Q-7: "P5, newline, width, space, height, newline, 65535, newline, two bytes a height, the most significant first."
-use Rattle.std.specs.Prelude.{◌≡◌, List, [], ◌∷◌, ◌++◌, ℕ, zero, suc, ◌-◌, ◌/◌, ◌%◌, min, length, drop}
+use Rattle.std.specs.Prelude.{◌≡◌, List, [], ◌∷◌, ◌++◌, ℕ, zero, suc, ◌-◌, ◌/◌, ◌%◌, min, length, drop, Result, Ok, Err}
 use Rattle.std.proofs.Math.Seq.{paste}
 use Rattle.wavelet.specs.Limits.{max_width, max_height}
 use Rattle.wavelet.specs.Questions.{ask, within}
 use Rattle.text.specs.Decimal.{numeral}
-use Rattle.picture.specs.declared.form.Put.{Put}
-use Rattle.picture.specs.declared.form.Put.TheVariants.{Written, Refused}
+use Rattle.refusal.specs.declared.Refusal.{Refusal}
+use Rattle.refusal.specs.Numbers.{number}
 
 -- the largest value that it names
 unfoldable pub form_largest : ℕ
@@ -23,6 +23,15 @@ row_bytes (h ∷ l) = (h / 256) ∷ (h % 256) ∷ row_bytes l
 -- questions 2 and 3
 unfoldable pub head_question : ℕ → ℕ → ℕ
 head_question W H = ask (within 1 max_width W) 2 (ask (within 1 max_height H) 3 0)
+
+-- what a call answers: how many bytes were written, or the number of the question that said no
+pub data Put : Type 0 where
+  Written : ℕ → Put
+  Refused : ℕ → Put
+
+abbrev pub of_put : Result ℕ Refusal → Put
+of_put (Ok n) = Written n
+of_put (Err r) = Refused (number r)
 
 -- what a call leaves in the area o: a refused one nothing new
 pub data HeadPut (W H from : ℕ) (o o' : List ℕ) : Put → Type 0 where

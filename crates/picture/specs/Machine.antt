@@ -1,10 +1,10 @@
 -- A rewriting with its row area z: what each byte makes of them, move by move, and the text that it owes: `owed`, what is left of the part that is being
 -- written and all that further bytes bring. proofs/RewritingTheorem: from the start it is `due_of` of the bytes, and `rewriting_of` of an input that ends
 -- with them.
-use Rattle.std.specs.Prelude.{◌≡◌, Bool, true, false, List, [], ◌∷◌, ◌++◌, ℕ, ◌+◌, ◌*◌, ◌≤◌, ◌<◌, leb, ltb, eqb, length, take, drop, set}
+use Rattle.std.specs.Prelude.{◌≡◌, Bool, List, [], ◌∷◌, ◌++◌, ℕ, ◌+◌, ◌≤◌, ◌<◌, leb, ltb, eqb, length, take, drop, set}
 use Rattle.numbers.specs.Signal.{pick}
 use Rattle.text.specs.Text.{Wrote}
-use Rattle.text.specs.Moves.{Goes, Stops}
+use Rattle.text.specs.Moves.{Goes}
 use Rattle.picture.specs.Form.{form_head, row_bytes}
 use Rattle.text.specs.Refusal.{refused_line}
 use Rattle.pgm.specs.InputSteps.{start_at, phased, read_byte, input_ended}
@@ -149,8 +149,3 @@ pub record Reads (s : Kept) (p : List ℕ) (a a' : ℕ) (s' : Kept) : Type 0 whe
 -- 1 where nothing is being written
 abbrev pub quiet : Kept → ℕ
 quiet s = pick (eqb (busy_on s) 0) 1 0
-
--- one turn of it, from s to s': something was read or written, or it stops
-pub data Onward (s s' : Kept) (p : List ℕ) (a a' : ℕ) (o : List ℕ) (b b' : ℕ) : Bool → Type 0 where
-  on : 2 * a + b + quiet s < 2 * a' + b' + quiet s' → Onward s s' p a a' o b b' true
-  off : (i : Bool) → Stops busy_on s' p a' o b' i → Onward s s' p a a' o b b' false

@@ -1,15 +1,17 @@
 // The rewriting: bytes of a PGM in, bytes of the fixed form out. Each row is written when it is whole, before more input is read.
-ghost use Rattle.std.specs.Prelude.{◌≡◌, true, false, ◌+◌, ◌<◌, ◌≤◌, eqb, length};
+ghost use Rattle.std.specs.Prelude.{◌≡◌, true, false, ◌+◌, ◌*◌, ◌<◌, ◌≤◌, eqb, length, IfSome, IfNone};
 ghost use Rattle.numbers.specs.Signal.{pick};
 ghost use Rattle.pgm.specs.Limits.{max_picture_width};
 ghost use Rattle.text.specs.Moves.{Went, Stops};
 ghost use Rattle.picture.specs.Machine.{part_of, started, moved, settled, done_on, row_part, begun_on, kept, height_kept, byte_read, Move, busy_on};
-ghost use Rattle.picture.specs.Machine.{Reads, Writes, Onward, end_of};
+ghost use Rattle.picture.specs.Machine.{Reads, Writes, quiet, end_of};
+ghost use Rattle.refusal.specs.Numbers.{number};
 
 use crate::parts;
 use crate::parts::Part;
-use pgm::input::{Ended, Input, Step};
+use pgm::input::{Incomplete, Input, Step};
 use pgm::{limits, runs};
+use refusal::Refusal;
 use text::bytes;
 
 #[derive(Clone, Copy)]
@@ -23,23 +25,31 @@ pub struct Rewriting {
     pub part: Part,
 }
 
-fn part_of(kind: usize, number: u8) -> Part
-    ensures { result ≡ part_of kind number }
+// Nothing, the header or a row.
+fn part_of(kind: usize) -> Part
+    ensures { result ≡ part_of kind 0 }
 {
     Part {
         kind,
-        number: number as usize,
+        number: 0,
         done: 0,
     }
 }
 
+fn refused(why: Refusal) -> Part
+    ensures { result ≡ part_of 3 (number why) }
+{
+    Part {
+        number: why.number() as usize,
+        ..part_of(3)
+    }
+}
+
+#[tactic(auto, unfolding(crate::specs::Machine::row_part))]
 fn row_part(filled: usize, width: usize) -> Part
     ensures { result ≡ row_part filled width }
 {
-    if filled == width {
-        return part_of(2, 0);
-    }
-    part_of(0, 0)
+    part_of(if filled == width { 2 } else { 0 })
 }
 
 // After a row the next one begins.
@@ -50,13 +60,14 @@ fn after_part(kind: usize, filled: usize) -> usize
 }
 
 // A height goes to its place in the row area; a state that was made up may have none.
+#[tactic(auto, unfolding(crate::specs::Machine::height_kept))]
 fn keep(rewriting: Rewriting, input: Input, height: u16, row: &mut [u16]) -> Rewriting
     ensures value { result ≡ (height_kept rewriting input height row.old).state }
     ensures row_after { row.new ≡ (height_kept rewriting input height row.old).row }
 {
     let filled = rewriting.filled;
     if row.len() <= filled {
-        return rewriting.moved(input.at_phase(4), filled, part_of(3, 5));
+        return rewriting.moved(input.at_phase(4), filled, refused(Refusal::AreaShort));
     }
     row[filled] = height;
     rewriting.moved(input, filled + 1, row_part(filled + 1, rewriting.width))
@@ -66,6 +77,7 @@ impl Rewriting {
     // How many heights the row area has to hold so that no picture read is refused.
     pub const ROW: usize = limits::MAX_WIDTH;
 
+    #[tactic(auto, unfolding(pgm::specs::Limits::max_picture_width))]
     pub fn row_length() -> usize
         ensures { result ≡ max_picture_width }
     {
@@ -80,7 +92,7 @@ impl Rewriting {
             width: 0,
             height: 0,
             filled: 0,
-            part: part_of(0, 0),
+            part: part_of(0),
         }
     }
 
@@ -90,42 +102,43 @@ impl Rewriting {
     {
         Rewriting {
             input,
-            width: self.width,
-            height: self.height,
             filled,
             part,
+            ..self
         }
     }
 
     // The part is written.
+    #[tactic(auto, unfolding(crate::specs::Machine::settled))]
     fn settle(self) -> Self
         ensures { result ≡ settled self }
     {
-        let part = self.part;
         self.moved(
             self.input,
-            after_part(part.kind, self.filled),
-            part_of(0, 0),
+            after_part(self.part.kind, self.filled),
+            part_of(0),
         )
     }
 
     // The header is read; the row area has room for so many heights.
+    #[tactic(auto, unfolding(crate::specs::Machine::begun_on))]
     fn begin(self, input: Input, width: usize, height: usize, room: usize) -> Self
         ensures { result ≡ begun_on self input width height room }
     {
         if room < width {
-            return self.moved(input.at_phase(4), self.filled, part_of(3, 5));
+            return self.moved(input.at_phase(4), self.filled, refused(Refusal::AreaShort));
         }
         Rewriting {
             input,
             width,
             height,
             filled: 0,
-            part: part_of(1, 0),
+            part: part_of(1),
         }
     }
 
     // One byte of the input, while nothing is being written. There is no line for the levels.
+    #[tactic(auto, unfolding(crate::specs::Machine::byte_read))]
     fn read(self, byte: u8, row: &mut [u16]) -> Self
         ensures value { result ≡ (byte_read self row.old byte).state }
         ensures row_after { row.new ≡ (byte_read self row.old byte).row }
@@ -133,10 +146,10 @@ impl Rewriting {
         let input = self.input;
         let filled = self.filled;
         match input.read(byte, 0) {
-            Step::More(next) => self.moved(next, filled, part_of(0, 0)),
-            Step::Begun(next, width, height) => self.begin(next, width, height, row.len()),
-            Step::Height(next, height) => keep(self, next, height, row),
-            Step::Refused(next, number) => self.moved(next, filled, part_of(3, number)),
+            Ok(Step::More(next)) => self.moved(next, filled, part_of(0)),
+            Ok(Step::Begun(next, width, height)) => self.begin(next, width, height, row.len()),
+            Ok(Step::Height(next, height)) => keep(self, next, height, row),
+            Err(why) => self.moved(input.at_phase(4), filled, refused(why)),
         }
     }
 
@@ -144,16 +157,7 @@ impl Rewriting {
     fn with_done(self, done: usize) -> Self
         ensures { result ≡ done_on done self }
     {
-        let part = self.part;
-        self.moved(
-            self.input,
-            self.filled,
-            Part {
-                kind: part.kind,
-                number: part.number,
-                done,
-            },
-        )
+        self.moved(self.input, self.filled, Part { done, ..self.part })
     }
 
     // Reads a piece of the input and writes what it brings, until the area is full, or the piece is used up and nothing is left to write. The rest of
@@ -166,38 +170,35 @@ impl Rewriting {
         let mut state = self;
         let mut used = 0;
         let mut written = 0;
-        let mut going = true;
-        while going {
-            let t = turn(state, piece, used, row, out, written);
-            let next = t.rewriting;
-            state = next;
-            used = t.used;
-            written = t.written;
-            going = t.going;
+        while let Some(next) = turn(state, piece, used, row, out, written) {
+            state = next.rewriting;
+            used = next.used;
+            written = next.written;
         }
-        let part = state.part;
         Fed {
             rewriting: state,
             used,
             written,
-            idle: part.kind == 0,
+            idle: state.part.kind == 0,
         }
     }
 
     // The input has ended. To be called once nothing is being written.
+    #[tactic(auto, unfolding(crate::specs::Machine::end_of))]
     pub fn end(self) -> Rewriting
         ensures { result ≡ end_of self }
     {
         let input = self.input;
-        let part = self.part;
         let filled = self.filled;
-        if part.kind != 0 {
+        if self.part.kind != 0 {
             return self;
         }
         match input.end() {
-            Ended::Whole(next) => self.moved(next, filled, part_of(0, 0)),
-            Ended::Short(next) => self.moved(next, filled, part_of(3, 15)),
-            Ended::Before => self.moved(input, filled, part_of(0, 0)),
+            Ok(next) => self.moved(next, filled, part_of(0)),
+            Err(Incomplete::Short) => {
+                self.moved(input.at_phase(4), filled, refused(Refusal::BadInput))
+            }
+            Err(Incomplete::Before) => self.moved(input, filled, part_of(0)),
         }
     }
 }
@@ -211,12 +212,12 @@ pub struct Fed {
     pub idle: bool,
 }
 
+// What a turn left.
 #[derive(Clone, Copy)]
 struct Turned {
     rewriting: Rewriting,
     used: usize,
     written: usize,
-    going: bool,
 }
 
 #[derive(Clone, Copy)]
@@ -264,20 +265,8 @@ fn are_next(rewriting: Rewriting, bytes: usize, room: usize) -> bool
         × (rewriting.width ≤ room) × (2 ≤ bytes) }
 {
     let input = rewriting.input;
-    let samples = input.samples;
-    if input.phase != 3 {
-        return false;
-    }
-    if samples.half {
-        return false;
-    }
-    if rewriting.width < rewriting.filled {
-        return false;
-    }
-    if room < rewriting.width {
-        return false;
-    }
-    2 <= bytes
+    let fits = rewriting.filled <= rewriting.width && rewriting.width <= room;
+    input.phase == 3 && !input.samples.half && fits && 2 <= bytes
 }
 
 fn read_on(rewriting: Rewriting, piece: &[u8], used: usize, row: &mut [u16]) -> Read
@@ -323,7 +312,7 @@ fn write_on(rewriting: Rewriting, row: &[u16], out: &mut [u8], at: usize) -> Wri
     }
 }
 
-// One turn: input is read while nothing is being written, else that is. `going` while there may be another turn.
+// One turn: input is read while nothing is being written, else that is. None where there is nothing to read, or no room to write.
 fn turn(
     rewriting: Rewriting,
     piece: &[u8],
@@ -331,39 +320,34 @@ fn turn(
     row: &mut [u16],
     out: &mut [u8],
     written: usize,
-) -> Turned
+) -> Option<Turned>
     requires { (used ≤ length piece.now) × (written ≤ length out.old) }
-    ensures went { Went Move (kept rewriting row.old) piece.now used result.used out.old out.new written
-        result.written (kept result.rewriting row.new) }
-    ensures onward { Onward (kept rewriting row.old) (kept result.rewriting row.new) piece.now used result.used
-        out.old written result.written result.going }
+    ensures went { IfSome result (λ t. Went Move (kept rewriting row.old) piece.now used t.used out.old out.new written
+        t.written (kept t.rewriting row.new)) }
+    ensures onward { IfSome result (λ t. 2 * used + written + quiet (kept rewriting row.old)
+        < 2 * t.used + t.written + quiet (kept t.rewriting row.new)) }
+    ensures stops { IfNone result (Stops busy_on (kept rewriting row.old) piece.now used out.old written
+        (eqb rewriting.part.kind 0)) }
+    ensures kept { IfNone result ((row.new ≡ row.old) × (out.new ≡ out.old)) }
 {
-    let part = rewriting.part;
-    if part.kind == 0 {
-        if used < piece.len() {
-            let r = read_on(rewriting, piece, used, row);
-            let next = r.rewriting;
-            return Turned {
-                rewriting: next,
-                used: r.used,
-                written,
-                going: true,
-            };
+    if rewriting.part.kind == 0 {
+        if used == piece.len() {
+            return None;
         }
-    } else if written < out.len() {
-        let w = write_on(rewriting, row, out, written);
-        let next = w.rewriting;
-        return Turned {
-            rewriting: next,
-            used,
-            written: w.place,
-            going: true,
-        };
+        let read = read_on(rewriting, piece, used, row);
+        return Some(Turned {
+            rewriting: read.rewriting,
+            used: read.used,
+            written,
+        });
     }
-    Turned {
-        rewriting,
+    if written == out.len() {
+        return None;
+    }
+    let wrote = write_on(rewriting, row, out, written);
+    Some(Turned {
+        rewriting: wrote.rewriting,
         used,
-        written,
-        going: false,
-    }
+        written: wrote.place,
+    })
 }

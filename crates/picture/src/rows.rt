@@ -32,11 +32,9 @@ pub fn row(heights: &[u16], from: usize, out: &mut [u8]) -> usize
     ensures result_bound { from + result < 2 ^ 64 }
 {
     let n = bytes::some(row_bytes(heights), from, out.len());
-    let mut i = 0;
-    while i < n {
+    for i in 0..n {
         let place = from + i;
         out[i] = height_byte(heights[place / 2], place % 2 == 1);
-        i += 1;
     }
     n
 }

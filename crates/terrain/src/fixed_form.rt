@@ -16,7 +16,7 @@ pub fn terrain_picture_head(
     ensures head_put { HeadPut width height from out.old out.new (answered result written.new) }
     ensures written_unchanged { (result ≡ 0 → ⊥) → written.new ≡ written.old }
 {
-    form::head_told(width, height, from, out, written) as u32
+    refusal::code(form::head_told(width, height, from, out, written)) as u32
 }
 
 // A row's bytes from place `from` on, at the front of `out`: how many were written.

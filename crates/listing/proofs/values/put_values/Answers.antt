@@ -3,7 +3,6 @@ use mathlib.Core.List.{List, ◌∷◌}
 use Prim.Native.Nat.{ℕ, suc, ◌+◌, ◌-◌, ◌≤◌, ◌<◌}
 use native.Mathlib.Omega.{arith}
 use native.Mathlib.Decide.{dec_lt}
-use borrow.Author.Tests.{leb-true, leb-false}
 use lib.IntN.{ℤ}
 use lib.ListN.{length}
 use Rattle.numbers.specs.Signal.{at as number_at}
@@ -49,49 +48,15 @@ module _ {row : List ℤ} {from end at value place : ℕ} {l m : List ℕ} (w : 
         | no h ↦ absurd (omega (arith, nothing-yet (omega arith), wrote-size w.wrote))
       ]
 
-room : (n place : ℕ) → 12 ≤ n - place → place + 12 ≤ n
-room n place h = omega arith
-
 pub loop-value-init : goal.loop-value-init
 loop-value-init c =
     let h = c.requires in
     start _ _ _ _ _ (omega arith) (omega arith) (omega arith)
-
-pub overflow_sub-out : goal.overflow_sub-out
-overflow_sub-out c = fits c.loop-value.invariant
-
-pub offset_bounds-row-value : goal.offset_bounds-row-value
-offset_bounds-row-value c = omega (arith, c.loop-value.invariant.long)
-
-pub bounds-row-value : goal.bounds-row-value
-bounds-row-value c = omega (arith, c.loop-value.invariant.long)
-
-pub write_value-place-requires : goal.write_value-place-requires
-write_value-place-requires c = room _ _ (leb-true _ _ c.if-out-place-ge-LONGEST.true-raw)
-
-pub overflow_add-value : goal.overflow_add-value
-overflow_add-value c = omega arith
-
-pub loop-value-smaller : goal.loop-value-smaller
-loop-value-smaller c = omega arith
 
 pub loop-value-preserved : goal.loop-value-preserved
 loop-value-preserved c =
     next _ c.loop-value.invariant (omega arith)
     (read_back _ c.write_value-arg-1.given) c.write_value-place.ensures
 
-pub shape_of-out-else-out-place-ge-LONGEST : goal.shape_of-out-else-out-place-ge-LONGEST
-shape_of-out-else-out-place-ge-LONGEST c = wrote-size c.loop-value.invariant.wrote
-
-pub returns-else-out-place-ge-LONGEST : goal.returns-else-out-place-ge-LONGEST
-returns-else-out-place-ge-LONGEST c =
-    let w = c.loop-value.invariant in
-    record { from_le_value = (w.low, w.high); wrote = w.wrote; from_lt_value = λ _ r. progress w (leb-false _ _ c.if-out-place-ge-LONGEST.false-raw) r }
-
-pub shape_of-out-after-loop-value : goal.shape_of-out-after-loop-value
-shape_of-out-after-loop-value c = wrote-size c.loop-value.invariant.wrote
-
-pub returns-after-loop-value : goal.returns-after-loop-value
-returns-after-loop-value c =
-    let w = c.loop-value.invariant in
-    record { from_le_value = (w.low, w.high); wrote = w.wrote; from_lt_value = λ h _. omega arith }
+pub returns-then-out-place-lt-LONGEST-clause-from_lt_value : goal.returns-then-out-place-lt-LONGEST-clause-from_lt_value
+returns-then-out-place-lt-LONGEST-clause-from_lt_value c _ r = progress c.loop-value.invariant (omega arith) r

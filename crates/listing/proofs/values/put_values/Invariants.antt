@@ -1,4 +1,4 @@
--- `values::put_values` meets its contract: the values up to the next one stand in the area, each after a space; and the loop does not end before the
+-- `values::put_values` meets its contract: the values up to the next one stand in the area, each after a space; and the loop is not left before the
 -- first while there is room for it. Assumes nothing.
 use mathlib.Core.List.{List}
 use Prim.Native.Nat.{ℕ, ◌+◌, ◌-◌, ◌≤◌}
@@ -18,6 +18,3 @@ pub record Written (row : List ℤ) (from end : ℕ) (l : List ℕ) (at : ℕ) (
 
 abbrev pub invariant-loop-value : goal.invariant-loop-value
 invariant-loop-value l = Written l.row l.from l.end l.initial.out l.at l.out l.value l.place
-
-abbrev pub decreases-loop-value : goal.decreases-loop-value
-decreases-loop-value l = l.end - l.value

@@ -1,9 +1,7 @@
 use mathlib.Core.Path.{sym, ◌∙◌}
-use Prim.Native.Nat.{◌-◌}
 use native.Mathlib.Omega.{arith}
-use borrow.Author.Rules.{rules}
 use borrow.Author.Tests.{not-true, not-false}
-use Rattle.pgm.proofs.RunReads.{Run, start, room, next, stop, stands, end, finish}
+use Rattle.pgm.proofs.RunReads.{start, room, next, stop, stands, end, finish}
 use Rattle.pgm.proofs.runs.read.Goals as goal
 
 pub loop-i-init : goal.loop-i-init
@@ -22,15 +20,6 @@ returns-then-not-is_within c =
           (sym c.is_within.ensures ∙ not-true _ c.if-not-is_within.true-raw);
       run_after = stands c.loop-i.invariant;
     }
-
-pub bounds-run-i : goal.bounds-run-i
-bounds-run-i c = let v = c.loop-i.invariant in omega (arith, v.count, v.size)
-
-pub overflow_add-i : goal.overflow_add-i
-overflow_add-i c = omega arith
-
-pub loop-i-smaller : goal.loop-i-smaller
-loop-i-smaller c = omega arith
 
 pub loop-i-preserved : goal.loop-i-preserved
 loop-i-preserved c =

@@ -2,9 +2,6 @@
 use Rattle.picture.proofs.RunLaws.{byte_reads}
 use Rattle.picture.proofs.rewriting.read_byte.Goals as goal
 
-pub shape_of-row : goal.shape_of-row
-shape_of-row c = c.read.auto.row
-
 pub returns : goal.returns
 returns c =
     byte_reads c.args.rewriting _ c.args.row.now _ c.args.piece.now c.args.used c.requires.0 c.requires.1

@@ -6,25 +6,6 @@ use Rattle.picture.proofs.rows.row.Goals as goal
 pub loop-i-init : goal.loop-i-init
 loop-i-init c = start _ _ _ _ _ (c.row_bytes.ensures ∙ sym (row-length _)) c.some-n.ensures
 
-pub overflow_add-place : goal.overflow_add-place
-overflow_add-place c = omega (arith, c.loop-i.invariant.there, row-length c.args.heights.now)
-
-pub offset_bounds-heights-place : goal.offset_bounds-heights-place
-offset_bounds-heights-place c = omega (arith, c.loop-i.invariant.there, row-length c.args.heights.now)
-
-pub bounds-heights-place : goal.bounds-heights-place
-bounds-heights-place c =
-    omega (arith, c.loop-i.invariant.there, row-length c.args.heights.now)
-
-pub bounds-out-i : goal.bounds-out-i
-bounds-out-i c = let v = c.loop-i.invariant in omega (arith, v.room, v.size)
-
-pub overflow_add-i : goal.overflow_add-i
-overflow_add-i c = omega arith
-
-pub loop-i-smaller : goal.loop-i-smaller
-loop-i-smaller c = omega arith
-
 pub loop-i-preserved : goal.loop-i-preserved
 loop-i-preserved c =
     let hs = c.args.heights.now in

@@ -1,27 +1,15 @@
-use Rattle.picture.proofs.GoneLaws.{start, size, piece-room, area-room, turned, stops, turn-less}
+use Rattle.picture.proofs.GoneLaws.{start, turned, stops, turn-less}
 use Rattle.picture.proofs.rewriting.Rewriting.feed.Goals as goal
 
-pub loop-going-init : goal.loop-going-init
-loop-going-init c = start _ _ _ _
+pub loop-next-init : goal.loop-next-init
+loop-next-init c = start _ _ _ _
 
-pub turn-t-requires : goal.turn-t-requires
-turn-t-requires c = let i = c.loop-going.invariant in (piece-room i, area-room i)
+pub loop-next-smaller : goal.loop-next-smaller
+loop-next-smaller c = turn-less c.in-Some.ensures.went c.in-Some.ensures.onward
 
-pub loop-going-smaller : goal.loop-going-smaller
-loop-going-smaller c =
-    rw c.loop-going-test.true (turn-less c.turn-t.ensures.went c.turn-t.ensures.onward)
+pub loop-next-preserved : goal.loop-next-preserved
+loop-next-preserved c = turned c.loop-next.invariant _ c.turn.new.row c.turn.auto.row c.in-Some.ensures.went
 
-pub loop-going-preserved : goal.loop-going-preserved
-loop-going-preserved c =
-    turned c.loop-going.invariant _ c.turn-t.new.row c.turn-t.auto.row c.turn-t.ensures.went c.turn-t.ensures.onward
-
-pub shape_of-row : goal.shape_of-row
-shape_of-row c = c.loop-going.invariant.row
-
-pub shape_of-out : goal.shape_of-out
-shape_of-out c = size c.loop-going.invariant
-
-pub returns : goal.returns
-returns c =
-    let i = c.loop-going.invariant in
-    record { went = i.went; stops = stops i c.loop-going-test.false }
+pub returns-clause-stops : goal.returns-clause-stops
+returns-clause-stops c =
+    rw c.in_default.ensures.kept.0 (stops c.loop-next.invariant c.in_default.ensures.stops)

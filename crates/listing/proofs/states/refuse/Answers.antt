@@ -1,5 +1,0 @@
--- `states::refuse` meets its contract. Assumes nothing.
-use Rattle.listing.proofs.states.refuse.Goals as goal
-
-pub returns : goal.returns
-returns c = cc

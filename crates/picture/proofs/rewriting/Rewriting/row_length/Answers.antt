@@ -1,8 +1,0 @@
--- `Rewriting::row_length` meets its contract: the definition's number. Assumes nothing.
-use mathlib.Core.Path.{refl}
-use Rattle.pgm.specs.Limits.{max_picture_width}
-use Rattle.picture.proofs.rewriting.Rewriting.row_length.Goals as goal
-
-pub returns : goal.returns
-unfolding max_picture_width
-returns c = refl
