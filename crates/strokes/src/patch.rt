@@ -1,7 +1,6 @@
 // Rectangles of numbers copied: heights to the work area, and from there coefficients to the plane.
-ghost use Rattle.std.specs.Prelude.{◌≡◌, List, ℕ, ℤ, ◌+◌, ◌-◌, ◌*◌, ◌/◌, ◌^◌, ◌≤◌, ◌<◌, length, true};
+ghost use Rattle.std.specs.Prelude.{◌≡◌, ℕ, ◌+◌, ◌-◌, ◌*◌, ◌/◌, ◌^◌, ◌≤◌, ◌<◌, length, true};
 ghost use Rattle.numbers.specs.Signal.{at, windowed, spliced};
-ghost use Rattle.areas.specs.Areas.{heights_at};
 ghost use Rattle.wavelet.specs.Plane.{cells, flat};
 ghost use Rattle.lifting.specs.Grid.{side, count};
 ghost use Rattle.wavelet.specs.Bands.{Grid};
@@ -10,6 +9,7 @@ ghost use Rattle.strokes.specs.Local.{patch_copied, band_mended, changed_of, hal
 
 use crate::direction;
 use crate::direction::Level;
+use areas::elements::Element;
 
 // Rows and columns of a plane.
 #[derive(Clone, Copy)]
@@ -20,45 +20,19 @@ pub struct Patch {
     pub columns: usize,
 }
 
-// What can be copied to the work area or the plane: coefficients as they are, heights as coefficients.
-pub trait Source: Sized {
-    ghost values: { List Self → ℕ → ℤ };
-
-    // Number i of a row.
-    fn read(row: &[Self], i: usize) -> i32
-        requires { i < length row.now }
-        ensures { result ≡ values row.now i };
-}
-
-impl Source for i32 {
-    ghost values = { at };
-
-    fn read(row: &[i32], i: usize) -> i32 {
-        row[i]
-    }
-}
-
-impl Source for u16 {
-    ghost values = { heights_at };
-
-    fn read(row: &[u16], i: usize) -> i32 {
-        i32::from(row[i])
-    }
-}
-
 // n numbers from place a of one area to place b of another.
-fn copy_to<S: Source>(from: &[S], a: usize, to: &mut [i32], b: usize, n: usize)
+fn copy_to<T: Element>(from: &[T], a: usize, to: &mut [i32], b: usize, n: usize)
     requires { (a + n ≤ length from.now) × (b + n ≤ length to.old) }
-    ensures { at to.new ≡ spliced b n (λ i. S.values from.now (a + i)) (at to.old) }
+    ensures { at to.new ≡ spliced b n (λ i. T.read from.now (a + i)) (at to.old) }
 {
     for i in 0..n {
-        to[b + i] = S::read(from, a + i);
+        to[b + i] = from[a + i].value();
     }
 }
 
 // A patch of an area, whose rows are `across` apart, from the rows from place a on, `stride` apart.
-pub fn copy_patch<S: Source>(
-    from: &[S],
+pub fn copy_patch<T: Element>(
+    from: &[T],
     a: usize,
     stride: usize,
     to: &mut [i32],
@@ -69,7 +43,7 @@ pub fn copy_patch<S: Source>(
         × ((i : ℕ) → i < p.rows → a + i * stride + p.columns ≤ length from.now)
         × ((i : ℕ) → i < p.rows → (p.row + i) * across + p.column + p.columns ≤ length to.old) }
     ensures { at to.new ≡
-        flat across (patch_copied p (λ i j. S.values from.now (a + i * stride + j)) (cells across (at to.old))) }
+        flat across (patch_copied p (λ i j. T.read from.now (a + i * stride + j)) (cells across (at to.old))) }
 {
     for i in 0..p.rows {
         copy_to(

@@ -40,7 +40,7 @@ loop-i-preserved g c =
       inv.2,
       inv.3,
       inv.4,
-      patch-turn a.across a.p.row a.p.column a.p.rows a.p.columns c.loop-i.i (λ j k. g.S.Source.values a.from.now (a.a + j * a.stride + k))
+      patch-turn a.across a.p.row a.p.column a.p.rows a.p.columns c.loop-i.i (λ j k. g.T.Element.read a.from.now (a.a + j * a.stride + k))
           (at a.to.now)
           (at c.loop-i.to) _ inv.2 (omega arith) c.copy_to.ensures inv.5,
     )

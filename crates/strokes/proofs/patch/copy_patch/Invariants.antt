@@ -13,5 +13,5 @@ invariant-loop-i g l =
     × (l.p.column + l.p.columns ≤ l.across)
     × ((j : ℕ) → j < l.p.rows → l.a + j * l.stride + l.p.columns ≤ length l.from)
     × ((j : ℕ) → j < l.p.rows → (l.p.row + j) * l.across + l.p.column + l.p.columns ≤ length l.initial.to)
-    × RowSwept l.across (patch_copied l.p (λ j k. g.S.Source.values l.from (l.a + j * l.stride + k)) (cells l.across (at l.initial.to)))
+    × RowSwept l.across (patch_copied l.p (λ j k. g.T.Element.read l.from (l.a + j * l.stride + k)) (cells l.across (at l.initial.to)))
     (cells l.across (at l.initial.to)) (l.p.row + l.i) (at l.to)

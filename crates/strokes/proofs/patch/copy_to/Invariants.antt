@@ -8,4 +8,4 @@ abbrev pub invariant-loop-i : goal.invariant-loop-i
 invariant-loop-i g l =
     (l.a + l.n ≤ length l.from)
     × (l.b + l.n ≤ length l.initial.to)
-    × Swept (length l.initial.to) (spliced l.b l.n (λ j. g.S.Source.values l.from (l.a + j)) (at l.initial.to)) (at l.initial.to) (l.b + l.i) l.to
+    × Swept (length l.initial.to) (spliced l.b l.n (λ j. g.T.Element.read l.from (l.a + j)) (at l.initial.to)) (at l.initial.to) (l.b + l.i) l.to
