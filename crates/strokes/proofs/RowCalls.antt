@@ -1,6 +1,6 @@
 -- Rows lifted through another line: what a call or a turn comes to. Assumes nothing.
 use mathlib.Core.Path.{◌≡◌, refl, sym, ap, ◌∙◌}
-use mathlib.Core.Bool.{Bool, true, false, not, true≢false, false≢true}
+use mathlib.Core.Bool.{Bool, true, false, true≢false, false≢true}
 use mathlib.Core.List.{List}
 use Prim.Native.Nat.{ℕ, ◌+◌, ◌-◌, ◌*◌, ◌≤◌, ◌<◌}
 use native.Mathlib.Omega.{arith}
@@ -51,13 +51,13 @@ forward-through n k m y x z l e h em is made =
     is' ∙ ap (λ (u : ℕ → ℤ). in_halves (side 0 n) (line_forward wrap32 (side 0 n) u) x) (lent-front n k x z l e h is) ∙ cut-forward (side 0 n) x x
 
 -- a row that is used, and one that is not
-pub row-left : (n : ℕ) (x : ℕ → ℤ) (b : Bool) → not b ≡ true → x ≡ pick b (row_done n x) x
-row-left n x true e = absurd (false≢true e)
+pub row-left : (n : ℕ) (x : ℕ → ℤ) (b : Bool) → b ≡ false → x ≡ pick b (row_done n x) x
+row-left n x true e = absurd (true≢false e)
 row-left n x false e = refl
 
-pub row-used : (n : ℕ) (y x : ℕ → ℤ) (b : Bool) → not b ≡ false → y ≡ row_done n x → y ≡ pick b (row_done n x) x
+pub row-used : (n : ℕ) (y x : ℕ → ℤ) (b : Bool) → b ≡ true → y ≡ row_done n x → y ≡ pick b (row_done n x) x
 row-used n y x true e f = f
-row-used n y x false e f = absurd (true≢false e)
+row-used n y x false e f = absurd (false≢true e)
 
 -- row i of a pass over the rows that are used
 pub used_turn : (s w : ℕ) (d : Direction) (l₀ : List ℤ) (i k : ℕ) (l z : List ℤ) (b : Bool) → k ≡ w → i < d.size → b ≡ used_in d i →

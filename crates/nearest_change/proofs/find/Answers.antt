@@ -51,7 +51,7 @@ pub made-requires : goal.made-requires
 made-requires c =
     let a = c.args in
     let p = passes (length a.heights.now) a.width a.height a.row a.column (sym c.in_ok-question.ensures) in
-    makes (length a.heights.now) a.width a.height a.row a.column p a.heights.now (λ j. omega (arith, c.shared_slice_known-1.given j))
+    makes (length a.heights.now) a.width a.height a.row a.column p a.heights.now (λ j. omega (arith, c.type_inv.heights j))
     c.places.result c.places-2.result c.window-w.result c.places.ensures
     c.places-2.ensures c.window-w.ensures.window c.window-w.ensures.by_index c.cell.result c.cell.ensures c.first-t.result c.first-t.ensures
 
@@ -60,6 +60,6 @@ returns c =
     let a = c.args in
     let p = passes (length a.heights.now) a.width a.height a.row a.column (sym c.in_ok-question.ensures) in
     answered _ a.width a.height a.heights.now a.row a.column _ _ (sym c.in_ok-question.ensures) c.made.ensures
-    (nearest (length a.heights.now) a.width a.height a.row a.column p a.heights.now (λ j. omega (arith, c.shared_slice_known-1.given j))
+    (nearest (length a.heights.now) a.width a.height a.row a.column p a.heights.now (λ j. omega (arith, c.type_inv.heights j))
     c.places.result c.places-2.result c.window-w.result c.places.ensures
     c.places-2.ensures c.window-w.ensures.window c.window-w.ensures.by_index c.cell.result c.cell.ensures c.first-t.result c.first-t.ensures)

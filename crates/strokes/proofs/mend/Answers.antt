@@ -2,7 +2,6 @@
 use mathlib.Core.Path.{◌≡◌, refl, sym, ap, ◌∙◌}
 use mathlib.Core.Bool.{Bool, true, false}
 use native.Mathlib.Omega.{arith}
-use borrow.Author.Tests.{not-true, not-false}
 use Rattle.numbers.specs.Signal.{pick}
 use Rattle.map_questions.proofs.QuestionLaws.{roomy-is, asked-on, asked-no, passed-no, passed-yes}
 use Rattle.strokes.specs.Strokes.{lies_in, mend_question}
@@ -19,18 +18,18 @@ unfolding mend_question
 returns-then-not-lies_in c =
     let q = c.size_question-no.ensures in
     let no : lies_in c.args.q c.args.width c.args.height ≡ false =
-    sym c.lies_in.ensures ∙ not-true _ c.if-not-lies_in.true-raw in
+    sym c.lies_in.ensures ∙ c.if-not-lies_in.true in
     record { value = sym (asked-on _ _ _ _ _ _ _ _ (sym q ∙ c.if-no-ne0.false) ∙ ap (λ (b : Bool). pick b 0 19) no); plane_after = passed-no _ _ _ 19 (λ e. omega (arith, e)); work_after = passed-no _ _ _ 19 (λ e. omega (arith, e)) }
 
 pub mend_map-requires : goal.mend_map-requires
 mend_map-requires c =
     let r = roomy-is _ _ _ _ _ _ _ (sym c.size_question-no.ensures ∙ c.if-no-ne0.false) in
-    (r.size, r.first, r.second, r.third, sym c.lies_in.ensures ∙ not-false _ c.if-not-lies_in.false-raw)
+    (r.size, r.first, r.second, r.third, sym c.lies_in.ensures ∙ c.if-not-lies_in.false)
 
 pub returns : goal.returns
 unfolding mend_question
 returns c =
     let q = c.size_question-no.ensures in
     let yes-in : lies_in c.args.q c.args.width c.args.height ≡ true =
-    sym c.lies_in.ensures ∙ not-false _ c.if-not-lies_in.false-raw in
+    sym c.lies_in.ensures ∙ c.if-not-lies_in.false in
     record { value = sym (asked-on _ _ _ _ _ _ _ _ (sym q ∙ c.if-no-ne0.false) ∙ ap (λ (b : Bool). pick b 0 19) yes-in); plane_after = c.mend_map.ensures.plane_after ∙ sym (passed-yes _ _ _ 0 refl); work_after = c.mend_map.ensures.work_after ∙ sym (passed-yes _ _ _ 0 refl) }

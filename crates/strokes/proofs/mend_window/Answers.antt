@@ -38,7 +38,7 @@ mend_levels-requires c =
 pub returns : goal.returns
 returns c =
     let p = c.requires in
-    let fits : (i : ℕ) → get_or c.args.heights.now i 0 < 65536 = λ i. omega (arith, c.shared_slice_known-1.given i) in
+    let fits : (i : ℕ) → get_or c.args.heights.now i 0 < 65536 = λ i. omega (arith, c.type_inv.heights i) in
     let w = map-window c.args.q p.0 p.4 c.widened-columns.ensures c.widened-rows.ensures in
     window-mended w p.0 c.args.heights.now _ _ _ _ c.args.q fits c.widened-columns.ensures c.widened-rows.ensures
     c.load.ensures c.mend_levels.ensures

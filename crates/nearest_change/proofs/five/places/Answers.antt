@@ -3,32 +3,17 @@ use native.Mathlib.Omega.{arith}
 use Rattle.nearest_change.proofs.FiveLaws.{five-eq}
 use Rattle.nearest_change.proofs.five.places.Goals as goal
 
-pub overflow_mul-q : goal.overflow_mul-q
-overflow_mul-q c = omega arith
-
 pub mirrored-requires : goal.mirrored-requires
 mirrored-requires c = (omega arith, omega arith)
-
-pub overflow_add-q : goal.overflow_add-q
-overflow_add-q c = omega arith
 
 pub mirrored-requires-2 : goal.mirrored-requires-2
 mirrored-requires-2 c = (omega arith, omega arith)
 
-pub overflow_add-q-2 : goal.overflow_add-q-2
-overflow_add-q-2 c = omega arith
-
 pub mirrored-requires-3 : goal.mirrored-requires-3
 mirrored-requires-3 c = (omega arith, omega arith)
 
-pub overflow_add-q-3 : goal.overflow_add-q-3
-overflow_add-q-3 c = omega arith
-
 pub mirrored-requires-4 : goal.mirrored-requires-4
 mirrored-requires-4 c = (omega arith, omega arith)
-
-pub overflow_add-q-4 : goal.overflow_add-q-4
-overflow_add-q-4 c = omega arith
 
 pub mirrored-requires-5 : goal.mirrored-requires-5
 mirrored-requires-5 c = (omega arith, omega arith)

@@ -5,7 +5,7 @@ use native.Mathlib.Omega.{arith}
 use Rattle.nearest_change.proofs.window.height.Goals as goal
 
 pub overflow_cast-result : goal.overflow_cast-result
-overflow_cast-result c = omega (arith, c.shared_slice_known-1.given (c.args.r * c.args.width + c.args.c))
+overflow_cast-result c = omega (arith, c.type_inv.heights (c.args.r * c.args.width + c.args.c))
 
 pub returns : goal.returns
-returns c = (refl, omega (arith, c.shared_slice_known-1.given (c.args.r * c.args.width + c.args.c)))
+returns c = (refl, omega (arith, c.type_inv.heights (c.args.r * c.args.width + c.args.c)))

@@ -1,37 +1,21 @@
 -- `lows`: each column by itself. Assumes nothing.
 use mathlib.Core.Path.{ap, ◌∙◌}
-use native.Mathlib.Omega.{arith}
 use Rattle.nearest_change.specs.Trials.{lifted_of}
 use Rattle.nearest_change.proofs.FiveLaws.{five-eq}
 use Rattle.nearest_change.proofs.StepLaws.{column_fits}
 use Rattle.nearest_change.proofs.window.lows.Goals as goal
 
-pub column-requires : goal.column-requires
-column-requires c = omega arith
-
 pub lifted-requires : goal.lifted-requires
 lifted-requires c = column_fits c.args.w.now c.requires 0 _ c.column.ensures
-
-pub column-requires-2 : goal.column-requires-2
-column-requires-2 c = omega arith
 
 pub lifted-requires-2 : goal.lifted-requires-2
 lifted-requires-2 c = column_fits c.args.w.now c.requires 1 _ c.column-2.ensures
 
-pub column-requires-3 : goal.column-requires-3
-column-requires-3 c = omega arith
-
 pub lifted-requires-3 : goal.lifted-requires-3
 lifted-requires-3 c = column_fits c.args.w.now c.requires 2 _ c.column-3.ensures
 
-pub column-requires-4 : goal.column-requires-4
-column-requires-4 c = omega arith
-
 pub lifted-requires-4 : goal.lifted-requires-4
 lifted-requires-4 c = column_fits c.args.w.now c.requires 3 _ c.column-4.ensures
-
-pub column-requires-5 : goal.column-requires-5
-column-requires-5 c = omega arith
 
 pub lifted-requires-5 : goal.lifted-requires-5
 lifted-requires-5 c =

@@ -6,17 +6,8 @@ use Rattle.strokes.proofs.direction.is_used.Goals as goal
 pub returns-then-r-eq0 : goal.returns-then-r-eq0
 returns-then-r-eq0 c = used-even _ _ (omega arith)
 
-pub overflow_add-place : goal.overflow_add-place
-overflow_add-place c = omega arith
-
-pub overflow_add-place-2 : goal.overflow_add-place-2
-overflow_add-place-2 c = omega arith
-
 pub returns-then-place-d : goal.returns-then-place-d
 returns-then-place-d c = unused _ _ (λ e. absurd (omega arith)) (omega arith)
-
-pub overflow_add-result : goal.overflow_add-result
-overflow_add-result c = omega arith
 
 pub returns : goal.returns
 returns c = used-odd _ _ (λ e. absurd (omega arith)) (omega arith)

@@ -11,12 +11,6 @@ overflow_mul-start c =
     let k : q * x ≤ 65536 * x = mul-le-mul_right x (omega (arith, c.power-q.ensures.2)) in
     omega (arith, k, div-le_self (c.args.first + 1) q, c.saturating_sub.ensures)
 
-pub overflow_add-last : goal.overflow_add-last
-overflow_add-last c = omega arith
-
-pub overflow_sub-last : goal.overflow_sub-last
-overflow_sub-last c = omega arith
-
 pub overflow_add-last-2 : goal.overflow_add-last-2
 overflow_add-last-2 c = omega (arith, c.power-q.ensures.2)
 

@@ -1,9 +1,0 @@
--- `compare_writer::writing::expected_take` is safe and ends. In the loop nothing is asked. Assumes nothing.
-use Rattle.std.proofs.Common.{◌-◌}
-use Rattle.compare_writer.proofs.writing.expected_take.Given as goal
-
-abbrev pub invariant-loop-k : goal.invariant-loop-k
-invariant-loop-k l = Unit {0}
-
-abbrev pub decreases-loop-k : goal.decreases-loop-k
-decreases-loop-k l = l.run - l.k
