@@ -21,6 +21,13 @@ use Rattle.lifting.proofs.GridLaws.{ahead, counts, some, beside-lows, beside-hig
 pub further : (e n : ℕ) → n + 1 < e → e - (n + 1) < e - n
 further e n b = omega arith
 
+-- a loop of t turns, which ends a turn before e
+pub turn-left : (e t n : ℕ) → t ≡ e - 1 → n < t → n + 1 < e
+turn-left e t n is b = omega arith
+
+pub turned : (e t n : ℕ) → t ≡ e - 1 → t ≤ n → n ≤ t → (t ≡ n) × (e ≤ n + 1)
+turned e t n is b le = omega arith
+
 pub below : (k m n : ℕ) → k < m → n ≡ m → k < n
 below k m n b e = omega arith
 

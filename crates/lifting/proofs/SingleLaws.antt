@@ -2,15 +2,24 @@
 use mathlib.Core.Path.{◌≡◌, refl, sym, ap, ◌∙◌, fun_ext}
 use mathlib.Core.List.{List}
 use mathlib.Core.Bool.{true, false}
-use Prim.Native.Nat.{ℕ, ◌+◌, ◌-◌, ◌*◌, ◌/◌, ◌%◌, ◌≤◌, ◌<◌}
+use Prim.Native.Nat.{ℕ, ◌+◌, ◌-◌, ◌*◌, ◌/◌, ◌%◌, ◌^◌, ◌≤◌, ◌<◌}
 use native.Mathlib.Decide.{dec_lt, ℕ_discrete}
 use native.Mathlib.Omega.{arith}
 use lib.IntN.{ℤ, pos, ◌*ℤ◌}
-use lib.Signed.{shr_z}
+use lib.Signed.{shr_z, mag, mag_shr}
+use mir.Syntax.{w32}
+use mir.Val.{hbits, to_z, of_z}
+use Rattle.numbers.proofs.Words.{read_back}
 use lib.ListN.{length, set}
 use lib.Dec.{eqb}
 use borrow.Author.Tests.{eqb-true, eqb-false, eq-eqb, ne_eqb, lt-ltb, le-ltb}
-use Rattle.numbers.specs.Signal.{at}
+use Rattle.std.specs.Prelude.{Result, Ok, Err}
+use Rattle.std.specs.Result.{IsErrAnd}
+use Rattle.refusal.specs.declared.Refusal.{Refusal}
+use Rattle.refusal.specs.declared.Refusal.TheVariants as why
+use Rattle.refusal.specs.Numbers.{number, answer}
+use Rattle.refusal.proofs.Laws.{number-some}
+use Rattle.numbers.specs.Signal.{at, pick}
 use Rattle.numbers.specs.Word.{wrap32}
 use Rattle.numbers.proofs.Sweep.{start, store, finish, both}
 use Rattle.lifting.specs.Line.{Half, lo, hi}
@@ -18,6 +27,7 @@ use Rattle.lifting.specs.Grid.{Side, place, count, joined, line_forward, line_ha
 use Rattle.lifting.specs.Halves.{fronted}
 use Rattle.lifting.specs.GridHalves.{halves_of, lifted_in_place, unlifted_in_place, has_line_in, backward_into, highs_laid}
 use Rattle.lifting.specs.Passes.{evens_copied}
+use Rattle.lifting.specs.Single.{half}
 use Rattle.lifting.proofs.GridLaws.{counts, joined-place, low-one, high_one, even-one, odd-one, halves-high, halves-past, halves_are}
 use Rattle.lifting.proofs.GridLaws.{front-in, front-past}
 
@@ -220,3 +230,38 @@ module _ (S : Side) (few : S.length < 2) (e : single_high S ≡ false) where
             ∙ simp (lt-ltb j (count lo S) (omega arith)))
         | no b ↦ sym (front-past S.length u z j (omega arith))
       ]
+
+-- ---- the half of an only number
+value-of : Result ℤ Refusal → ℤ
+value-of (Ok v) = v
+value-of (Err r) = pos 0
+
+half-gives : (x h : ℤ) → Ok h ≡ half x → (is_even x ≡ true) × (h ≡ shr_z x 2)
+unfolding value-of
+half-gives x h =
+    elim (is_even x) as (λ t. is_even x ≡ t → Ok h ≡ pick t (Ok (shr_z x 2)) (Err why.NoMap) → (is_even x ≡ true) × (h ≡ shr_z x 2)) [
+      | true ↦ λ e p. (e, ap value-of p)
+      | false ↦ λ e p. absurd (omega (arith, ap answer p))
+    ] refl
+
+half-refuses : (x : ℤ) (r : Refusal) → Err r ≡ half x → (is_even x ≡ false) × (number r ≡ 14)
+half-refuses x r =
+    elim (is_even x) as (λ t. is_even x ≡ t → Err r ≡ pick t (Ok (shr_z x 2)) (Err why.NoMap) → (is_even x ≡ false) × (number r ≡ 14)) [
+      | true ↦ λ e p. absurd (number-some r (ap answer p))
+      | false ↦ λ e p. (e, ap answer p)
+    ] refl
+
+-- by the number as it is read from memory, and as its half is stored there
+pub halved : (z h : ℤ) → mag z < 2 ^ hbits w32 → Ok h ≡ half (to_z w32 (of_z w32 z)) → (is_even z ≡ true) × (to_z w32 (of_z w32 h) ≡ shr_z z 2)
+halved z h b e =
+    let g = half-gives z h (rw (read_back z b) at e) in
+    let m = mag_shr z 2 in
+    (g.0, rw g.1 (read_back (shr_z z 2) (omega (arith, b, m))))
+
+pub odd-refused : (z : ℤ) (r : Refusal) → mag z < 2 ^ hbits w32 → Err r ≡ half (to_z w32 (of_z w32 z)) → (is_even z ≡ false) × (number r ≡ 14)
+odd-refused z r b e = half-refuses z r (rw (read_back z b) at e)
+
+-- what `?` hands on
+pub handed-on : {A : Type 0} (q : Result A Refusal) (r : Refusal) → IsErrAnd q (λ z. z ≡ r) → answer q ≡ number r
+handed-on (Ok a) r h = absurd h
+handed-on (Err z) r h = ap number h

@@ -8,3 +8,4 @@ pub mod FiveThree
 pub mod Passes
 pub mod Pairs
 pub mod Ranges
+pub mod Single

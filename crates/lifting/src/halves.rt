@@ -1,8 +1,9 @@
-// A line in halves lifted back where its high half stands in another area. The call answers 0, or, with nothing changed, 5 where the area
-// written is shorter than the line, then 14 for an only high value that is odd.
+// A line in halves lifted back where its high half stands in another area. The call is refused, with nothing changed, where the
+// area written is shorter than the line, and then for an only high value that is odd.
 ghost use Rattle.std.specs.Prelude.{◌≡◌, ◌+◌, ◌<◌, ◌≤◌, length, set, leb};
 ghost use Rattle.numbers.specs.Signal.{at, pick, both};
 ghost use Rattle.numbers.specs.Word.{wrap32};
+ghost use Rattle.refusal.specs.Numbers.{answer};
 ghost use Rattle.lifting.specs.Line.{unpredicted, unupdated};
 ghost use Rattle.lifting.specs.Grid.{side};
 ghost use Rattle.lifting.specs.Halves.{fronted};
@@ -10,6 +11,7 @@ ghost use Rattle.lifting.specs.GridHalves.{unlifted_in_place, has_line_in, highs
 ghost use Rattle.lifting.specs.Passes.{highs_changed, lows_changed, lows_of};
 
 use crate::{place, sample};
+use refusal::Refusal;
 
 // Place p of `out` without its update by two places of a row.
 fn unupdate_by(row: &[i32], out: &mut [i32], p: usize, a: usize, b: usize)
@@ -39,13 +41,12 @@ fn unlift_lows(row: &[i32], out: &mut [i32], low: usize, o: usize)
     let high = row.len() - low;
     let end = high - o;
     unupdate_by(row, out, 0, low, low + place::nearest(high, o));
-    let mut n = 1;
-    while n < end {
+    for n in 1..end {
         unupdate_by(row, out, n, low + n + o - 1, low + n + o);
-        n += 1;
     }
-    if n < low {
-        unupdate_by(row, out, n, low + high - 1, low + high - 1);
+    let last = end.max(1);
+    if last < low {
+        unupdate_by(row, out, last, low + high - 1, low + high - 1);
     }
 }
 
@@ -58,13 +59,12 @@ fn unlift_highs(row: &[i32], out: &mut [i32], low: usize, o: usize)
 {
     let end = low - o;
     unpredict_to(row, out, low, 0, place::nearest(low, o));
-    let mut n = 1;
-    while n < end {
+    for n in 1..end {
         unpredict_to(row, out, low + n, n + o - 1, n + o);
-        n += 1;
     }
-    if low + n < row.len() {
-        unpredict_to(row, out, low + n, low - 1, low - 1);
+    let last = low + end.max(1);
+    if last < row.len() {
+        unpredict_to(row, out, last, low - 1, low - 1);
     }
 }
 
@@ -80,10 +80,10 @@ fn unlift_row(row: &[i32], start: usize, out: &mut [i32])
     unlift_highs(row, out, low, 1 - b);
 }
 
-// A row of one number or none: an only high value is halved on the way to `out`, and an odd one is 14.
-fn unlift_single(row: &[i32], start: usize, out: &mut [i32]) -> u8
+// A row of one number or none: an only high value is halved on the way to `out`, and an odd one is refused.
+fn unlift_single(row: &[i32], start: usize, out: &mut [i32]) -> Result<(), Refusal>
     requires { (length row.now < 2) × (length row.now ≤ length out.old) }
-    ensures value { result ≡ pick (has_line_in (side start (length row.now))
+    ensures value { answer result ≡ pick (has_line_in (side start (length row.now))
         (highs_laid (side start (length row.now)) (at row.now) (at out.old))) 0 14 }
     ensures out_after { at out.new ≡ pick (has_line_in (side start (length row.now))
         (highs_laid (side start (length row.now)) (at row.now) (at out.old)))
@@ -91,18 +91,14 @@ fn unlift_single(row: &[i32], start: usize, out: &mut [i32]) -> u8
         (highs_laid (side start (length row.now)) (at row.now) (at out.old))) (at out.old)) (at out.old) }
 {
     if place::single_high(row.len(), start) {
-        if sample::is_even(row[0]) {
-            out[0] = sample::halve(row[0]);
-            return 0;
-        }
-        return 14;
+        out[0] = sample::half(row[0])?;
     }
-    0
+    Ok(())
 }
 
 // A line in halves lifted back at the front of `out`, which has its low half; its high half is read from `row`, whose low half is not.
-pub fn unlift_by(row: &[i32], start: usize, out: &mut [i32]) -> u8
-    ensures value { result ≡ pick (leb (length row.now) (length out.old))
+pub fn unlift_by(row: &[i32], start: usize, out: &mut [i32]) -> Result<(), Refusal>
+    ensures value { answer result ≡ pick (leb (length row.now) (length out.old))
         (pick (has_line_in (side start (length row.now)) (highs_laid (side start (length row.now)) (at row.now)
         (at out.old))) 0 14) 5 }
     ensures out_after { at out.new ≡ pick (both (leb (length row.now) (length out.old))
@@ -113,11 +109,11 @@ pub fn unlift_by(row: &[i32], start: usize, out: &mut [i32]) -> u8
 {
     let n = row.len();
     if out.len() < n {
-        return 5;
+        return Err(Refusal::AreaShort);
     }
     if n < 2 {
         return unlift_single(row, start, out);
     }
     unlift_row(row, start, &mut out[0..n]);
-    0
+    Ok(())
 }

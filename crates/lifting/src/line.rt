@@ -3,6 +3,7 @@
 ghost use Rattle.std.specs.Prelude.{◌≡◌, ◌+◌, ◌-◌, ◌*◌, ◌%◌, ◌<◌, ◌≤◌, length, set, leb, eqb};
 ghost use Rattle.numbers.specs.Signal.{at, pick, both};
 ghost use Rattle.numbers.specs.Word.{wrap32};
+ghost use Rattle.refusal.specs.Numbers.{answer};
 ghost use Rattle.lifting.specs.Line.{lo, unpredicted, unupdated};
 ghost use Rattle.lifting.specs.Grid.{side, count};
 ghost use Rattle.lifting.specs.GridHalves.{lifted_in_place, unlifted_in_place, has_line_in, forward_into, backward_into};
@@ -10,6 +11,7 @@ ghost use Rattle.lifting.specs.Passes.{evens_copied, even_back, rest_put};
 
 use crate::step::{Predict, Unpredict, Unupdate, Update};
 use crate::{passes, place, sample};
+use refusal::Refusal;
 
 // ---- a line in halves, in place
 
@@ -23,21 +25,17 @@ fn lift_single(line: &mut [i32], start: usize)
     }
 }
 
-// The way back: it is halved, and an odd one is 14.
-fn unlift_single(line: &mut [i32], start: usize) -> u8
+// The way back: it is halved, and an odd one is refused.
+fn unlift_single(line: &mut [i32], start: usize) -> Result<(), Refusal>
     requires { length line.old < 2 }
-    ensures value { result ≡ pick (has_line_in (side start (length line.old)) (at line.old)) 0 14 }
+    ensures value { answer result ≡ pick (has_line_in (side start (length line.old)) (at line.old)) 0 14 }
     ensures line_after { at line.new ≡ pick (has_line_in (side start (length line.old)) (at line.old))
         (unlifted_in_place (side start (length line.old)) (at line.old)) (at line.old) }
 {
     if place::single_high(line.len(), start) {
-        if sample::is_even(line[0]) {
-            line[0] = sample::halve(line[0]);
-            return 0;
-        }
-        return 14;
+        line[0] = sample::half(line[0])?;
     }
-    0
+    Ok(())
 }
 
 // A line in halves lifted in place: the low values first, then the high ones.
@@ -55,9 +53,9 @@ pub fn lift(line: &mut [i32], start: usize)
     passes::change_lows::<Update>(line, low, b);
 }
 
-// The way back: low and high values in place to the line in halves. 14, and nothing changed, for an only high value that is odd.
-pub fn unlift(line: &mut [i32], start: usize) -> u8
-    ensures value { result ≡ pick (has_line_in (side start (length line.old)) (at line.old)) 0 14 }
+// The way back: low and high values in place to the line in halves. No map, and nothing changed, for an only high value that is odd.
+pub fn unlift(line: &mut [i32], start: usize) -> Result<(), Refusal>
+    ensures value { answer result ≡ pick (has_line_in (side start (length line.old)) (at line.old)) 0 14 }
     ensures line_after { at line.new ≡ pick (has_line_in (side start (length line.old)) (at line.old))
         (unlifted_in_place (side start (length line.old)) (at line.old)) (at line.old) }
 {
@@ -69,7 +67,7 @@ pub fn unlift(line: &mut [i32], start: usize) -> u8
     let low = place::lows(n, start);
     passes::change_lows::<Unupdate>(line, low, b);
     passes::change_highs::<Unpredict>(line, low, 1 - b);
-    0
+    Ok(())
 }
 
 // ---- from one area to another
@@ -81,23 +79,21 @@ fn copy_evens(line: &[i32], out: &mut [i32])
 {
     let n = line.len();
     let low = n - n / 2;
-    let mut j = 0;
-    while j < low {
+    for j in 0..low {
         out[j] = line[2 * j];
-        j += 1;
     }
 }
 
 // A line's low values, then its high values, at the front of `out`: its places deinterleaved, and lifted there.
-// 5, and nothing changed, where `out` is shorter than the line.
-pub fn forward(line: &[i32], start: usize, out: &mut [i32]) -> u8
-    ensures value { result ≡ pick (leb (length line.now) (length out.old)) 0 5 }
+// Refused, and nothing changed, where `out` is shorter than the line.
+pub fn forward(line: &[i32], start: usize, out: &mut [i32]) -> Result<(), Refusal>
+    ensures value { answer result ≡ pick (leb (length line.now) (length out.old)) 0 5 }
     ensures out_after { at out.new ≡ pick (leb (length line.now) (length out.old))
         (forward_into (side start (length line.now)) (at line.now) (at out.old)) (at out.old) }
 {
     let n = line.len();
     if out.len() < n {
-        return 5;
+        return Err(Refusal::AreaShort);
     }
     if 0 < n {
         let b = start % 2;
@@ -106,7 +102,7 @@ pub fn forward(line: &[i32], start: usize, out: &mut [i32]) -> u8
         copy_evens(&line[1 - b..n], &mut out[low..n]);
         lift(&mut out[0..n], start);
     }
-    0
+    Ok(())
 }
 
 // The place of a line that has the low value n, its high neighbours at places a and b.
@@ -174,38 +170,34 @@ fn put_line(coefficients: &[i32], out: &mut [i32], low: usize, start: usize)
     put_first(coefficients, out, low, b, even);
     let from = low + b;
     let end = high - b;
-    let mut n = 0;
-    while n + 1 < end {
+    let turns = end.saturating_sub(1);
+    for n in 0..turns {
         let next = even_of(coefficients, n + 1, from + n, from + n + 1);
         put_pair(coefficients, out, from + n, 2 * n + b, even, next);
         even = next;
-        n += 1;
     }
-    put_end(coefficients, out, low, start, n, even);
+    put_end(coefficients, out, low, start, turns, even);
 }
 
-// A line of one number or none: an only high value is halved, and an odd one is 14.
-fn put_single(coefficients: &[i32], start: usize, out: &mut [i32]) -> u8
+// A line of one number or none: an only high value is halved, and an odd one is refused.
+fn put_single(coefficients: &[i32], start: usize, out: &mut [i32]) -> Result<(), Refusal>
     requires { (length coefficients.now < 2) × (length coefficients.now ≤ length out.old) }
-    ensures value { result ≡ pick (has_line_in (side start (length coefficients.now)) (at coefficients.now)) 0 14 }
+    ensures value { answer result ≡ pick (has_line_in (side start (length coefficients.now)) (at coefficients.now)) 0 14 }
     ensures out_after { at out.new ≡ pick (has_line_in (side start (length coefficients.now)) (at coefficients.now))
         (backward_into (side start (length coefficients.now)) (at coefficients.now) (at out.old)) (at out.old) }
 {
     if place::single_high(coefficients.len(), start) {
-        if sample::is_even(coefficients[0]) {
-            out[0] = sample::halve(coefficients[0]);
-            return 0;
-        }
-        return 14;
+        out[0] = sample::half(coefficients[0])?;
+        return Ok(());
     }
     copy_evens(coefficients, out);
-    0
+    Ok(())
 }
 
-// Low values, then high values, to the line that has them, at the front of `out`. With nothing changed 5, where `out` is shorter, then 14, for an only high
+// Low values, then high values, to the line that has them, at the front of `out`. Refused with nothing changed where `out` is shorter, and then for an only high
 // value that is odd.
-pub fn backward(coefficients: &[i32], start: usize, out: &mut [i32]) -> u8
-    ensures value { result ≡ pick (leb (length coefficients.now) (length out.old))
+pub fn backward(coefficients: &[i32], start: usize, out: &mut [i32]) -> Result<(), Refusal>
+    ensures value { answer result ≡ pick (leb (length coefficients.now) (length out.old))
         (pick (has_line_in (side start (length coefficients.now)) (at coefficients.now)) 0 14) 5 }
     ensures out_after { at out.new ≡ pick (both (leb (length coefficients.now) (length out.old))
         (has_line_in (side start (length coefficients.now)) (at coefficients.now)))
@@ -213,11 +205,11 @@ pub fn backward(coefficients: &[i32], start: usize, out: &mut [i32]) -> u8
 {
     let n = coefficients.len();
     if out.len() < n {
-        return 5;
+        return Err(Refusal::AreaShort);
     }
     if n < 2 {
         return put_single(coefficients, start, out);
     }
     put_line(coefficients, out, place::lows(n, start), start);
-    0
+    Ok(())
 }

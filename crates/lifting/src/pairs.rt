@@ -1,11 +1,13 @@
 // A pair of rows of an area lifted along the columns in one pass, so that a number is read and stored once. Rows are those of `rows`.
-// Each call forward predicts row `high` by rows `low` and `right`, and updates row `low` by row `before` and by row `high`. It answers 0, or 5 with
-// nothing changed where a row does not lie in the area or is wider than the stride, or where rows `high` and `low` are one.
+// Each call forward predicts row `high` by rows `low` and `right`, and updates row `low` by row `before` and by row `high`. It refuses, with nothing changed,
+// where a row does not lie in the area or is wider than the stride, or where rows `high` and `low` are one.
 ghost use Rattle.std.specs.Prelude.{◌≡◌, length};
 ghost use Rattle.numbers.specs.Signal.{at, pick};
+ghost use Rattle.refusal.specs.Numbers.{answer};
 ghost use Rattle.lifting.specs.Pairs.{pair_fits, pair_lifted, pair_copied, pair_unlifted, pair_within};
 
 use crate::{place, rows};
+use refusal::Refusal;
 
 // Whether the four rows lie within n numbers, and the two that are changed are two.
 fn pair_fits(
@@ -36,24 +38,22 @@ pub fn lift_pair(
     low: usize,
     right: usize,
     before: usize,
-) -> u8
-    ensures value { result ≡ pick (pair_fits (length area.old) stride width high low right before) 0 5 }
+) -> Result<(), Refusal>
+    ensures value { answer result ≡ pick (pair_fits (length area.old) stride width high low right before) 0 5 }
     ensures area_after { at area.new ≡ pick (pair_fits (length area.old) stride width high low right before)
         (pair_lifted stride width high low right before (at area.old)) (at area.old) }
 {
-    if pair_fits(area.len(), stride, width, high, low, right, before) {
-        let h = high * stride;
-        let l = low * stride;
-        let r = right * stride;
-        let b = before * stride;
-        let mut i = 0;
-        while i < width {
-            place::lift_at(area, h + i, l + i, r + i, b + i);
-            i += 1;
-        }
-        return 0;
+    if !pair_fits(area.len(), stride, width, high, low, right, before) {
+        return Err(Refusal::AreaShort);
     }
-    5
+    let h = high * stride;
+    let l = low * stride;
+    let r = right * stride;
+    let b = before * stride;
+    for i in 0..width {
+        place::lift_at(area, h + i, l + i, r + i, b + i);
+    }
+    Ok(())
 }
 
 // The same, and row `high` takes the place of row `before`.
@@ -65,28 +65,26 @@ pub fn lift_and_copy(
     low: usize,
     right: usize,
     before: usize,
-) -> u8
-    ensures value { result ≡ pick (pair_fits (length area.old) stride width high low right before) 0 5 }
+) -> Result<(), Refusal>
+    ensures value { answer result ≡ pick (pair_fits (length area.old) stride width high low right before) 0 5 }
     ensures area_after { at area.new ≡ pick (pair_fits (length area.old) stride width high low right before)
         (pair_copied stride width high low right before (at area.old)) (at area.old) }
 {
-    if pair_fits(area.len(), stride, width, high, low, right, before) {
-        let h = high * stride;
-        let l = low * stride;
-        let r = right * stride;
-        let b = before * stride;
-        let mut i = 0;
-        while i < width {
-            place::lift_copy_at(area, h + i, l + i, r + i, b + i);
-            i += 1;
-        }
-        return 0;
+    if !pair_fits(area.len(), stride, width, high, low, right, before) {
+        return Err(Refusal::AreaShort);
     }
-    5
+    let h = high * stride;
+    let l = low * stride;
+    let r = right * stride;
+    let b = before * stride;
+    for i in 0..width {
+        place::lift_copy_at(area, h + i, l + i, r + i, b + i);
+    }
+    Ok(())
 }
 
-// The way back: row `low` without its update by rows `high` and `right`, and then row `high` without its prediction by rows `before` and `low`. 14 where a
-// number made does not lie from `least` to `most`; the rows are made then too.
+// The way back: row `low` without its update by rows `high` and `right`, and then row `high` without its prediction by rows `before` and `low`. No map where
+// a number made does not lie from `least` to `most`; the rows are made then too.
 pub fn unlift_pair(
     area: &mut [i32],
     stride: usize,
@@ -97,27 +95,22 @@ pub fn unlift_pair(
     before: usize,
     least: i32,
     most: i32,
-) -> u8
-    ensures value { result ≡ pick (pair_fits (length area.old) stride width high low right before)
+) -> Result<(), Refusal>
+    ensures value { answer result ≡ pick (pair_fits (length area.old) stride width high low right before)
         (pick (pair_within least most stride width high low (at area.new)) 0 14) 5 }
     ensures area_after { at area.new ≡ pick (pair_fits (length area.old) stride width high low right before)
         (pair_unlifted stride width high low right before (at area.old)) (at area.old) }
 {
-    if pair_fits(area.len(), stride, width, high, low, right, before) {
-        let h = high * stride;
-        let l = low * stride;
-        let r = right * stride;
-        let b = before * stride;
-        let mut ok = true;
-        let mut i = 0;
-        while i < width {
-            ok = ok & place::unlift_at(area, h + i, l + i, r + i, b + i, least, most);
-            i += 1;
-        }
-        if ok {
-            return 0;
-        }
-        return 14;
+    if !pair_fits(area.len(), stride, width, high, low, right, before) {
+        return Err(Refusal::AreaShort);
     }
-    5
+    let h = high * stride;
+    let l = low * stride;
+    let r = right * stride;
+    let b = before * stride;
+    let mut ok = true;
+    for i in 0..width {
+        ok = ok & place::unlift_at(area, h + i, l + i, r + i, b + i, least, most);
+    }
+    if ok { Ok(()) } else { Err(Refusal::NoMap) }
 }

@@ -5,6 +5,9 @@ ghost use Rattle.numbers.specs.Word.{wrap32};
 ghost use Rattle.lifting.specs.Line.{predicted, unpredicted, updated, unupdated};
 ghost use Rattle.lifting.specs.Grid.{is_even};
 ghost use Rattle.lifting.specs.Ranges.{within};
+ghost use Rattle.lifting.specs.Single.{half};
+
+use refusal::Refusal;
 
 // z as 32 bits keep it, without a branch
 fn wrap(z: i64) -> i32
@@ -74,11 +77,21 @@ pub fn double(x: i32) -> i32
     more(x, x)
 }
 
-// Half a value that is even; an odd one has no half.
+// Half a value, rounded down.
 pub fn halve(x: i32) -> i32
     ensures { result ≡ shr_z x 2 }
 {
     x >> 1
+}
+
+// Half a value that is even; an odd one has no half, and no map has it.
+pub fn half(x: i32) -> Result<i32, Refusal>
+    ensures { result ≡ half x }
+{
+    if !is_even(x) {
+        return Err(Refusal::NoMap);
+    }
+    Ok(halve(x))
 }
 
 pub fn is_even(x: i32) -> bool

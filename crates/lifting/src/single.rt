@@ -22,10 +22,8 @@ pub fn all_even(row: &[i32]) -> bool
     ensures { result ≡ every (length row.now) (λ i. is_even (at row.now i)) }
 {
     let mut ok = true;
-    let mut i = 0;
-    while i < row.len() {
-        ok = ok & sample::is_even(row[i]);
-        i += 1;
+    for x in row {
+        ok = ok & sample::is_even(*x);
     }
     ok
 }
@@ -35,10 +33,8 @@ pub fn double_all(row: &mut [i32])
     ensures { at row.new ≡
         fronted (length row.old) (λ i. wrap32 (pos 2 *ℤ at row.old i)) (at row.old) }
 {
-    let mut i = 0;
-    while i < row.len() {
-        row[i] = sample::double(row[i]);
-        i += 1;
+    for v in row.iter_mut() {
+        *v = sample::double(*v);
     }
 }
 
@@ -49,12 +45,9 @@ pub fn halve_all(row: &mut [i32]) -> bool
         fronted (length row.old) (λ i. shr_z (at row.old i) 2) (at row.old) }
 {
     let mut ok = true;
-    let mut i = 0;
-    while i < row.len() {
-        let v = row[i];
-        ok = ok & sample::is_even(v);
-        row[i] = sample::halve(v);
-        i += 1;
+    for v in row.iter_mut() {
+        ok = ok & sample::is_even(*v);
+        *v = sample::halve(*v);
     }
     ok
 }
@@ -78,8 +71,7 @@ pub fn column_even(area: &[i32], stride: usize, n: usize) -> bool
 {
     let len = area.len();
     let mut p = 0;
-    let mut i = 0;
-    while i < n {
+    for _ in 0..n {
         if len <= p {
             return true;
         }
@@ -90,7 +82,6 @@ pub fn column_even(area: &[i32], stride: usize, n: usize) -> bool
             return true;
         }
         p += stride;
-        i += 1;
     }
     true
 }

@@ -11,18 +11,6 @@ use Rattle.lifting.proofs.SingleLaws.{has_more}
 use Rattle.lifting.proofs.LiftLaws.{unlifted-front}
 use Rattle.lifting.proofs.halves.unlift_by.Goals as goal
 
-pub returns-then-out-n : goal.returns-then-out-n
-returns-then-out-n c =
-    let a = c.args in
-    let bad = lt-leb (length a.row.now) (length a.out.now) (omega arith) in
-    record { value = simp bad; out_after = simp bad }
-
-pub unlift_single-requires : goal.unlift_single-requires
-unlift_single-requires c = omega arith
-
-pub shape_of-out-then-n-lt2 : goal.shape_of-out-then-n-lt2
-shape_of-out-then-n-lt2 c = c.unlift_single.auto.out
-
 pub returns-then-n-lt2 : goal.returns-then-n-lt2
 returns-then-n-lt2 c =
     let a = c.args in

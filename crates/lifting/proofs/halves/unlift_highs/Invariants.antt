@@ -9,6 +9,3 @@ use Rattle.lifting.proofs.halves.unlift_highs.Given as goal
 -- `out₀` is `out` after the first store
 abbrev pub invariant-loop-n : goal.invariant-loop-n
 invariant-loop-n l = HighsBy (unpredicted wrap32) l.row l.initial.out l.low l.o l.end l.n l.out
-
-abbrev pub decreases-loop-n : goal.decreases-loop-n
-decreases-loop-n l = l.end - l.n

@@ -7,30 +7,12 @@ use Rattle.lifting.specs.Grid.{side}
 use Rattle.lifting.proofs.SingleLaws.{has_more}
 use Rattle.lifting.proofs.line.backward.Goals as goal
 
-pub returns-then-out-n : goal.returns-then-out-n
-returns-then-out-n c =
-    let a = c.args in
-    let bad = lt-leb (length a.coefficients.now) (length a.out.now) (omega arith) in
-    record { value = simp bad; out_after = simp bad }
-
-pub put_single-requires : goal.put_single-requires
-put_single-requires c = omega arith
-
-pub shape_of-out-then-n-lt2 : goal.shape_of-out-then-n-lt2
-shape_of-out-then-n-lt2 c = c.put_single.auto.out
-
 pub returns-then-n-lt2 : goal.returns-then-n-lt2
 returns-then-n-lt2 c =
     let a = c.args in
     let single = c.put_single in
     let ok = le-leb (length a.coefficients.now) (length a.out.now) (omega arith) in
     record { value = simp ok single.ensures.value; out_after = simp ok single.ensures.out_after }
-
-pub put_line-requires : goal.put_line-requires
-put_line-requires c = (c.lows.ensures, omega arith, omega arith)
-
-pub shape_of-out : goal.shape_of-out
-shape_of-out c = c.put_line.auto.out
 
 pub returns : goal.returns
 returns c =

@@ -8,6 +8,3 @@ use Rattle.lifting.proofs.line.copy_evens.Given as goal
 
 abbrev pub invariant-loop-j : goal.invariant-loop-j
 invariant-loop-j l = (l.j ≤ l.low) × Swept (length l.initial.out) (evens_copied (length l.line) (at l.line) (at l.initial.out)) (at l.initial.out) l.j l.out
-
-abbrev pub decreases-loop-j : goal.decreases-loop-j
-decreases-loop-j l = l.low - l.j

@@ -12,54 +12,6 @@ use Rattle.lifting.proofs.AreaLaws.{Parts, part-sums, part-starts, low-room, hig
 use Rattle.lifting.proofs.AreaLaws.{to-all, less_none, up-to, forward-parts, forward-none}
 use Rattle.lifting.proofs.line.forward.Goals as goal
 
-pub returns-then-out-n : goal.returns-then-out-n
-returns-then-out-n c =
-    let a = c.args in
-    let bad = lt-leb (length a.line.now) (length a.out.now) c.if-out-n.true in
-    record { value = simp bad; out_after = simp bad }
-
-pub offset_bounds-line-b : goal.offset_bounds-line-b
-offset_bounds-line-b c =
-    let facts : Parts (side c.args.start (length c.args.line.now))
-    (length c.args.out.now) c.lows-low.result = record {
-      some = c.if-n-gt0.true;
-      room = c.if-out-n.false;
-      small = c.well_formed.0.1;
-      lows = c.lows-low.ensures;
-    } in
-    (part-sums (facts)).0
-
-pub slice_bounds-copy_evens-count : goal.slice_bounds-copy_evens-count
-slice_bounds-copy_evens-count c =
-    let facts : Parts (side c.args.start (length c.args.line.now))
-    (length c.args.out.now) c.lows-low.result = record {
-      some = c.if-n-gt0.true;
-      room = c.if-out-n.false;
-      small = c.well_formed.0.1;
-      lows = c.lows-low.ensures;
-    } in
-    (part-starts (facts)).0
-
-pub slice_bounds-copy_evens-start : goal.slice_bounds-copy_evens-start
-slice_bounds-copy_evens-start c =
-    let facts : Parts (side c.args.start (length c.args.line.now))
-    (length c.args.out.now) c.lows-low.result = record {
-      some = c.if-n-gt0.true;
-      room = c.if-out-n.false;
-      small = c.well_formed.0.1;
-      lows = c.lows-low.ensures;
-    } in
-    (part-starts (facts)).0
-
-pub slice_bounds-copy_evens-end : goal.slice_bounds-copy_evens-end
-slice_bounds-copy_evens-end c = to-all _
-
-pub slice_bounds-copy_evens-count-then-n-gt0 : goal.slice_bounds-copy_evens-count-then-n-gt0
-slice_bounds-copy_evens-count-then-n-gt0 c = from-none _
-
-pub slice_bounds-copy_evens-start-then-n-gt0 : goal.slice_bounds-copy_evens-start-then-n-gt0
-slice_bounds-copy_evens-start-then-n-gt0 c = from-none _
-
 pub slice_bounds-copy_evens-end-then-n-gt0 : goal.slice_bounds-copy_evens-end-then-n-gt0
 slice_bounds-copy_evens-end-then-n-gt0 c =
     let facts : Parts (side c.args.start (length c.args.line.now))
@@ -81,64 +33,6 @@ copy_evens-requires c =
       lows = c.lows-low.ensures;
     } in
     low-room (facts) _ _ refl refl
-
-pub overflow_sub-b : goal.overflow_sub-b
-overflow_sub-b c =
-    let facts : Parts (side c.args.start (length c.args.line.now))
-    (length c.args.out.now) c.lows-low.result = record {
-      some = c.if-n-gt0.true;
-      room = c.if-out-n.false;
-      small = c.well_formed.0.1;
-      lows = c.lows-low.ensures;
-    } in
-    (part-starts (facts)).4
-
-pub offset_bounds-line-b-then-n-gt0 : goal.offset_bounds-line-b-then-n-gt0
-offset_bounds-line-b-then-n-gt0 c =
-    let facts : Parts (side c.args.start (length c.args.line.now))
-    (length c.args.out.now) c.lows-low.result = record {
-      some = c.if-n-gt0.true;
-      room = c.if-out-n.false;
-      small = c.well_formed.0.1;
-      lows = c.lows-low.ensures;
-    } in
-    (part-sums (facts)).1
-
-pub slice_bounds-copy_evens-count-then-n-gt0-2 : goal.slice_bounds-copy_evens-count-then-n-gt0-2
-slice_bounds-copy_evens-count-then-n-gt0-2 c =
-    let facts : Parts (side c.args.start (length c.args.line.now))
-    (length c.args.out.now) c.lows-low.result = record {
-      some = c.if-n-gt0.true;
-      room = c.if-out-n.false;
-      small = c.well_formed.0.1;
-      lows = c.lows-low.ensures;
-    } in
-    (part-starts (facts)).1
-
-pub slice_bounds-copy_evens-start-then-n-gt0-2 : goal.slice_bounds-copy_evens-start-then-n-gt0-2
-slice_bounds-copy_evens-start-then-n-gt0-2 c =
-    let facts : Parts (side c.args.start (length c.args.line.now))
-    (length c.args.out.now) c.lows-low.result = record {
-      some = c.if-n-gt0.true;
-      room = c.if-out-n.false;
-      small = c.well_formed.0.1;
-      lows = c.lows-low.ensures;
-    } in
-    (part-starts (facts)).1
-
-pub slice_bounds-copy_evens-end-then-n-gt0-2 : goal.slice_bounds-copy_evens-end-then-n-gt0-2
-slice_bounds-copy_evens-end-then-n-gt0-2 c = to-all _
-
-pub offset_bounds-out-low : goal.offset_bounds-out-low
-offset_bounds-out-low c =
-    let facts : Parts (side c.args.start (length c.args.line.now))
-    (length c.args.out.now) c.lows-low.result = record {
-      some = c.if-n-gt0.true;
-      room = c.if-out-n.false;
-      small = c.well_formed.0.1;
-      lows = c.lows-low.ensures;
-    } in
-    (part-sums (facts)).2
 
 pub slice_bounds-copy_evens-count-then-n-gt0-3 : goal.slice_bounds-copy_evens-count-then-n-gt0-3
 slice_bounds-copy_evens-count-then-n-gt0-3 c =
@@ -162,18 +56,6 @@ slice_bounds-copy_evens-start-then-n-gt0-3 c =
     } in
     (part-starts (facts)).2
 
-pub slice_bounds-copy_evens-end-then-n-gt0-3 : goal.slice_bounds-copy_evens-end-then-n-gt0-3
-slice_bounds-copy_evens-end-then-n-gt0-3 c =
-    let facts : Parts (side c.args.start (length c.args.line.now))
-    (length c.args.out.now) c.lows-low.result = record {
-      some = c.if-n-gt0.true;
-      room = c.if-out-n.false;
-      small = c.well_formed.0.1;
-      lows = c.lows-low.ensures;
-    } in
-    let size-once : length ((put_mid 0 (c.lows-low.result - 0) c.args.out.now c.copy_evens.new.out)) ≡ length c.args.out.now = same_len_mid 0 (c.lows-low.result - 0) c.args.out.now c.copy_evens.new.out c.copy_evens.auto.out in
-    up-to _ _ _ (facts).room (size-once)
-
 pub copy_evens-requires-then-n-gt0 : goal.copy_evens-requires-then-n-gt0
 copy_evens-requires-then-n-gt0 c =
     let facts : Parts (side c.args.start (length c.args.line.now))
@@ -185,36 +67,6 @@ copy_evens-requires-then-n-gt0 c =
     } in
     let size-once : length ((put_mid 0 (c.lows-low.result - 0) c.args.out.now c.copy_evens.new.out)) ≡ length c.args.out.now = same_len_mid 0 (c.lows-low.result - 0) c.args.out.now c.copy_evens.new.out c.copy_evens.auto.out in
     high-room (facts) _ ((put_mid 0 (c.lows-low.result - 0) c.args.out.now c.copy_evens.new.out)) refl (size-once)
-
-pub slice_bounds-lift-count : goal.slice_bounds-lift-count
-slice_bounds-lift-count c = from-none _
-
-pub slice_bounds-lift-start : goal.slice_bounds-lift-start
-slice_bounds-lift-start c = from-none _
-
-pub slice_bounds-lift-end : goal.slice_bounds-lift-end
-slice_bounds-lift-end c =
-    let facts : Parts (side c.args.start (length c.args.line.now))
-    (length c.args.out.now) c.lows-low.result = record {
-      some = c.if-n-gt0.true;
-      room = c.if-out-n.false;
-      small = c.well_formed.0.1;
-      lows = c.lows-low.ensures;
-    } in
-    let size-once : length ((put_mid 0 (c.lows-low.result - 0) c.args.out.now c.copy_evens.new.out)) ≡ length c.args.out.now = same_len_mid 0 (c.lows-low.result - 0) c.args.out.now c.copy_evens.new.out c.copy_evens.auto.out in
-    let size-twice : length ((put_mid c.lows-low.result (length c.args.line.now - c.lows-low.result) ((put_mid 0 (c.lows-low.result - 0) c.args.out.now c.copy_evens.new.out)) c.copy_evens-then-n-gt0.new.out)) ≡ length ((put_mid 0 (c.lows-low.result - 0) c.args.out.now c.copy_evens.new.out)) = same_len_mid c.lows-low.result (length c.args.line.now - c.lows-low.result) ((put_mid 0 (c.lows-low.result - 0) c.args.out.now c.copy_evens.new.out)) c.copy_evens-then-n-gt0.new.out
-    c.copy_evens-then-n-gt0.auto.out in
-    up-to _ _ _ (facts).room (size-twice ∙ size-once)
-
-pub shape_of-out : goal.shape_of-out
-shape_of-out c =
-    let size-once : length ((put_mid 0 (c.lows-low.result - 0) c.args.out.now c.copy_evens.new.out)) ≡ length c.args.out.now = same_len_mid 0 (c.lows-low.result - 0) c.args.out.now c.copy_evens.new.out c.copy_evens.auto.out in
-    let size-twice : length ((put_mid c.lows-low.result (length c.args.line.now - c.lows-low.result) ((put_mid 0 (c.lows-low.result - 0) c.args.out.now c.copy_evens.new.out)) c.copy_evens-then-n-gt0.new.out)) ≡ length ((put_mid 0 (c.lows-low.result - 0) c.args.out.now c.copy_evens.new.out)) = same_len_mid c.lows-low.result (length c.args.line.now - c.lows-low.result) ((put_mid 0 (c.lows-low.result - 0) c.args.out.now c.copy_evens.new.out)) c.copy_evens-then-n-gt0.new.out
-    c.copy_evens-then-n-gt0.auto.out in
-    same_len_mid 0 (length c.args.line.now - 0) ((put_mid c.lows-low.result (length c.args.line.now - c.lows-low.result) ((put_mid 0 (c.lows-low.result - 0) c.args.out.now c.copy_evens.new.out)) c.copy_evens-then-n-gt0.new.out)) c.lift.new.line
-    c.lift.auto.line
-    ∙ size-twice
-    ∙ size-once
 
 pub returns-then-n-gt0 : goal.returns-then-n-gt0
 returns-then-n-gt0 c =

@@ -10,6 +10,3 @@ use Rattle.lifting.proofs.line.put_line.Given as goal
 abbrev pub invariant-loop-n : goal.invariant-loop-n
 invariant-loop-n l =
     Carried (side l.start (length l.coefficients)) (at l.coefficients) l.initial.out l.low l.high l.b l.from l.end l.n l.even l.out
-
-abbrev pub decreases-loop-n : goal.decreases-loop-n
-decreases-loop-n l = l.end - l.n

@@ -1,67 +1,37 @@
 -- `lifting::line::put_single` meets its contract, by the laws of a line so short. Assumes nothing.
-use mathlib.Core.Path.{◌≡◌, sym, ap, ◌∙◌}
-use mathlib.Core.Bool.{true, false}
-use native.Mathlib.Omega.{arith}
-use lib.ListN.{length, length-set}
+use Rattle.std.proofs.Common.{◌≡◌, sym, ◌∙◌, length, arith}
 use Rattle.numbers.specs.Signal.{at}
-use Rattle.numbers.proofs.Words.{read_back}
-use Rattle.lifting.specs.Grid.{side, is_even}
-use Rattle.lifting.proofs.SingleLaws.{single-high, has_first, has-none, backward-single, backward-none}
+use Rattle.lifting.specs.Grid.{side}
+use Rattle.lifting.proofs.SingleLaws.{single-high, has_first, has-none, backward-single, backward-none, halved, odd-refused, handed-on}
 use Rattle.lifting.proofs.line.put_single.Goals as goal
 
 pub bounds-coefficients-0 : goal.bounds-coefficients-0
-bounds-coefficients-0 c = let t = single-high _ (sym c.single_high.ensures ∙ c.if-single_high.true) in omega arith
-
-pub bounds-coefficients-0-then-is_even : goal.bounds-coefficients-0-then-is_even
-bounds-coefficients-0-then-is_even c =
-    let t = single-high _ (sym c.single_high.ensures ∙ c.if-single_high.true) in
-    omega arith
+bounds-coefficients-0 c = let t = single-high _ (sym c.if-single_high.ensures) in omega arith
 
 pub bounds-out-0 : goal.bounds-out-0
-bounds-out-0 c =
-    let t = single-high _ (sym c.single_high.ensures ∙ c.if-single_high.true) in
-    omega arith
+bounds-out-0 c = let t = single-high _ (sym c.if-single_high.ensures) in omega arith
 
-pub shape_of-out-then-is_even : goal.shape_of-out-then-is_even
-shape_of-out-then-is_even c = length-set c.args.out.now 0 _
-
-pub returns-then-is_even : goal.returns-then-is_even
-returns-then-is_even c =
+pub returns-in_err-out : goal.returns-in_err-out
+returns-in_err-out c =
     let l = c.args.coefficients.now in
-    let o = c.args.out.now in
-    let S = side c.args.start (length l) in
-    let high = sym c.single_high.ensures ∙ c.if-single_high.true in
-    let test : is_even (at l 0) ≡ true =
-    ap is_even (sym (read_back (at l 0) c.is_even-arg-1.given)) ∙ sym c.is_even.ensures ∙ c.if-is_even.true in
-    let has = has_first S (at l) high ∙ test in
-    record {
-      value = simp has;
-      out_after = simp has (rw (read_back _ c.halve.type_inv, c.halve.ensures, read_back (at l 0) c.halve-arg-1.given)
-          (backward-single S high (at l) o c.requires.1));
-    }
+    let odd = odd-refused (at l 0) _ c.half-arg-1.given c.in_err-out.ensures in
+    let has = has_first (side c.args.start (length l)) (at l) (sym c.if-single_high.ensures) ∙ odd.0 in
+    record { value = simp has (handed-on c.from_residual.result _ c.from_residual.ensures.1 ∙ odd.1); out_after = simp has }
 
 pub returns-then-single_high : goal.returns-then-single_high
 returns-then-single_high c =
     let l = c.args.coefficients.now in
     let o = c.args.out.now in
     let S = side c.args.start (length l) in
-    let high = sym c.single_high.ensures ∙ c.if-single_high.true in
-    let test : is_even (at l 0) ≡ false =
-    ap is_even (sym (read_back (at l 0) c.is_even-arg-1.given)) ∙ sym c.is_even.ensures ∙ c.if-is_even.false in
-    let has = has_first S (at l) high ∙ test in
-    record { value = simp has; out_after = simp has }
-
-pub copy_evens-requires : goal.copy_evens-requires
-copy_evens-requires c = omega arith
-
-pub shape_of-out : goal.shape_of-out
-shape_of-out c = c.copy_evens.auto.out
+    let high = sym c.if-single_high.ensures in
+    let even = halved (at l 0) _ c.half-arg-1.given c.in_ok-out.ensures in
+    let has = has_first S (at l) high ∙ even.0 in
+    record { value = simp has; out_after = simp has (rw even.1 (backward-single S high (at l) o c.requires.1)) }
 
 pub returns : goal.returns
 returns c =
     let l = c.args.coefficients.now in
-    let o = c.args.out.now in
     let S = side c.args.start (length l) in
-    let low = sym c.single_high.ensures ∙ c.if-single_high.false in
+    let low = sym c.if-single_high.ensures in
     let has = has-none S (at l) low in
-    record { value = simp has; out_after = simp has (c.copy_evens.ensures ∙ backward-none S c.requires.0 low (at l) (at o)) }
+    record { value = simp has; out_after = simp has (c.copy_evens.ensures ∙ backward-none S c.requires.0 low (at l) (at c.args.out.now)) }

@@ -10,6 +10,3 @@ F s h l r b k x = pair_lifted s k h l r b x
 
 abbrev pub invariant-loop-i : goal.invariant-loop-i
 invariant-loop-i l = Passed (F l.stride l.high l.low l.right l.before) l.stride l.width l.high l.low l.right l.before l.initial.area l.i l.area
-
-abbrev pub decreases-loop-i : goal.decreases-loop-i
-decreases-loop-i l = l.width - l.i

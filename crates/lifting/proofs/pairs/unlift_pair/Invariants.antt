@@ -15,6 +15,3 @@ abbrev pub invariant-loop-i : goal.invariant-loop-i
 invariant-loop-i l =
     Passed (F l.stride l.high l.low l.right l.before) l.stride l.width l.high l.low l.right l.before l.initial.area l.i l.area
     × (l.ok ≡ pair_within l.least l.most l.stride l.i l.high l.low (at l.area))
-
-abbrev pub decreases-loop-i : goal.decreases-loop-i
-decreases-loop-i l = l.width - l.i

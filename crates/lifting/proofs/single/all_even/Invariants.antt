@@ -7,8 +7,5 @@ use Rattle.numbers.specs.Tests.{every}
 use Rattle.lifting.specs.Grid.{is_even}
 use Rattle.lifting.proofs.single.all_even.Given as goal
 
-abbrev pub invariant-loop-i : goal.invariant-loop-i
-invariant-loop-i l = (l.i ≤ length l.row) × (l.ok ≡ every l.i (λ j. is_even (at l.row j)))
-
-abbrev pub decreases-loop-i : goal.decreases-loop-i
-decreases-loop-i l = length l.row - l.i
+abbrev pub invariant-loop-x : goal.invariant-loop-x
+invariant-loop-x l = (l.x-index ≤ length l.row) × (l.ok ≡ every l.x-index (λ j. is_even (at l.row j)))

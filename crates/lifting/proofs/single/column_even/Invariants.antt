@@ -5,8 +5,5 @@ use lib.ListN.{length}
 use Rattle.lifting.proofs.SingleTests.{Column}
 use Rattle.lifting.proofs.single.column_even.Given as goal
 
-abbrev pub invariant-loop-i : goal.invariant-loop-i
-invariant-loop-i l = Column l.area l.stride l.n l.p l.i × (l.len ≡ length l.area)
-
-abbrev pub decreases-loop-i : goal.decreases-loop-i
-decreases-loop-i l = l.n - l.i
+abbrev pub invariant-loop : goal.invariant-loop
+invariant-loop l = Column l.area l.stride l.n l.p l.counter × (l.len ≡ length l.area)

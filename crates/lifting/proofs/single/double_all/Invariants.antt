@@ -6,8 +6,5 @@ use Rattle.numbers.specs.Word.{wrap32}
 use Rattle.lifting.proofs.EachLaws.{Each}
 use Rattle.lifting.proofs.single.double_all.Given as goal
 
-abbrev pub invariant-loop-i : goal.invariant-loop-i
-invariant-loop-i l = Each (λ v. wrap32 (pos 2 *ℤ v)) l.initial.row l.i l.row
-
-abbrev pub decreases-loop-i : goal.decreases-loop-i
-decreases-loop-i l = length l.initial.row - l.i
+abbrev pub invariant-loop-v : goal.invariant-loop-v
+invariant-loop-v l = Each (λ v. wrap32 (pos 2 *ℤ v)) l.initial.row l.v-index l.row

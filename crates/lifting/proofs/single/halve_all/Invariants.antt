@@ -9,8 +9,5 @@ use Rattle.lifting.specs.Grid.{is_even}
 use Rattle.lifting.proofs.EachLaws.{Each}
 use Rattle.lifting.proofs.single.halve_all.Given as goal
 
-abbrev pub invariant-loop-i : goal.invariant-loop-i
-invariant-loop-i l = (l.ok ≡ every l.i (λ j. is_even (at l.initial.row j))) × Each (λ v. shr_z v 2) l.initial.row l.i l.row
-
-abbrev pub decreases-loop-i : goal.decreases-loop-i
-decreases-loop-i l = length l.initial.row - l.i
+abbrev pub invariant-loop-v : goal.invariant-loop-v
+invariant-loop-v l = (l.ok ≡ every l.v-index (λ j. is_even (at l.initial.row j))) × Each (λ v. shr_z v 2) l.initial.row l.v-index l.row
