@@ -47,9 +47,9 @@ fn pair_columns(store: &mut [i32], w: usize, n: usize, r: usize)
     let high = slots::slot_on(0, n, 1);
     let free = slots::slot_on(0, n, 3);
     if 0 < n {
-        pairs::lift_and_copy(store, w, w, high, low, r, free);
+        let _ = pairs::lift_and_copy(store, w, w, high, low, r, free);
     } else {
-        pairs::lift_pair(store, w, w, high, low, r, high);
+        let _ = pairs::lift_pair(store, w, w, high, low, r, high);
         moves::copy_row(store, w, high, free);
     }
 }

@@ -175,7 +175,7 @@ pub fn unlift(line: &mut [i32], start: usize) -> u8
 {
     let n = line.len();
     if n < 2 {
-        return five_three::unlift(line, start);
+        return refusal::code(five_three::unlift(line, start));
     }
     let b = start % 2;
     let low = near::lows(n, start);
@@ -213,7 +213,7 @@ pub fn backward(coefficients: &[i32], start: usize, out: &mut [i32]) -> u8
 {
     let n = coefficients.len();
     if n < 2 {
-        return five_three::backward(coefficients, start, out);
+        return refusal::code(five_three::backward(coefficients, start, out));
     }
     if out.len() < n {
         return 5;

@@ -86,7 +86,7 @@ fn lift_row(row: &mut [i32], other: &mut [i32], used: bool)
     }
     let n = row.len();
     let _ = areas::copies::copy(row, other);
-    line::forward(&other[0..n], 0, row);
+    let _ = line::forward(&other[0..n], 0, row);
 }
 
 // Then the rows, but not the high ones out of reach: nobody reads them.

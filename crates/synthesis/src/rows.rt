@@ -40,7 +40,7 @@ fn unlift_line(line: &mut [i32], filter: usize, x: usize) -> u8
         (along_of filter (side x (length line.old)) (at line.old)) (at line.old) }
 {
     if filter == 0 {
-        return line::unlift(line, x);
+        return refusal::code(line::unlift(line, x));
     }
     nine_seven_line::unlift(line, x)
 }
@@ -89,7 +89,7 @@ pub fn make_both(stretch: &mut [i32], k: usize, w: usize, h: usize, y: usize, n:
     let b = neighbours::row_before(h, y, 1, 2 * n - 1);
     let least = range::lowest_of(0, k);
     let most = filters::range_of(0, k);
-    pairs::unlift_pair(
+    refusal::code(pairs::unlift_pair(
         stretch,
         w,
         w,
@@ -99,7 +99,7 @@ pub fn make_both(stretch: &mut [i32], k: usize, w: usize, h: usize, y: usize, n:
         b % 4,
         least,
         most,
-    ) == 0
+    )) == 0
 }
 
 // ---- whatever the filter

@@ -15,7 +15,7 @@ pub fn terrain_line_forward(line: &[i32], start: usize, out: &mut [i32]) -> u32
     ensures out_after { at out.new ≡ pick (leb (length line.now) (length out.old))
         (forward_into (side start (length line.now)) (at line.now) (at out.old)) (at out.old) }
 {
-    line::forward(line, start, out) as u32
+    refusal::code(line::forward(line, start, out)) as u32
 }
 
 // Low values, then high values, to the line that has them, at the front of `out`. With nothing changed 5, where `out` is shorter, then 14, for an only high
@@ -27,7 +27,7 @@ pub fn terrain_line_backward(coefficients: &[i32], start: usize, out: &mut [i32]
         (has_line_in (side start (length coefficients.now)) (at coefficients.now)))
         (backward_into (side start (length coefficients.now)) (at coefficients.now) (at out.old)) (at out.old) }
 {
-    line::backward(coefficients, start, out) as u32
+    refusal::code(line::backward(coefficients, start, out)) as u32
 }
 
 // The same two by the integer 9/7 of CCSDS 122.0 (document 02, Q-8).

@@ -17,6 +17,7 @@ ghost use Rattle.lifting.specs.GridHalves.{lifted_in_place, unlifted_in_place, h
 ghost use Rattle.lifting.specs.Rows.{rows_fit, rows_changed};
 ghost use Rattle.lifting.specs.Pairs.{pair_fits, pair_lifted, pair_copied};
 
+use lifting::step::{Predict, Unpredict, Unupdate, Update};
 use lifting::{halves, line, pairs, rows};
 
 #[unsafe(no_mangle)]
@@ -32,7 +33,7 @@ pub extern "C" fn kernel_predict_row(
     ensures area_after { at area.new ≡ rows_changed (predicted wrap32) (length area.old) stride width target left right
         (at area.old) }
 {
-    rows::predict_row(area, stride, width, target, left, right) as u32
+    refusal::code(rows::change_row::<Predict>(area, stride, width, target, left, right)) as u32
 }
 
 #[unsafe(no_mangle)]
@@ -47,7 +48,7 @@ pub extern "C" fn kernel_update_row(
     ensures value { result ≡ pick (rows_fit (length area.old) stride width target left right) 0 5 }
     ensures area_after { at area.new ≡ rows_changed (updated wrap32) (length area.old) stride width target left right (at area.old) }
 {
-    rows::update_row(area, stride, width, target, left, right) as u32
+    refusal::code(rows::change_row::<Update>(area, stride, width, target, left, right)) as u32
 }
 
 #[unsafe(no_mangle)]
@@ -63,7 +64,7 @@ pub extern "C" fn kernel_unupdate_row(
     ensures area_after { at area.new ≡ rows_changed (unupdated wrap32) (length area.old) stride width target left right
         (at area.old) }
 {
-    rows::unupdate_row(area, stride, width, target, left, right) as u32
+    refusal::code(rows::change_row::<Unupdate>(area, stride, width, target, left, right)) as u32
 }
 
 #[unsafe(no_mangle)]
@@ -79,7 +80,7 @@ pub extern "C" fn kernel_unpredict_row(
     ensures area_after { at area.new ≡ rows_changed (unpredicted wrap32) (length area.old) stride width target left right
         (at area.old) }
 {
-    rows::unpredict_row(area, stride, width, target, left, right) as u32
+    refusal::code(rows::change_row::<Unpredict>(area, stride, width, target, left, right)) as u32
 }
 
 #[unsafe(no_mangle)]
@@ -96,7 +97,7 @@ pub extern "C" fn kernel_lift_pair(
     ensures area_after { at area.new ≡ pick (pair_fits (length area.old) stride width high low right before)
         (pair_lifted stride width high low right before (at area.old)) (at area.old) }
 {
-    pairs::lift_pair(area, stride, width, high, low, right, before) as u32
+    refusal::code(pairs::lift_pair(area, stride, width, high, low, right, before)) as u32
 }
 
 #[unsafe(no_mangle)]
@@ -113,7 +114,7 @@ pub extern "C" fn kernel_lift_and_copy(
     ensures area_after { at area.new ≡ pick (pair_fits (length area.old) stride width high low right before)
         (pair_copied stride width high low right before (at area.old)) (at area.old) }
 {
-    pairs::lift_and_copy(area, stride, width, high, low, right, before) as u32
+    refusal::code(pairs::lift_and_copy(area, stride, width, high, low, right, before)) as u32
 }
 
 #[unsafe(no_mangle)]
@@ -129,7 +130,7 @@ pub extern "C" fn kernel_unlift(line: &mut [i32], start: usize) -> u32
     ensures line_after { at line.new ≡ pick (has_line_in (side start (length line.old)) (at line.old))
         (unlifted_in_place (side start (length line.old)) (at line.old)) (at line.old) }
 {
-    line::unlift(line, start) as u32
+    refusal::code(line::unlift(line, start)) as u32
 }
 
 #[unsafe(no_mangle)]
@@ -138,7 +139,7 @@ pub extern "C" fn kernel_forward(line: &[i32], start: usize, out: &mut [i32]) ->
     ensures out_after { at out.new ≡ pick (leb (length line.now) (length out.old))
         (forward_into (side start (length line.now)) (at line.now) (at out.old)) (at out.old) }
 {
-    line::forward(line, start, out) as u32
+    refusal::code(line::forward(line, start, out)) as u32
 }
 
 #[unsafe(no_mangle)]
@@ -149,7 +150,7 @@ pub extern "C" fn kernel_backward(coefficients: &[i32], start: usize, out: &mut 
         (has_line_in (side start (length coefficients.now)) (at coefficients.now)))
         (backward_into (side start (length coefficients.now)) (at coefficients.now) (at out.old)) (at out.old) }
 {
-    line::backward(coefficients, start, out) as u32
+    refusal::code(line::backward(coefficients, start, out)) as u32
 }
 
 #[unsafe(no_mangle)]
@@ -163,5 +164,5 @@ pub extern "C" fn kernel_unlift_by(row: &[i32], start: usize, out: &mut [i32]) -
         (unlifted_in_place (side start (length row.now)) (highs_laid (side start (length row.now)) (at row.now)
         (at out.old))) (at out.old)) (at out.old) }
 {
-    halves::unlift_by(row, start, out) as u32
+    refusal::code(halves::unlift_by(row, start, out)) as u32
 }

@@ -25,9 +25,7 @@ pub fn limit_all(row: &mut [i32], least: i32, most: i32)
     ensures { at row.new ≡
         fronted (length row.old) (λ i. clamped least most (at row.old i)) (at row.old) }
 {
-    let mut i = 0;
-    while i < row.len() {
-        row[i] = limit(row[i], least, most);
-        i += 1;
+    for v in row.iter_mut() {
+        *v = limit(*v, least, most);
     }
 }

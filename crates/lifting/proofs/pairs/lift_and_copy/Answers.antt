@@ -41,7 +41,6 @@ loop-i-preserved c =
     c.lift_copy_at.auto.area
     c.lift_copy_at.ensures (copied_more _ _ _ _ _ _ _ within)
 
-
 pub returns-clause-area_after : goal.returns-clause-area_after
 returns-clause-area_after c =
     simp (sym c.if-not-pair_fits.ensures) (pass-end _ _ _ _ _ _ _ _ _ _ c.loop-i.invariant c.loop-i-test.false)

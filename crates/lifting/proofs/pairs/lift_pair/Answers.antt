@@ -35,7 +35,6 @@ loop-i-preserved c =
     pass-turn _ _ _ _ _ _ _ _ (lifted_at (a.high * a.stride + o.i) (a.low * a.stride + o.i) (a.right * a.stride + o.i) (a.before * a.stride + o.i))
     o.i _ _ o.invariant c.loop-i-test.true c.lift_at.auto.area c.lift_at.ensures.area_after (lifted-more _ _ _ _ _ _ _ within)
 
-
 pub returns-clause-area_after : goal.returns-clause-area_after
 returns-clause-area_after c =
     simp (sym c.if-not-pair_fits.ensures) (pass-end _ _ _ _ _ _ _ _ _ _ c.loop-i.invariant c.loop-i-test.false)

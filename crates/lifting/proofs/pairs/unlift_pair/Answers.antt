@@ -42,7 +42,6 @@ loop-i-preserved c =
       within_more _ _ a.stride a.high a.low a.right a.before o.i _ _ _ _ within made.area_after o.invariant.1 made.value,
     )
 
-
 pub returns-then-ok : goal.returns-then-ok
 returns-then-ok c =
     let o = c.loop-i in

@@ -22,7 +22,7 @@ returns-then-n-lt2 c =
     let y = at a.coefficients.now in
     let z = at a.out.now in
     let e = c.backward.ensures in
-    record { value = e.value; out_after = e.out_after ∙ ap (λ (u : ℕ → ℤ). pick (both (leb N (length a.out.now)) (has_line_in S y)) u z) (backward-short S (omega arith) y z) }
+    record { value = c.code.ensures ∙ e.value; out_after = e.out_after ∙ ap (λ (u : ℕ → ℤ). pick (both (leb N (length a.out.now)) (has_line_in S y)) u z) (backward-short S (omega arith) y z) }
 
 pub returns-then-out-n : goal.returns-then-out-n
 returns-then-out-n c =

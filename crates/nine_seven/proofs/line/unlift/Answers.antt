@@ -20,7 +20,7 @@ returns-then-n-lt2 c =
     let a = c.args in
     let S = side a.start (length a.line.now) in
     let y = at a.line.now in
-    record { value = c.unlift.ensures.value; line_after = c.unlift.ensures.line_after ∙ ap (λ (z : ℕ → ℤ). pick (has_line_in S y) z y) (unlifted-short S (omega arith) y) }
+    record { value = c.code.ensures ∙ c.unlift.ensures.value; line_after = c.unlift.ensures.line_after ∙ ap (λ (z : ℕ → ℤ). pick (has_line_in S y) z y) (unlifted-short S (omega arith) y) }
 
 pub unupdate_lows-requires : goal.unupdate_lows-requires
 unupdate_lows-requires c =

@@ -45,4 +45,4 @@ returns c =
     c.row_before-b.ensures.0
     (read_back c.lowest_of-least.result c.lowest_of-least.type_inv ∙ c.lowest_of-least.ensures ∙ same-lowest F F.levels a.k c.requires.4)
     (read_back c.range_of-most.result c.range_of-most.type_inv ∙ c.range_of-most.ensures ∙ same-range F F.levels a.k c.requires.4)
-    c.unlift_pair.ensures.value c.unlift_pair.ensures.area_after)
+    (c.code.ensures ∙ c.unlift_pair.ensures.value) c.unlift_pair.ensures.area_after)

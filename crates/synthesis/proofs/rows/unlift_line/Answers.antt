@@ -18,7 +18,7 @@ returns-then-filter-eq0 c =
     let S = side a.x (length a.line.now) in
     let x = at a.line.now in
     record {
-      value = c.unlift.ensures.value;
+      value = c.code.ensures ∙ c.unlift.ensures.value;
       line_after = c.unlift.ensures.line_after ∙ ap (λ (g : Side → (ℕ → ℤ) → ℕ → ℤ). pick (has_line_in S x) (g S x) x) (along-first a.filter
           c.if-filter-eq0.true);
     }
