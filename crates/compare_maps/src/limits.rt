@@ -14,8 +14,8 @@ fn writer_answer(width: usize, levels: usize, store: &mut [i32]) -> u8 {
 
 fn reader_answer(width: usize, levels: usize, store: &mut [i32]) -> u8 {
     match Reader::set_up(heights::shape_of(width, 1, levels), store) {
-        reader::SetUp::Ready(_) => 0,
-        reader::SetUp::Refused(no) => no,
+        Ok(_) => 0,
+        Err(why) => why.number(),
     }
 }
 
@@ -82,8 +82,8 @@ fn feeds(r: Reader, store: &mut [i32], plane: &[i32]) -> u8 {
 fn feed_answer(plane: &[i32]) -> u8 {
     let mut store = [0i32; 16];
     match Reader::set_up(heights::shape_of(2, 2, 1), &mut store) {
-        reader::SetUp::Ready(r) => feeds(r, &mut store, plane),
-        reader::SetUp::Refused(no) => no,
+        Ok(r) => feeds(r, &mut store, plane),
+        Err(why) => why.number(),
     }
 }
 

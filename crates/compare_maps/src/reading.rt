@@ -1,5 +1,5 @@
 // The reader, fed with rows of the second plane, against the map and the steps of document 01.
-use reader::{Drawn, Fed, Reader, SetUp, Wanted};
+use reader::{ReadError, Reader, Wanted};
 use reference::tally::Tally;
 use reference::{area, heights, order, t800};
 use wavelet::shape::Shape;
@@ -78,18 +78,18 @@ fn gives(no: u8, count: usize, reader: Reader) -> Answer {
 
 pub fn fed(r: Reader, store: &mut [i32], run: &[i32]) -> Answer {
     match r.feed(store, run) {
-        Fed::Passed(next) => gives(0, 0, next),
-        Fed::Impossible(next) => gives(14, 0, next),
-        Fed::Refused(no) => gives(no, 0, r),
+        Ok(next) => gives(0, 0, next),
+        Err(ReadError::Impossible(next)) => gives(14, 0, next),
+        Err(ReadError::Refused(why)) => gives(why.number(), 0, r),
     }
 }
 
 fn drawn(r: Reader, store: &mut [i32], out: &mut [u16]) -> Answer {
     match r.draw(store, out) {
-        Drawn::Heights(n, next) => gives(0, n, next),
-        Drawn::Nothing => gives(NOTHING, 0, r),
-        Drawn::Impossible(next) => gives(14, 0, next),
-        Drawn::Refused(no) => gives(no, 0, r),
+        Ok(Some((n, next))) => gives(0, n, next),
+        Ok(None) => gives(NOTHING, 0, r),
+        Err(ReadError::Impossible(next)) => gives(14, 0, next),
+        Err(ReadError::Refused(why)) => gives(why.number(), 0, r),
     }
 }
 
@@ -261,15 +261,22 @@ fn is_draw(t: Turn, code: usize) -> bool {
 fn wanted(t: Turn, code: usize) -> Doing {
     let r = t.reader;
     match r.want() {
-        Wanted::Row(level, band, row, length) => doing_if(
+        Ok(
+            Wanted::Row {
+                level,
+                band,
+                row,
+                length,
+            },
+        ) => doing_if(
             t.steps < t.total,
             FEED,
             differ(t, code, level, band, row, length),
         ),
-        Wanted::Draw => doing_if(is_draw(t, code), TAKE, 0),
-        Wanted::Done => doing_if(t.steps == t.total, LAST, 0),
-        Wanted::Ended => doing_if(false, STOP, 0),
-        Wanted::Refused(_) => doing_if(false, STOP, 0),
+        Ok(Wanted::Draw) => doing_if(is_draw(t, code), TAKE, 0),
+        Ok(Wanted::Done) => doing_if(t.steps == t.total, LAST, 0),
+        Ok(Wanted::Ended) => doing_if(false, STOP, 0),
+        Err(_) => doing_if(false, STOP, 0),
     }
 }
 
@@ -352,13 +359,13 @@ fn read(
     store: &mut [i32],
 ) -> Tally {
     match Reader::set_up(s, store) {
-        SetUp::Ready(reader) => {
+        Ok(reader) => {
             let start = fresh(reader, s, i, total);
             let mut out = [0u16; 6160];
             let end = turns(start, map, book, plane, store, &mut out);
             tallied(t, s, end)
         }
-        SetUp::Refused(_) => t.failed(),
+        Err(_) => t.failed(),
     }
 }
 

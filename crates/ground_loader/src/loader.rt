@@ -14,7 +14,8 @@ ghost use Rattle.ground_loader.specs.LoaderAnswers.{draw_store_of, draw_area_of}
 use crate::rows::Coming;
 use crate::{questions, rows, steps};
 use ground_file::saver;
-use reader::{Drawn, Reader, SetUp};
+use reader::{ReadError, Reader};
+use refusal::Refusal;
 use wavelet::shape::Shape;
 
 // The numbers of a loader. `reader` is the reader that it feeds: its size, levels, origin and filter are the file's. `header` bytes of the header came;
@@ -152,14 +153,14 @@ impl Loader {
     }
 
     // What the reader's draw gives.
-    fn handed(self, answer: Drawn) -> LoaderDrawn
+    fn handed(self, answer: Result<Option<(usize, Reader)>, ReadError>) -> LoaderDrawn
         ensures { of_drawn result ≡ drawn_by self (reading.of_drawn answer) }
     {
         match answer {
-            Drawn::Heights(n, t) => LoaderDrawn::Heights(n, self.with(t)),
-            Drawn::Nothing => LoaderDrawn::Nothing,
-            Drawn::Impossible(t) => LoaderDrawn::Impossible(self.with(t)),
-            Drawn::Refused(no) => LoaderDrawn::Refused(no),
+            Ok(Some((n, t))) => LoaderDrawn::Heights(n, self.with(t)),
+            Ok(None) => LoaderDrawn::Nothing,
+            Err(ReadError::Impossible(t)) => LoaderDrawn::Impossible(self.with(t)),
+            Err(ReadError::Refused(why)) => LoaderDrawn::Refused(why.number()),
         }
     }
 
@@ -180,11 +181,11 @@ impl Loader {
 }
 
 // The fresh loader of a reader's set-up.
-fn by_reader(answer: SetUp, step: usize) -> Begun
+fn by_reader(answer: Result<Reader, Refusal>, step: usize) -> Begun
     ensures { of_begun result ≡ begun_by step (of_set_up answer) }
 {
     match answer {
-        SetUp::Ready(reader) => Begun::Ready(Loader {
+        Ok(reader) => Begun::Ready(Loader {
             reader,
             step,
             header: 0,
@@ -192,6 +193,6 @@ fn by_reader(answer: SetUp, step: usize) -> Begun
             sum: 0,
             tail: 0,
         }),
-        SetUp::Refused(no) => Begun::Refused(no),
+        Err(why) => Begun::Refused(why.number()),
     }
 }

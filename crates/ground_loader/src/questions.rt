@@ -12,6 +12,7 @@ use crate::loader::Loader;
 use crate::rows::Coming;
 use crate::{steps, sums, widths};
 use reader::{Reader, Wanted};
+use refusal::Refusal;
 use wavelet::limits;
 
 // The steps that are loaded.
@@ -74,19 +75,19 @@ fn is_none(c: Coming) -> bool
 }
 
 // Of a row that is wanted, or of none.
-fn coming_for(c: Coming, want: Wanted) -> bool
+fn coming_for(c: Coming, want: Result<Wanted, Refusal>) -> bool
     ensures { result ≡ coming_after c (want_in (of_wanted want)) }
 {
     match want {
-        Wanted::Row(_, _, _, n) => stands(c, n),
-        Wanted::Draw => is_none(c),
-        Wanted::Done => is_none(c),
-        Wanted::Ended => is_none(c),
-        Wanted::Refused(_) => is_none(c),
+        Ok(Wanted::Row { length, .. }) => stands(c, length),
+        Ok(Wanted::Draw) => is_none(c),
+        Ok(Wanted::Done) => is_none(c),
+        Ok(Wanted::Ended) => is_none(c),
+        Err(_) => is_none(c),
     }
 }
 
-fn coming_fits(c: Coming, header: usize, want: Wanted) -> bool
+fn coming_fits(c: Coming, header: usize, want: Result<Wanted, Refusal>) -> bool
     ensures { result ≡ pick (ltb header 24) (is_none c) (coming_after c (want_in (of_wanted want))) }
 {
     if header < 24 {
@@ -96,15 +97,15 @@ fn coming_fits(c: Coming, header: usize, want: Wanted) -> bool
 }
 
 // Does the reader answer?
-fn answers(want: Wanted) -> bool
+fn answers(want: Result<Wanted, Refusal>) -> bool
     ensures { result ≡ is_given (of_wanted want) }
 {
     match want {
-        Wanted::Row(_, _, _, _) => true,
-        Wanted::Draw => true,
-        Wanted::Done => true,
-        Wanted::Ended => true,
-        Wanted::Refused(_) => false,
+        Ok(Wanted::Row { .. }) => true,
+        Ok(Wanted::Draw) => true,
+        Ok(Wanted::Done) => true,
+        Ok(Wanted::Ended) => true,
+        Err(_) => false,
     }
 }
 

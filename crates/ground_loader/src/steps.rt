@@ -12,7 +12,8 @@ ghost use Rattle.ground_loader.specs.Local.{plain_due, due_after, due_of, Sound,
 use crate::loader::{Due, Loaded, Loader, Step};
 use crate::rows::Coming;
 use crate::{header, rows, sums};
-use reader::{Fed, Reader, Wanted};
+use reader::{ReadError, Reader, Wanted};
+use refusal::Refusal;
 
 fn plain(phase: usize) -> Due
     ensures { result ≡ plain_due phase }
@@ -36,20 +37,27 @@ fn at_end(tail: usize) -> Due
 }
 
 // By what the reader wants.
-fn due_by(want: Wanted, tail: usize) -> Due
+fn due_by(want: Result<Wanted, Refusal>, tail: usize) -> Due
     ensures { result ≡ due_after tail (want_in (of_wanted want)) }
 {
     match want {
-        Wanted::Row(level, band, _, count) => Due {
+        Ok(
+            Wanted::Row {
+                level,
+                band,
+                length,
+                ..
+            },
+        ) => Due {
             phase: 1,
             level,
             band,
-            count,
+            count: length,
         },
-        Wanted::Draw => plain(3),
-        Wanted::Done => at_end(tail),
-        Wanted::Ended => plain(5),
-        Wanted::Refused(_) => plain(5),
+        Ok(Wanted::Draw) => plain(3),
+        Ok(Wanted::Done) => at_end(tail),
+        Ok(Wanted::Ended) => plain(5),
+        Err(_) => plain(5),
     }
 }
 
@@ -145,7 +153,7 @@ fn feed(l: Loader, d: Due, store: &mut [i32], row: &[i32], byte: u8) -> Step
 {
     let r = l.reader;
     match r.feed(store, row) {
-        Fed::Passed(t) => taken(moved(
+        Ok(t) => taken(moved(
             l,
             t,
             l.header,
@@ -153,8 +161,15 @@ fn feed(l: Loader, d: Due, store: &mut [i32], row: &[i32], byte: u8) -> Step
             sums::sum_on(l.sum, byte),
             l.tail,
         )),
-        Fed::Impossible(t) => ended(moved(l, t, l.header, rows::before_group(0), l.sum, l.tail)),
-        Fed::Refused(no) => refuse(no, l, d),
+        Err(ReadError::Impossible(t)) => ended(moved(
+            l,
+            t,
+            l.header,
+            rows::before_group(0),
+            l.sum,
+            l.tail,
+        )),
+        Err(ReadError::Refused(why)) => refuse(why.number(), l, d),
     }
 }
 

@@ -331,37 +331,6 @@ module _ (s : Reader) where
 
 -- ---- the set-up
 module _ (f : ℕ) (W H : Side) (L n : ℕ) where
-  pub up-2 : within 1 max_width W.length ≡ false → 2 ≡ set_up_question f W H L n
-  unfolding set_up_question
-  up-2 a = rw a
-
-  module _ (one : within 1 max_width W.length ≡ true) where
-    pub up-3 : within 1 max_height H.length ≡ false → 3 ≡ set_up_question f W H L n
-    unfolding set_up_question
-    up-3 b = rw (one, b)
-
-    module _ (two : within 1 max_height H.length ≡ true) where
-      pub up-18 : is_filter f ≡ false → 18 ≡ set_up_question f W H L n
-      unfolding set_up_question
-      up-18 b = rw (one, two, b)
-
-      pub up-4 : is_filter f ≡ true → within 1 (filter_of f).levels L ≡ false → 4 ≡ set_up_question f W H L n
-      unfolding set_up_question
-      up-4 k b = rw (one, two, k, b)
-
-      module _ (known : is_filter f ≡ true) (three : within 1 (filter_of f).levels L ≡ true) where
-        -- m is the length that the code asks for
-        pub up-length : (m : ℕ) → m ≡ asked f W L → m ≡ store_by f W L
-        up-length m e = e ∙ length-is f W L known one three
-
-        pub up-5 : (m : ℕ) → m ≡ asked f W L → n < m → 5 ≡ set_up_question f W H L n
-        unfolding set_up_question store_fits
-        up-5 m e h = rw (one, two, known, three, lt-leb (store_by f W L) n (omega (arith, up-length m e)))
-
-        pub up-0 : (m : ℕ) → m ≡ asked f W L → m ≤ n → 0 ≡ set_up_question f W H L n
-        unfolding set_up_question store_fits
-        up-0 m e h = rw (one, two, known, three, le-leb (store_by f W L) n (omega (arith, up-length m e)))
-
   -- a set-up that passes
   pub up_in : set_up_question f W H L n ≡ 0 →
       (within 1 max_width W.length ≡ true) × (within 1 (filter_of f).levels L ≡ true) × (store_by f W L ≤ n) × (within 1 max_height H.length ≡ true)
@@ -407,6 +376,17 @@ both-asked true false e = absurd (omega arith)
 both-asked false true e = absurd (omega arith)
 both-asked false false e = absurd (omega arith)
 
+-- 17 before 5
+first_asked : (a b : Bool) (q : ℕ) → q ≡ ask a 17 0 → (q ≡ 0 → ⊥) → q ≡ stop_and_store a b
+unfolding stop_and_store
+first_asked true b q e away = absurd (away e)
+first_asked false b q e away = e
+
+second_asked : (a b : Bool) → 0 ≡ ask a 17 0 → ask b 5 0 ≡ stop_and_store a b
+unfolding stop_and_store
+second_asked true b e = refl
+second_asked false b e = absurd (omega arith)
+
 module _ (f : ℕ) (W H : Side) (L j n : ℕ) where
   abbrev stop_asks : List (Bool × ℕ)
   stop_asks = (within 1 max_width W.length, 1) ∷ (within 1 max_height H.length, 2) ∷ (is_filter f, 17) ∷ (within 1 (filter_of f).levels L, 3) ∷ []
@@ -429,11 +409,25 @@ module _ (f : ℕ) (W H : Side) (L j n : ℕ) where
         let k = asked-yes (is_filter f) 17 _ b.1 in
         (a.0, b.0, k.0, (asked-yes (within 1 (filter_of f).levels L) 3 _ k.1).0)
 
-    -- m is the length that the code asks for
-    pub stop-rest : (t : Bool) (m : ℕ) → t ≡ within 1 L j → m ≡ asked f W L → stop_and_store t (leb m n) ≡ stop_question f W H L j n
+    -- the level, and then the store's length by the code
+    pub stop-level : (q : ℕ) → q ≡ ask (within 1 L j) 17 0 → (q ≡ 0 → ⊥) → q ≡ stop_question f W H L j n
+    stop-level q e away = first_asked (within 1 L j) (store_fits (store_by f W L) n) q e away ∙ rest-is
+
+    pub stop-room : 0 ≡ ask (within 1 L j) 17 0 → ask (leb (asked f W L) n) 5 0 ≡ stop_question f W H L j n
     unfolding store_fits
-    stop-rest t m et em =
-        ap₂ (λ (i : Bool) (k : ℕ). stop_and_store i (leb k n)) et (em ∙ length-is f W L size_in.2 size_in.0 size_in.3) ∙ rest-is
+    stop-room e =
+        ap (λ (k : ℕ). ask (leb k n) 5 0) (length-is f W L size_in.2 size_in.0 size_in.3)
+        ∙ second_asked (within 1 L j) (store_fits (store_by f W L) n) e ∙ rest-is
+
+    -- without a stop
+    pub up-room : ask (leb (asked f W L) n) 5 0 ≡ set_up_question f W H L n
+    unfolding size_question set_up_question store_fits
+    up-room =
+        ap (λ (k : ℕ). ask (leb k n) 5 0) (length-is f W L size_in.2 size_in.0 size_in.3) ∙ asks-yes stop_asks _ sizes
+
+  pub up-sizes : (q : ℕ) → q ≡ size_question f W.length H.length L → (q ≡ 0 → ⊥) → q ≡ set_up_question f W H L n
+  unfolding size_question set_up_question
+  up-sizes q e away = e ∙ asks-no stop_asks _ (λ z. away (e ∙ z))
 
   -- one that passes
   pub stop-in : stop_question f W H L j n ≡ 0 →
@@ -458,15 +452,9 @@ module _ (f w h L k : ℕ) where
   level-sizes q e away = e ∙ asks-no size_asks _ (λ z. away (e ∙ z))
 
   module _ (sizes : size_question f w h L ≡ 0) where
-    one-is : ask (within 1 L k) 17 0 ≡ level_question f w h L k
+    pub level-is : ask (within 1 L k) 17 0 ≡ level_question f w h L k
     unfolding size_question level_question
-    one-is = asks-yes size_asks _ sizes
-
-    pub level-17 : within 1 L k ≡ false → 17 ≡ level_question f w h L k
-    level-17 e = (rw e) ∙ one-is
-
-    pub level-0 : within 1 L k ≡ true → 0 ≡ level_question f w h L k
-    level-0 e = (rw e) ∙ one-is
+    level-is = asks-yes size_asks _ sizes
 
 -- ---- a tolerant reader's set-up asks as one of the 5/3 from the origin on
 pub tolerant-is : (w h L n : ℕ) → set_up_question 0 (side 0 w) (side 0 h) L n ≡ tolerant_question w h L n

@@ -34,6 +34,7 @@ use Rattle.calls.specs.Lists.{Reply, gives, refused, seen, unless}
 use Rattle.reader.specs.declared.Reader.{Reader}
 use Rattle.reader.specs.declared.runs.Tally.{Tally}
 use Rattle.reader.specs.declared.runs.Turn.{Turn}
+use Rattle.refusal.specs.Numbers.{answer}
 use Rattle.reader.specs.Reading as reading
 use Rattle.reader.specs.Runs.{Run, goes, drawable, asked, due, after_call, ran, turned_by, most, begin, run_of, run_question, or_else, run_turned, run_reply}
 use Rattle.reader.specs.Runs.{Progress, progress, left_by}
@@ -232,7 +233,7 @@ rest-length a l h =
 -- ---- the loop: s is the reader at the beginning, t where the run is
 pub record Going (s : Reader) (store₀ run : List ℤ) (out₀ : List ℕ) (store : List ℤ) (out : List ℕ) (t : Turn) : Type 0 where
   pub way : OnWay (length store₀) (length run) (at run) (length out₀) (begin s (at store₀) (heights_at out₀))
-      (run_at t.done (reader_at s t.place) (at store) (heights_at out)) t.on t.no
+      (run_at t.done (reader_at s t.place) (at store) (heights_at out)) t.on (answer t.no)
   pub own : Own (reader_at s t.place) t.place.at
   pub size : length store ≡ length store₀
   pub out-size : length out ≡ length out₀
@@ -246,9 +247,9 @@ module _ (s : Reader) (store₀ run : List ℤ) (out₀ : List ℕ) where
       Going s store₀ run out₀ store₀ out₀ t
   going_start t on eu er es own deep flat live = record {
     way = subst (λ (e : Bool). OnWay (length store₀) (length run) (at run) (length out₀) (begin s (at store₀) (heights_at out₀))
-        (run_at t.done (reader_at s t.place) (at store₀) (heights_at out₀)) e t.no) (sym on)
-        (subst (λ (r : Run). OnWay (length store₀) (length run) (at run) (length out₀) (begin s (at store₀) (heights_at out₀)) r true t.no) (sym same)
-        (way-start (length store₀) (length run) (at run) (length out₀) (begin s (at store₀) (heights_at out₀)) t.no refl refl));
+        (run_at t.done (reader_at s t.place) (at store₀) (heights_at out₀)) e (answer t.no)) (sym on)
+        (subst (λ (r : Run). OnWay (length store₀) (length run) (at run) (length out₀) (begin s (at store₀) (heights_at out₀)) r true (answer t.no)) (sym same)
+        (way-start (length store₀) (length run) (at run) (length out₀) (begin s (at store₀) (heights_at out₀)) (answer t.no) refl refl));
     own = subst (λ (r : Reader). Own r t.place.at) (sym es) own;
     size = refl;
     out-size = refl;
@@ -279,30 +280,30 @@ module _ (s : Reader) (store₀ run : List ℤ) (out₀ : List ℕ) where
 
     module _ (store' : List ℤ) (out' : List ℕ) (u : Turn)
         (turned : Turned (length store) (length run) (at run) (length out) (run_at t.done r (at store) (heights_at out))
-        (run_at u.done (reader_at r u.place) (at store') (heights_at out')) u.on u.no) where
+        (run_at u.done (reader_at r u.place) (at store') (heights_at out')) u.on (answer u.no)) where
       turned_on : Turned (length store₀) (length run) (at run) (length out₀) (run_at t.done (reader_at s t.place) (at store) (heights_at out))
-          (run_at u.done (reader_at s u.place) (at store') (heights_at out')) u.on u.no
+          (run_at u.done (reader_at s u.place) (at store') (heights_at out')) u.on (answer u.no)
       turned_on =
           subst (λ (o : Reader). Turned (length store₀) (length run) (at run) (length out₀) (run_at t.done o (at store) (heights_at out))
-          (run_at u.done (reader_at o u.place) (at store') (heights_at out')) u.on u.no) e
+          (run_at u.done (reader_at o u.place) (at store') (heights_at out')) u.on (answer u.no)) e
           (subst (λ (i : ℕ). Turned i (length run) (at run) (length out₀) (run_at t.done r (at store) (heights_at out))
-          (run_at u.done (reader_at r u.place) (at store') (heights_at out')) u.on u.no) g.size
+          (run_at u.done (reader_at r u.place) (at store') (heights_at out')) u.on (answer u.no)) g.size
           (subst (λ (i : ℕ). Turned (length store) (length run) (at run) i (run_at t.done r (at store) (heights_at out))
-          (run_at u.done (reader_at r u.place) (at store') (heights_at out')) u.on u.no) g.out-size turned))
+          (run_at u.done (reader_at r u.place) (at store') (heights_at out')) u.on (answer u.no)) g.out-size turned))
 
       pub going_less : t.on ≡ true →
           left_of (length run) (run_at u.done (reader_at s u.place) (at store') (heights_at out')) + going u.on <
           left_of (length run) (run_at t.done (reader_at s t.place) (at store) (heights_at out)) + going t.on
       going_less on =
           way-less (length store₀) (length run) (at run) (length out₀) (run_at t.done (reader_at s t.place) (at store) (heights_at out))
-          (run_at u.done (reader_at s u.place) (at store') (heights_at out')) t.on u.on u.no on turned_on
+          (run_at u.done (reader_at s u.place) (at store') (heights_at out')) t.on u.on (answer u.no) on turned_on
 
       pub going_on : Own (reader_at r u.place) u.place.at → length store' ≡ length store → length out' ≡ length out →
           Going s store₀ run out₀ store' out' u
       going_on own a b = record {
         way = way_on (length store₀) (length run) (at run) (length out₀) (begin s (at store₀) (heights_at out₀))
             (run_at t.done (reader_at s t.place) (at store) (heights_at out)) (run_at u.done (reader_at s u.place) (at store') (heights_at out'))
-            t.on u.on t.no u.no g.way turned_on;
+            t.on u.on (answer t.no) (answer u.no) g.way turned_on;
         own = subst (λ (o : Reader). Own (reader_at o u.place) u.place.at) e own;
         size = a ∙ g.size;
         out-size = b ∙ g.out-size;
@@ -313,12 +314,12 @@ module _ (s : Reader) (store₀ run : List ℤ) (out₀ : List ℕ) where
 
   pub going-over : (store : List ℤ) (out : List ℕ) (t : Turn) → Going s store₀ run out₀ store out t → t.on ≡ false →
       Over (length store₀) (length run) (at run) (length out₀) (begin s (at store₀) (heights_at out₀))
-      (run_at t.done (reader_at s t.place) (at store) (heights_at out)) t.no
+      (run_at t.done (reader_at s t.place) (at store) (heights_at out)) (answer t.no)
   going-over store out t g off =
       way-over (length store₀) (length run) (at run) (length out₀) (begin s (at store₀) (heights_at out₀))
-      (run_at t.done (reader_at s t.place) (at store) (heights_at out)) t.no refl refl g.live
+      (run_at t.done (reader_at s t.place) (at store) (heights_at out)) (answer t.no) refl refl g.live
       (subst (λ (b : Bool). OnWay (length store₀) (length run) (at run) (length out₀) (begin s (at store₀) (heights_at out₀))
-      (run_at t.done (reader_at s t.place) (at store) (heights_at out)) b t.no) off g.way)
+      (run_at t.done (reader_at s t.place) (at store) (heights_at out)) b (answer t.no)) off g.way)
 
 -- ---- what a run's questions say of its reader
 three : (a b c : Bool) → ask a 1 (ask b 5 (ask (not c) 9 0)) ≡ 0 → (a ≡ true) × (b ≡ true) × (c ≡ false)

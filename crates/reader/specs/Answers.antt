@@ -1,14 +1,12 @@
 -- The answers of the reader's calls in document 01's terms: what a call gives, or the number of the question that turned it away.
-use Rattle.std.specs.Prelude.{ℕ}
+use Rattle.std.specs.Prelude.{ℕ, Option, Some, None, Result, Ok, Err}
+use Rattle.refusal.specs.declared.Refusal.{Refusal}
+use Rattle.refusal.specs.Numbers as question
 use Rattle.reader.specs.declared.Reader.{Reader}
-use Rattle.reader.specs.declared.SetUp.{SetUp}
-use Rattle.reader.specs.declared.SetUp.TheVariants as set-up
 use Rattle.reader.specs.declared.Wanted.{Wanted}
 use Rattle.reader.specs.declared.Wanted.TheVariants as wanted
-use Rattle.reader.specs.declared.Fed.{Fed}
-use Rattle.reader.specs.declared.Fed.TheVariants as fed
-use Rattle.reader.specs.declared.Drawn.{Drawn}
-use Rattle.reader.specs.declared.Drawn.TheVariants as drawn
+use Rattle.reader.specs.declared.ReadError.{ReadError}
+use Rattle.reader.specs.declared.ReadError.TheVariants as error
 
 pub data Reply (A : Type 0) : Type 0 where
   gives : A → Reply A
@@ -32,24 +30,24 @@ pub data Handed : Type 0 where
   a_row : ℕ → Reader → Handed
   nothing : Handed
 
-abbrev pub of_set_up : SetUp → Reply Reader
-of_set_up (set-up.Ready s) = gives s
-of_set_up (set-up.Refused q) = refused q
+abbrev pub of_set_up : Result Reader Refusal → Reply Reader
+of_set_up (Ok s) = gives s
+of_set_up (Err r) = refused (question.number r)
 
-abbrev pub of_wanted : Wanted → Reply Want
-of_wanted (wanted.Row k b r n) = gives (row k b r n)
-of_wanted wanted.Draw = gives draw_now
-of_wanted wanted.Done = gives done
-of_wanted wanted.Ended = gives ended
-of_wanted (wanted.Refused q) = refused q
+abbrev pub of_wanted : Result Wanted Refusal → Reply Want
+of_wanted (Ok (wanted.Row k b r n)) = gives (row k b r n)
+of_wanted (Ok wanted.Draw) = gives draw_now
+of_wanted (Ok wanted.Done) = gives done
+of_wanted (Ok wanted.Ended) = gives ended
+of_wanted (Err r) = refused (question.number r)
 
-abbrev pub of_fed : Fed → Reply Reader
-of_fed (fed.Passed s) = gives s
-of_fed (fed.Impossible s) = impossible s
-of_fed (fed.Refused q) = refused q
+abbrev pub of_fed : Result Reader ReadError → Reply Reader
+of_fed (Ok s) = gives s
+of_fed (Err (error.Impossible s)) = impossible s
+of_fed (Err (error.Refused r)) = refused (question.number r)
 
-abbrev pub of_drawn : Drawn → Reply Handed
-of_drawn (drawn.Heights n s) = gives (a_row n s)
-of_drawn drawn.Nothing = gives nothing
-of_drawn (drawn.Impossible s) = impossible s
-of_drawn (drawn.Refused q) = refused q
+abbrev pub of_drawn : Result (Option (ℕ × Reader)) ReadError → Reply Handed
+of_drawn (Ok (Some d)) = gives (a_row d.0 d.1)
+of_drawn (Ok None) = gives nothing
+of_drawn (Err (error.Impossible s)) = impossible s
+of_drawn (Err (error.Refused r)) = refused (question.number r)

@@ -1,14 +1,15 @@
 -- Many rows at once: a run is a list of the calls that stand. While a height row can be drawn, it is drawn into what is left of the output area; else the band
 -- row wanted is fed, from the numbers that are left. The run ends where the next of these calls would be turned away by another question than 14, where the
 -- numbers are used up and no height row can be drawn, and after 14.
-use Rattle.std.specs.Prelude.{Bool, true, not, List, [], ◌∷◌, ℕ, zero, suc, ◌+◌, ◌-◌, ◌*◌, min, ℤ, ltb, eqb}
+use Rattle.std.specs.Prelude.{Bool, true, not, List, [], ◌∷◌, ℕ, zero, suc, ◌+◌, ◌-◌, ◌*◌, min, ℤ, ltb, eqb, Result, Ok, Err}
 use Rattle.numbers.specs.Signal.{pick, both, windowed}
 use Rattle.wavelet.specs.Questions.{ask}
 use Rattle.calls.specs.Lists.{Reply, gives, refused, Area, unless}
 use Rattle.level.specs.Level.{rest, join_at}
 use Rattle.reader.specs.declared.Reader.{Reader}
-use Rattle.reader.specs.declared.runs.Ran.{Ran}
-use Rattle.reader.specs.declared.runs.Ran.TheVariants as ran-as
+use Rattle.reader.specs.declared.runs.Tally.{Tally}
+use Rattle.refusal.specs.declared.Refusal.{Refusal}
+use Rattle.refusal.specs.Numbers.{number}
 use Rattle.reader.specs.State.{needs, next_length}
 use Rattle.reader.specs.State as levels
 use Rattle.reader.specs.Last as last
@@ -132,9 +133,9 @@ pub record Progress : Type 0 where
 abbrev pub progress : Run → Progress
 progress r = record { used = r.used; rows = r.rows; reader = r.world.reader }
 
-abbrev pub of_ran : Ran → Reply Progress
-of_ran (ran-as.Went d s) = gives (record { used = d.used; rows = d.rows; reader = s })
-of_ran (ran-as.Refused q) = refused q
+abbrev pub of_ran : Result (Tally × Reader) Refusal → Reply Progress
+of_ran (Ok d) = gives (record { used = d.0.used; rows = d.0.rows; reader = d.1 })
+of_ran (Err r) = refused (number r)
 
 -- what stands afterwards in the store or in the output area: a, as before, where a question turned the run away
 abbrev pub left_by : {A : Type 0} → (Run → A) → A → Reply Run → A

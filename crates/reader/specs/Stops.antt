@@ -3,7 +3,7 @@
 -- to 0 to 65,535, and never wants a row of level j or finer, except LL when j = L."
 -- It is the reader of that low-low part: its columns and rows, L − j levels, level j's range in the place of 0 to 65,535 where 14 is asked. Its store is the
 -- whole map's. Where no level is left, or no number, it hands on the LL rows fed (Last).
-use Rattle.std.specs.Prelude.{ℕ, ◌-◌, Bool, false, ltb, eqb}
+use Rattle.std.specs.Prelude.{ℕ, ◌-◌, Bool, false, ltb, eqb, Result, Ok, Err}
 use Rattle.numbers.specs.Signal.{pick, both}
 use Rattle.lifting.specs.Grid.{Side}
 use Rattle.wavelet.specs.Levels.{side_at}
@@ -12,7 +12,8 @@ use Rattle.calls.specs.Lists as lists
 use Rattle.reader_steps.specs.Places.{has_cells}
 use Rattle.reader.specs.declared.Reader.{Reader}
 use Rattle.reader.specs.declared.stops.LevelSize.{LevelSize}
-use Rattle.reader.specs.declared.stops.LevelSize.TheVariants as level-size
+use Rattle.refusal.specs.declared.Refusal.{Refusal}
+use Rattle.refusal.specs.Numbers.{number}
 use Rattle.reader.specs.Answers.{Reply, gives, refused}
 use Rattle.reader.specs.Calls.{fresh_over}
 
@@ -53,9 +54,9 @@ unfoldable pub stop_reply : ℕ → Side → Side → ℕ → ℕ → ℕ → Re
 stop_reply f W H L j q = pick (eqb q 0) (gives (fresh_at f W H L j)) (refused q)
 
 -- ---- the size of level k: columns and rows of its low-low part
-abbrev pub of_level_size : LevelSize → lists.Reply (ℕ × ℕ)
-of_level_size (level-size.Size w h) = lists.gives (w, h)
-of_level_size (level-size.Refused q) = lists.refused q
+abbrev pub of_level_size : Result LevelSize Refusal → lists.Reply (ℕ × ℕ)
+of_level_size (Ok s) = lists.gives (s.columns, s.rows)
+of_level_size (Err r) = lists.refused (number r)
 
 unfoldable pub size_reply : Side → Side → ℕ → ℕ → lists.Reply (ℕ × ℕ)
 size_reply W H k q = pick (eqb q 0) (lists.gives ((side_at k W).length, (side_at k H).length)) (lists.refused q)

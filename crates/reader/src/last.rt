@@ -5,12 +5,14 @@ ghost use Rattle.std.specs.Prelude.{◌≡◌, ◌≤◌, length};
 ghost use Rattle.filters.specs.Filters.{filter_of};
 ghost use Rattle.numbers.specs.Signal.{at};
 ghost use Rattle.areas.specs.Areas.{heights_at};
+ghost use Rattle.refusal.specs.Numbers.{answer};
 ghost use Rattle.reader.specs.Answers.{of_wanted, of_fed, of_drawn};
 ghost use Rattle.reader.specs.Last as last;
 ghost use Rattle.reader.specs.Last.{counts_fit, store_question, row_question};
 
-use crate::{Drawn, Fed, Reader, Wanted, limited, questions};
+use crate::{ReadError, Reader, Wanted, limited, questions};
 use areas::copies;
+use refusal::Refusal;
 use wavelet::limits;
 
 // Question 1. Without a level nothing is rebuilt, so no such reader is tolerant.
@@ -57,39 +59,39 @@ fn counts_fit(s: Reader) -> bool
 }
 
 // Questions 1, 5 and 9.
-pub fn store_question(s: Reader, length: usize) -> u8
-    ensures { result ≡ store_question s length }
+pub fn store_question(s: Reader, length: usize) -> Result<(), Refusal>
+    ensures { answer result ≡ store_question s length }
 {
     if !counts_fit(s) {
-        return 1;
+        return Err(Refusal::BadState);
     }
     if length < s.spare {
-        return 5;
+        return Err(Refusal::AreaShort);
     }
     if s.ended {
-        return 9;
+        return Err(Refusal::IsOver);
     }
-    0
+    Ok(())
 }
 
 // Questions 8, 13 and 7.
-fn row_question(s: Reader, run: &[i32]) -> u8
+fn row_question(s: Reader, run: &[i32]) -> Result<(), Refusal>
     requires { s.stop ≤ (filter_of s.filter).levels }
-    ensures { result ≡ row_question s (length run.now) (at run.now) }
+    ensures { answer result ≡ row_question s (length run.now) (at run.now) }
 {
     if s.height <= s.drawn {
-        return 8;
+        return Err(Refusal::NotItsTurn);
     }
     if s.band != 0 {
-        return 8;
+        return Err(Refusal::NotItsTurn);
     }
     if run.len() != s.width {
-        return 13;
+        return Err(Refusal::WrongLength);
     }
     if !questions::run_fits(s.filter, run, s.stop) {
-        return 7;
+        return Err(Refusal::OutOfRange);
     }
-    0
+    Ok(())
 }
 
 // The reader at another row.
@@ -114,62 +116,58 @@ pub fn moved(s: Reader, drawn: usize, band: usize) -> Reader
     }
 }
 
-pub fn want(s: Reader) -> Wanted
+pub fn want(s: Reader) -> Result<Wanted, Refusal>
     ensures { of_wanted result ≡ last.want_reply s (last.want_question s) }
 {
     if !counts_fit(s) {
-        return Wanted::Refused(1);
+        return Err(Refusal::BadState);
     }
     if s.ended {
-        return Wanted::Ended;
+        return Ok(Wanted::Ended);
     }
     if s.height <= s.drawn {
-        return Wanted::Done;
+        return Ok(Wanted::Done);
     }
     if s.band != 0 {
-        return Wanted::Draw;
+        return Ok(Wanted::Draw);
     }
-    Wanted::Row(s.stop, 0, s.drawn, s.width)
+    Ok(Wanted::Row {
+        level: s.stop,
+        band: 0,
+        row: s.drawn,
+        length: s.width,
+    })
 }
 
-pub fn feed(s: Reader, store: &mut [i32], run: &[i32]) -> Fed
+pub fn feed(s: Reader, store: &mut [i32], run: &[i32]) -> Result<Reader, ReadError>
     ensures result_value { of_fed result ≡ last.feed_reply s (last.feed_question s (length store.old) (length run.now) (at run.now)) }
     ensures store_after { at store.new ≡
         last.feed_store s (last.feed_question s (length store.old) (length run.now) (at run.now))
         (at run.now) (at store.old) }
 {
-    let q = store_question(s, store.len());
-    if q != 0 {
-        return Fed::Refused(q);
-    }
-    let r = row_question(s, run);
-    if r != 0 {
-        return Fed::Refused(r);
-    }
+    store_question(s, store.len())?;
+    row_question(s, run)?;
     let _ = copies::copy(run, store);
-    Fed::Passed(moved(s, s.drawn, 4))
+    Ok(moved(s, s.drawn, 4))
 }
 
-pub fn draw(s: Reader, store: &[i32], out: &mut [u16]) -> Drawn
+pub fn draw(s: Reader, store: &[i32], out: &mut [u16]) -> Result<Option<(usize, Reader)>, ReadError>
     ensures result_value { of_drawn result ≡ last.draw_reply s (last.draw_question s (length store.now) (length out.old)) }
     ensures out_after { heights_at out.new ≡
         last.draw_area s (last.draw_question s (length store.now) (length out.old)) (at store.now)
         (heights_at out.old) }
 {
-    let q = store_question(s, store.len());
-    if q != 0 {
-        return Drawn::Refused(q);
-    }
+    store_question(s, store.len())?;
     if s.height <= s.drawn {
-        return Drawn::Nothing;
+        return Ok(None);
     }
     if s.band == 0 {
-        return Drawn::Nothing;
+        return Ok(None);
     }
     if out.len() < s.width {
-        return Drawn::Refused(12);
+        return Err(ReadError::Refused(Refusal::OutShort));
     }
     let w = s.width;
     limited::limit_row(&store[0..w], out);
-    Drawn::Heights(w, moved(s, s.drawn + 1, 0))
+    Ok(Some((w, moved(s, s.drawn + 1, 0))))
 }

@@ -25,6 +25,7 @@ ghost use Rattle.reader.specs.Inside.{Counts, Small, Due};
 ghost use Rattle.reader.specs.State.{columns, rows, needs, wants, moved_to, drawn_reader, ended_reader};
 ghost use Rattle.reader.specs.Questions.{set_up_question, stop_question, tolerant_question, want_question, feed_question, draw_question};
 ghost use Rattle.reader.specs.Holds.{SetUpHolds, FeedKeeps, DrawKeeps};
+ghost use Rattle.reader.specs.declared.ReadError.TheVariants.{Refused};
 ghost use Rattle.reader.specs.Answers.{gives, of_set_up, of_wanted, of_fed, of_drawn};
 ghost use Rattle.reader.specs.Stops.{stop_reply};
 ghost use Rattle.reader.specs.Reading as all;
@@ -34,6 +35,7 @@ ghost use Rattle.reader.specs.Calls.{draw_reply, draw_store, draw_area, height_r
 use areas::copies;
 use reader_steps::places;
 use reader_steps::places::{Sides, Spot};
+use refusal::Refusal;
 use synthesis::back;
 use walk::Next;
 use wavelet::shape::Shape;
@@ -62,37 +64,33 @@ pub struct Reader {
     pub admission: usize,
 }
 
-#[derive(Clone, Copy)]
-pub enum SetUp {
-    Ready(Reader),
-    Refused(u8),
-}
-
-// Row: level, band code, row number and length of the band row wanted.
+// What it wants: a band row by its level, its band's code, its number in the band and its length; or a draw, or nothing.
 #[derive(Clone, Copy)]
 pub enum Wanted {
-    Row(usize, usize, usize, usize),
+    Row {
+        level: usize,
+        band: usize,
+        row: usize,
+        length: usize,
+    },
     Draw,
     Done,
     Ended,
-    Refused(u8),
 }
 
-// Impossible is document 01's 14: no map has the rows fed. It holds the reader, ended. Refused never holds 14.
+// Why a feed or a draw does not go on. Impossible is document 01's 14: no map has the rows fed. It holds the reader, ended. Refused never holds 14.
 #[derive(Clone, Copy)]
-pub enum Fed {
-    Passed(Reader),
+pub enum ReadError {
     Impossible(Reader),
-    Refused(u8),
+    Refused(Refusal),
 }
 
-// Heights: how many stand at the front of the output area.
-#[derive(Clone, Copy)]
-pub enum Drawn {
-    Heights(usize, Reader),
-    Nothing,
-    Impossible(Reader),
-    Refused(u8),
+impl From<Refusal> for ReadError {
+    ghost from_gives = { λ why e. e ≡ Refused why };
+
+    fn from(why: Refusal) -> ReadError {
+        ReadError::Refused(why)
+    }
 }
 
 impl Reader {
@@ -147,7 +145,7 @@ impl Reader {
     }
 
     // A fresh reader; the needed part of the line store is zeroed. The questions are 2, 3, 18, 4 and 5.
-    pub fn set_up(map: Shape, store: &mut [i32]) -> SetUp
+    pub fn set_up(map: Shape, store: &mut [i32]) -> Result<Reader, Refusal>
         ensures answer { of_set_up result ≡
             set_up_reply map.filter (shape.columns map) (shape.rows map) map.levels
             (set_up_question map.filter (shape.columns map) (shape.rows map) map.levels (length store.old)) }
@@ -156,24 +154,13 @@ impl Reader {
             (set_up_question map.filter (shape.columns map) (shape.rows map) map.levels (length store.old)) (at store.old) }
         ensures meaning { SetUpHolds (of_set_up result) (at store.new) }
     {
+        questions::set_up_question(map, store.len())?;
         let x = map.x as usize;
         let y = map.y as usize;
         let filter = map.filter as usize;
-        let q = questions::set_up_question(
-            filter,
-            map.width,
-            map.height,
-            map.levels,
-            x,
-            y,
-            store.len(),
-        );
-        if q != 0 {
-            return SetUp::Refused(q);
-        }
         let n = filters::store_length(filter, map.width, x, map.levels);
         let _ = copies::clear(store, n);
-        SetUp::Ready(Reader::begun(0, filter, map.levels, x, map.width, y, map.height, 0, 0))
+        Ok(Reader::begun(0, filter, map.levels, x, map.width, y, map.height, 0, 0))
     }
 
     // The fresh reader of these columns and rows at so many levels.
@@ -218,7 +205,7 @@ impl Reader {
     }
 
     // A fresh reader of the low-low part of level `stop`; the needed part of the line store, the whole map's, is zeroed. The questions are 2, 3, 18, 4, 17, 5.
-    pub fn set_up_at(map: Shape, stop: usize, store: &mut [i32]) -> SetUp
+    pub fn set_up_at(map: Shape, stop: usize, store: &mut [i32]) -> Result<Reader, Refusal>
         ensures answer { of_set_up result ≡
             stop_reply map.filter (shape.columns map) (shape.rows map) map.levels stop
             (stop_question map.filter (shape.columns map) (shape.rows map) map.levels stop (length store.old)) }
@@ -226,46 +213,41 @@ impl Reader {
             set_up_store map.filter (shape.columns map) map.levels
             (stop_question map.filter (shape.columns map) (shape.rows map) map.levels stop (length store.old)) (at store.old) }
     {
-        let x = map.x as usize;
-        let y = map.y as usize;
-        let filter = map.filter as usize;
-        let q = questions::stop_question(
-            filter,
-            map.width,
-            map.height,
-            map.levels,
-            x,
-            y,
-            stop,
-            store.len(),
-        );
-        if q != 0 {
-            return SetUp::Refused(q);
-        }
-        let n = filters::store_length(filter, map.width, x, map.levels);
+        questions::stop_question(map, stop, store.len())?;
+        let n = filters::store_length(map.filter as usize, map.width, map.x as usize, map.levels);
         let _ = copies::clear(store, n);
-        SetUp::Ready(stops::reader_at(filter, map.levels, x, map.width, y, map.height, stop, n))
+        Ok(stops::reader_at(map, stop, n))
     }
 
     // A fresh tolerant reader, of the 5/3 from the origin on and without a stop: each value that it makes is limited to its level's range. The needed part of
     // the line store is zeroed. The questions are 2, 3, 4 and 5.
-    pub fn set_up_tolerant(width: usize, height: usize, levels: usize, store: &mut [i32]) -> SetUp
+    pub fn set_up_tolerant(
+        width: usize,
+        height: usize,
+        levels: usize,
+        store: &mut [i32],
+    ) -> Result<Reader, Refusal>
         ensures answer { of_set_up result ≡ tolerant_reply width height levels (tolerant_question width height levels (length store.old)) }
         ensures kept { at store.new ≡
             set_up_store 0 (side 0 width) levels (tolerant_question width height levels (length store.old)) (at store.old) }
         ensures meaning { SetUpHolds (of_set_up result) (at store.new) }
     {
-        let q = questions::set_up_question(0, width, height, levels, 0, 0, store.len());
-        if q != 0 {
-            return SetUp::Refused(q);
-        }
+        let map = Shape {
+            width,
+            height,
+            levels,
+            x: 0,
+            y: 0,
+            filter: 0,
+        };
+        questions::set_up_question(map, store.len())?;
         let n = filters::store_length(0, width, 0, levels);
         let _ = copies::clear(store, n);
-        SetUp::Ready(Reader::begun(1, 0, levels, 0, width, 0, height, 0, 0))
+        Ok(Reader::begun(1, 0, levels, 0, width, 0, height, 0, 0))
     }
 
     // The band row wanted, or Draw, Done or Ended. Question 1 is asked.
-    pub fn want(self) -> Wanted
+    pub fn want(self) -> Result<Wanted, Refusal>
         ensures answer { of_wanted result ≡ all.want_reply self (all.want_question self) }
     {
         if self.levels == 0 {
@@ -275,20 +257,20 @@ impl Reader {
     }
 
     // The same with levels to work out.
-    fn want_row(self) -> Wanted
+    fn want_row(self) -> Result<Wanted, Refusal>
         ensures answer { of_wanted result ≡ want_reply self (want_question self) }
     {
         if !questions::counts_fit(self) {
-            return Wanted::Refused(1);
+            return Err(Refusal::BadState);
         }
         if self.ended {
-            return Wanted::Ended;
+            return Ok(Wanted::Ended);
         }
         if self.height <= self.drawn {
-            return Wanted::Done;
+            return Ok(Wanted::Done);
         }
         if self.level == 0 {
-            return Wanted::Draw;
+            return Ok(Wanted::Draw);
         }
         let l = steps::own_level(self);
         let c = steps::own_band(self, l);
@@ -317,24 +299,24 @@ impl Reader {
     }
 
     // What is wanted, n being the row wanted if there is one.
-    fn want_for(self, n: Next) -> Wanted
+    fn want_for(self, n: Next) -> Result<Wanted, Refusal>
         requires { Due self n × (self.ended ≡ false) × (self.drawn < self.height) × Counts self }
         ensures { of_wanted result ≡ gives (wants self) }
     {
         let level = self.stop + n.spot.level;
         if n.spot.level == 0 {
-            return Wanted::Draw;
+            return Ok(Wanted::Draw);
         }
-        Wanted::Row(
+        Ok(Wanted::Row {
             level,
-            n.spot.band,
-            steps::row_number(self, n),
-            steps::row_length(self, n),
-        )
+            band: n.spot.band,
+            row: steps::row_number(self, n),
+            length: steps::row_length(self, n),
+        })
     }
 
     // The row wanted is fed. The questions are 1, 5, 9, 8, 13, 7 and 14.
-    pub fn feed(self, store: &mut [i32], run: &[i32]) -> Fed
+    pub fn feed(self, store: &mut [i32], run: &[i32]) -> Result<Reader, ReadError>
         ensures answer { of_fed result ≡
             all.feed_reply self
             (all.feed_question self (length store.old) (at store.old) (length run.now) (at run.now)) }
@@ -350,7 +332,7 @@ impl Reader {
     }
 
     // The same with levels to work out: a row of a set.
-    fn feed_set(self, store: &mut [i32], run: &[i32]) -> Fed
+    fn feed_set(self, store: &mut [i32], run: &[i32]) -> Result<Reader, ReadError>
         ensures answer { of_fed result ≡
             feed_reply self
             (feed_question self (length store.old) (at store.old) (length run.now) (at run.now)) }
@@ -361,26 +343,24 @@ impl Reader {
         ensures meaning { FeedKeeps self (at run.now) (at store.old) (of_fed result) (at store.new) }
     {
         if !questions::counts_fit(self) {
-            return Fed::Refused(1);
+            return Err(ReadError::Refused(Refusal::BadState));
         }
-        let q = questions::store_question(self, store.len());
-        if q != 0 {
-            return Fed::Refused(q);
-        }
+        questions::store_question(self, store.len())?;
         let next = steps::next_of(self);
-        let r = questions::row_question(self, next, run);
-        if r != 0 {
-            return Fed::Refused(r);
-        }
+        questions::row_question(self, next, run)?;
         let complete = steps::completes(self, next);
         if steps::feed_row(self, store, next, complete, run) {
-            return Fed::Passed(self.moved(self.drawn, steps::spot_fed(self, next, complete)));
+            return Ok(self.moved(self.drawn, steps::spot_fed(self, next, complete)));
         }
-        Fed::Impossible(self.ending(store))
+        Err(ReadError::Impossible(self.ending(store)))
     }
 
     // A height row is drawn, if one can be. The questions are 1, 5, 9 and, with a row to give, 12 and 14.
-    pub fn draw(self, store: &mut [i32], out: &mut [u16]) -> Drawn
+    pub fn draw(
+        self,
+        store: &mut [i32],
+        out: &mut [u16],
+    ) -> Result<Option<(usize, Reader)>, ReadError>
         ensures answer { of_drawn result ≡
             all.draw_reply self (all.draw_question self (length store.old) (at store.old) (length out.old)) }
         ensures kept { at store.new ≡
@@ -397,7 +377,11 @@ impl Reader {
     }
 
     // The same with levels to work out.
-    fn draw_row(self, store: &mut [i32], out: &mut [u16]) -> Drawn
+    fn draw_row(
+        self,
+        store: &mut [i32],
+        out: &mut [u16],
+    ) -> Result<Option<(usize, Reader)>, ReadError>
         ensures answer { of_drawn result ≡
             draw_reply self (draw_question self (length store.old) (at store.old) (length out.old)) }
         ensures kept { at store.new ≡
@@ -409,22 +393,19 @@ impl Reader {
         ensures meaning { DrawKeeps self (at store.old) (of_drawn result) (at store.new) (heights_at out.new) }
     {
         if !questions::counts_fit(self) {
-            return Drawn::Refused(1);
+            return Err(ReadError::Refused(Refusal::BadState));
         }
-        let q = questions::store_question(self, store.len());
-        if q != 0 {
-            return Drawn::Refused(q);
-        }
+        questions::store_question(self, store.len())?;
         if !questions::draw_due(self) {
-            return Drawn::Nothing;
+            return Ok(None);
         }
         if out.len() < self.width {
-            return Drawn::Refused(12);
+            return Err(ReadError::Refused(Refusal::OutShort));
         }
         if steps::work_all_due(self, store) {
-            return Drawn::Heights(self.width, self.hand_out(store, out));
+            return Ok(Some((self.width, self.hand_out(store, out))));
         }
-        Drawn::Impossible(self.ending(store))
+        Err(ReadError::Impossible(self.ending(store)))
     }
 
     // The height row that stands in the store, drawn, and the reader then.

@@ -1,10 +1,11 @@
 // The gate questions of the reader, in the order of document 01. The module is private, as `walk` is.
-ghost use Rattle.std.specs.Prelude.{◌≡◌, ◌≤◌, length};
-ghost use Rattle.numbers.specs.Signal.{at};
-ghost use Rattle.lifting.specs.Grid.{side};
-ghost use Rattle.wavelet.specs.Questions.{ask};
+ghost use Rattle.std.specs.Prelude.{◌≡◌, ◌≤◌, leb, length};
+ghost use Rattle.numbers.specs.Signal.{at, pick};
+ghost use Rattle.refusal.specs.Numbers.{answer};
+ghost use Rattle.wavelet.specs.Questions.{ask, within};
+ghost use Rattle.wavelet.specs.Shape.{columns as columns_of, rows as rows_of};
 ghost use Rattle.filters.specs.Filters.{filter_of};
-ghost use Rattle.filters.specs.Figures.{store_by};
+ghost use Rattle.filters.specs.Figures.{store_by, streamable};
 ghost use Rattle.reader.specs.State.{columns, needs, draw_due};
 ghost use Rattle.reader.specs.Questions.{counts_inside, counts_fit, stop_fits, admission_fits, store_fits, run_fits, set_up_question, size_question, stop_question};
 ghost use Rattle.reader.specs.Inside.{Counts, Due, store_question, row_question};
@@ -12,7 +13,9 @@ ghost use Rattle.reader.specs.Inside.{Counts, Due, store_question, row_question}
 use crate::walk::Next;
 use crate::{Reader, steps};
 use areas::ranges;
+use refusal::Refusal;
 use wavelet::limits;
+use wavelet::shape::Shape;
 
 // Question 1 of a reader with levels to work out: is every count inside its range? Its sizes, origin and place,
 fn counts_inside(s: Reader) -> bool
@@ -101,88 +104,61 @@ fn stop_fits(filter: usize, levels: usize, stop: usize, spare: usize) -> bool
     spare <= stop * (filters::rows_kept(filter) * Reader::MAX_WIDTH)
 }
 
-// Questions 2, 3, 18, 4 and 5 of a set-up, whose line store has `length` numbers.
-pub fn set_up_question(
-    filter: usize,
-    width: usize,
-    height: usize,
-    levels: usize,
-    x: usize,
-    y: usize,
-    length: usize,
-) -> u8
-    ensures { result ≡ set_up_question filter (side x width) (side y height) levels length }
+// Questions 2, 3, 18 and 4 of a map.
+pub fn size_question(map: Shape) -> Result<(), Refusal>
+    ensures { answer result ≡ size_question map.filter map.width map.height map.levels }
 {
-    if !limits::is_within(width, Reader::MAX_WIDTH) {
-        return 2;
+    let filter = map.filter as usize;
+    if !limits::is_within(map.width, Reader::MAX_WIDTH) {
+        return Err(Refusal::BadWidth);
     }
-    if !limits::is_within(height, Reader::MAX_HEIGHT) {
-        return 3;
+    if !limits::is_within(map.height, Reader::MAX_HEIGHT) {
+        return Err(Refusal::BadHeight);
     }
     if !filters::is_filter(filter) {
-        return 18;
+        return Err(Refusal::BadFilter);
     }
-    if !limits::is_within(levels, Reader::most_levels(filter)) {
-        return 4;
+    if !limits::is_within(map.levels, Reader::most_levels(filter)) {
+        return Err(Refusal::BadLevels);
     }
-    if length < filters::store_length(filter, width, x, levels) {
-        return 5;
+    Ok(())
+}
+
+// Question 17: has the map that level?
+pub fn level_question(map: Shape, level: usize) -> Result<(), Refusal>
+    ensures { answer result ≡ ask (within 1 map.levels level) 17 0 }
+{
+    if !limits::is_within(level, map.levels) {
+        return Err(Refusal::BadLevel);
     }
-    0
+    Ok(())
+}
+
+// Question 5 of a set-up: is a line store of `length` numbers long enough for the map?
+fn room_question(map: Shape, length: usize) -> Result<(), Refusal>
+    ensures { answer result ≡ ask (leb (pick (streamable map.filter (columns_of map) map.levels) (store_by map.filter (columns_of map) map.levels) 0) length) 5 0 }
+{
+    if length < filters::store_length(map.filter as usize, map.width, map.x as usize, map.levels) {
+        return Err(Refusal::AreaShort);
+    }
+    Ok(())
+}
+
+// Questions 2, 3, 18, 4 and 5 of a set-up, whose line store has `length` numbers.
+pub fn set_up_question(map: Shape, length: usize) -> Result<(), Refusal>
+    ensures { answer result ≡ set_up_question map.filter (columns_of map) (rows_of map) map.levels length }
+{
+    size_question(map)?;
+    room_question(map, length)
 }
 
 // The same with a stop: 17 comes after 4.
-pub fn stop_question(
-    filter: usize,
-    width: usize,
-    height: usize,
-    levels: usize,
-    x: usize,
-    y: usize,
-    stop: usize,
-    length: usize,
-) -> u8
-    ensures { result ≡ stop_question filter (side x width) (side y height) levels stop length }
+pub fn stop_question(map: Shape, stop: usize, length: usize) -> Result<(), Refusal>
+    ensures { answer result ≡ stop_question map.filter (columns_of map) (rows_of map) map.levels stop length }
 {
-    let q = size_question(filter, width, height, levels);
-    if q != 0 {
-        return q;
-    }
-    let inside = limits::is_within(stop, levels);
-    let long = filters::store_length(filter, width, x, levels) <= length;
-    first_no(inside, 17, long, 5)
-}
-
-// The number of the first of two questions that says no; 0 if none does.
-fn first_no(a: bool, p: u8, b: bool, q: u8) -> u8
-    ensures { result ≡ ask a p (ask b q 0) }
-{
-    if !a {
-        return p;
-    }
-    if !b {
-        return q;
-    }
-    0
-}
-
-// Questions 2, 3, 18 and 4.
-pub fn size_question(filter: usize, width: usize, height: usize, levels: usize) -> u8
-    ensures { result ≡ size_question filter width height levels }
-{
-    if !limits::is_within(width, Reader::MAX_WIDTH) {
-        return 2;
-    }
-    if !limits::is_within(height, Reader::MAX_HEIGHT) {
-        return 3;
-    }
-    if !filters::is_filter(filter) {
-        return 18;
-    }
-    if !limits::is_within(levels, Reader::most_levels(filter)) {
-        return 4;
-    }
-    0
+    size_question(map)?;
+    level_question(map, stop)?;
+    room_question(map, length)
 }
 
 // Question 7: is each number of the run in its level's range?
@@ -218,38 +194,38 @@ fn store_fits(s: Reader, length: usize) -> bool
 }
 
 // Questions 5 and 9 of a feed or a draw, after question 1. Each call asks that one itself: the two together are too long to be put into both calls.
-pub fn store_question(s: Reader, length: usize) -> u8
+pub fn store_question(s: Reader, length: usize) -> Result<(), Refusal>
     requires { Counts s }
-    ensures { result ≡ store_question s length }
+    ensures { answer result ≡ store_question s length }
 {
     if !store_fits(s, length) {
-        return 5;
+        return Err(Refusal::AreaShort);
     }
     if s.ended {
-        return 9;
+        return Err(Refusal::IsOver);
     }
-    0
+    Ok(())
 }
 
 // Questions 8, 13 and 7 of a feed, whose row wanted is n.
-pub fn row_question(s: Reader, n: Next, run: &[i32]) -> u8
+pub fn row_question(s: Reader, n: Next, run: &[i32]) -> Result<(), Refusal>
     requires { Counts s × Due s n }
-    ensures { result ≡ row_question s (length run.now) (at run.now) }
+    ensures { answer result ≡ row_question s (length run.now) (at run.now) }
 {
     let level = s.stop + n.spot.level;
     if s.height <= s.drawn {
-        return 8;
+        return Err(Refusal::NotItsTurn);
     }
     if n.spot.level == 0 {
-        return 8;
+        return Err(Refusal::NotItsTurn);
     }
     if run.len() != steps::row_length(s, n) {
-        return 13;
+        return Err(Refusal::WrongLength);
     }
     if !run_fits(s.filter, run, level) {
-        return 7;
+        return Err(Refusal::OutOfRange);
     }
-    0
+    Ok(())
 }
 
 // Whether a height row can be drawn; most often at level 0.

@@ -3,6 +3,7 @@
 ghost use Rattle.std.specs.Prelude.{◌≡◌, true, false, ℕ, ◌+◌, ◌*◌, ◌<◌, ◌≤◌, ℤ, length};
 ghost use Rattle.numbers.specs.Signal.{at};
 ghost use Rattle.areas.specs.Areas.{heights_at};
+ghost use Rattle.refusal.specs.Numbers.{number, answer};
 ghost use Rattle.calls.specs.Lists.{seen};
 ghost use Rattle.reader.specs.State.{needs, next};
 ghost use Rattle.reader.specs.Questions.{counts_fit};
@@ -15,6 +16,7 @@ use crate::run_steps::Place;
 use crate::walk::Next;
 use crate::{Reader, last, limited, questions, run_steps, steps};
 use areas::copies;
+use refusal::Refusal;
 
 // The numbers used and the height rows drawn.
 #[derive(Clone, Copy)]
@@ -23,24 +25,18 @@ pub struct Tally {
     pub rows: usize,
 }
 
-#[derive(Clone, Copy)]
-pub enum Ran {
-    Went(Tally, Reader),
-    Refused(u8),
-}
-
 // A run on its way, and whether it goes on; if not, `no` is the question that turns the next call away.
 #[derive(Clone, Copy)]
 struct Turn {
     on: bool,
-    no: u8,
+    no: Result<(), Refusal>,
     done: Tally,
     place: Place,
 }
 
 // It ends here.
-fn stays(no: u8, done: Tally, place: Place) -> Turn
-    ensures { (result.on ≡ false) × (result.no ≡ no) × (result.done ≡ done) × (result.place ≡ place) }
+fn stays(no: Result<(), Refusal>, done: Tally, place: Place) -> Turn
+    ensures { (result.on ≡ false) × (answer result.no ≡ answer no) × (result.done ≡ done) × (result.place ≡ place) }
 {
     Turn {
         on: false,
@@ -51,10 +47,10 @@ fn stays(no: u8, done: Tally, place: Place) -> Turn
 }
 
 // A question of a feed, where there are numbers.
-fn where_some(no: u8, m: usize) -> u8
-    ensures { result ≡ where_some no m }
+fn where_some(why: Refusal, m: usize) -> Result<(), Refusal>
+    ensures { answer result ≡ where_some (number why) m }
 {
-    if m == 0 { 0 } else { no }
+    if m == 0 { Ok(()) } else { Err(why) }
 }
 
 // It goes on from a place, with so many numbers used and rows drawn more, unless 14 ended the reader.
@@ -65,14 +61,14 @@ fn goes(done: Tally, used: usize, rows: usize, place: Place) -> Turn
     if place.ended {
         return Turn {
             on: true,
-            no: 0,
+            no: Ok(()),
             done,
             place,
         };
     }
     Turn {
         on: true,
-        no: 0,
+        no: Ok(()),
         done: Tally { used, rows },
         place,
     }
@@ -84,20 +80,20 @@ fn feed_turn(s: Reader, p: Place, n: Next, store: &mut [i32], run: &[i32], done:
         Due s n × (0 < n.spot.level) × (done.used ≤ length run.now) }
     ensures by_index { (k : ℕ) (z : ℕ → ℤ) → done.rows * s.width ≤ k →
         Turned (length store.old) (length run.now) (at run.now) k (run_at done s (at store.old) z)
-        (run_at result.done (reader_at s result.place) (at store.new) z) result.on result.no }
+        (run_at result.done (reader_at s result.place) (at store.new) z) result.on (answer result.no) }
     ensures own { Own (reader_at s result.place) result.place.at }
 {
     let a = done.used;
     let length = steps::row_length(s, n);
     if length == 0 {
-        return stays(0, done, p);
+        return stays(Ok(()), done, p);
     }
     if run.len() - a < length {
-        return stays(where_some(13, run.len()), done, p);
+        return stays(where_some(Refusal::WrongLength, run.len()), done, p);
     }
     let e = a + length;
     if !questions::run_fits(s.filter, &run[a..e], s.stop + n.spot.level) {
-        return stays(where_some(7, run.len()), done, p);
+        return stays(where_some(Refusal::OutOfRange, run.len()), done, p);
     }
     let l = p.at;
     let q = run_steps::feed(s, l, store, n, &run[a..e]);
@@ -110,12 +106,12 @@ fn draw_turn(s: Reader, p: Place, store: &mut [i32], out: &mut [u16], done: Tall
         (0 ≡ (next s).level) × (done.rows * s.width ≤ length out.old) }
     ensures by_index { (m : ℕ) (v : ℕ → ℤ) → done.used ≤ m →
         Turned (length store.old) m v (length out.old) (run_at done s (at store.old) (heights_at out.old))
-        (run_at result.done (reader_at s result.place) (at store.new) (heights_at out.new)) result.on result.no }
+        (run_at result.done (reader_at s result.place) (at store.new) (heights_at out.new)) result.on (answer result.no) }
     ensures own { Own (reader_at s result.place) result.place.at }
 {
     let a = done.rows * s.width;
     if out.len() - a < s.width {
-        return stays(12, done, p);
+        return stays(Err(Refusal::OutShort), done, p);
     }
     let l = p.at;
     let q = run_steps::draw(s, l, store, &mut out[a..]);
@@ -135,17 +131,17 @@ fn level_turn(
         (done.rows * s.width ≤ length out.old) }
     ensures turned { Turned (length store.old) (length run.now) (at run.now) (length out.old)
         (run_at done s (at store.old) (heights_at out.old))
-        (run_at result.done (reader_at s result.place) (at store.new) (heights_at out.new)) result.on result.no }
+        (run_at result.done (reader_at s result.place) (at store.new) (heights_at out.new)) result.on (answer result.no) }
     ensures own { Own (reader_at s result.place) result.place.at }
 {
     if s.ended {
-        return stays(9, done, p);
+        return stays(Err(Refusal::IsOver), done, p);
     }
     if !run_steps::place_fits(s) {
-        return stays(1, done, p);
+        return stays(Err(Refusal::BadState), done, p);
     }
     if s.height <= s.drawn {
-        return stays(where_some(8, run.len()), done, p);
+        return stays(where_some(Refusal::NotItsTurn, run.len()), done, p);
     }
     let n = run_steps::next_from(s, p.at);
     if n.spot.level == 0 {
@@ -160,19 +156,19 @@ fn last_feed(s: Reader, p: Place, store: &mut [i32], run: &[i32], done: Tally) -
         Own s p.at × (done.used ≤ length run.now) }
     ensures by_index { (k : ℕ) (z : ℕ → ℤ) → done.rows * s.width ≤ k →
         Turned (length store.old) (length run.now) (at run.now) k (run_at done s (at store.old) z)
-        (run_at result.done (reader_at s result.place) (at store.new) z) result.on result.no }
+        (run_at result.done (reader_at s result.place) (at store.new) z) result.on (answer result.no) }
     ensures own { Own (reader_at s result.place) result.place.at }
 {
     let a = done.used;
     if s.width == 0 {
-        return stays(0, done, p);
+        return stays(Ok(()), done, p);
     }
     if run.len() - a < s.width {
-        return stays(where_some(13, run.len()), done, p);
+        return stays(where_some(Refusal::WrongLength, run.len()), done, p);
     }
     let e = a + s.width;
     if !questions::run_fits(s.filter, &run[a..e], s.stop) {
-        return stays(where_some(7, run.len()), done, p);
+        return stays(where_some(Refusal::OutOfRange, run.len()), done, p);
     }
     let _ = copies::copy(&run[a..e], store);
     let l = p.at;
@@ -190,16 +186,16 @@ fn last_draw(s: Reader, p: Place, store: &[i32], out: &mut [u16], done: Tally) -
         Own s p.at × (done.rows * s.width ≤ length out.old) }
     ensures by_index { (m : ℕ) (v : ℕ → ℤ) → done.used ≤ m →
         Turned (length store.now) m v (length out.old) (run_at done s (at store.now) (heights_at out.old))
-        (run_at result.done (reader_at s result.place) (at store.now) (heights_at out.new)) result.on result.no }
+        (run_at result.done (reader_at s result.place) (at store.now) (heights_at out.new)) result.on (answer result.no) }
     ensures own { Own (reader_at s result.place) result.place.at }
 {
     let w = s.width;
     if w == 0 {
-        return stays(0, done, p);
+        return stays(Ok(()), done, p);
     }
     let a = done.rows * w;
     if out.len() - a < w {
-        return stays(12, done, p);
+        return stays(Err(Refusal::OutShort), done, p);
     }
     limited::limit_row(&store[0..w], &mut out[a..]);
     let l = p.at;
@@ -223,15 +219,14 @@ fn last_turn(
         (done.rows * s.width ≤ length out.old) }
     ensures turned { Turned (length store.old) (length run.now) (at run.now) (length out.old)
         (run_at done s (at store.old) (heights_at out.old))
-        (run_at result.done (reader_at s result.place) (at store.new) (heights_at out.new)) result.on result.no }
+        (run_at result.done (reader_at s result.place) (at store.new) (heights_at out.new)) result.on (answer result.no) }
     ensures own { Own (reader_at s result.place) result.place.at }
 {
-    let q = last::store_question(s, store.len());
-    if q != 0 {
-        return stays(q, done, p);
+    if let Err(why) = last::store_question(s, store.len()) {
+        return stays(Err(why), done, p);
     }
     if s.height <= s.drawn {
-        return stays(where_some(8, run.len()), done, p);
+        return stays(where_some(Refusal::NotItsTurn, run.len()), done, p);
     }
     if s.band == 0 {
         return last_feed(s, p, store, run, done);
@@ -252,7 +247,7 @@ fn one_turn(
         Own s p.at × (done.used ≤ length run.now) × (done.rows * s.width ≤ length out.old) }
     ensures turned { Turned (length store.old) (length run.now) (at run.now) (length out.old)
         (run_at done s (at store.old) (heights_at out.old))
-        (run_at result.done (reader_at s result.place) (at store.new) (heights_at out.new)) result.on result.no }
+        (run_at result.done (reader_at s result.place) (at store.new) (heights_at out.new)) result.on (answer result.no) }
     ensures own { Own (reader_at s result.place) result.place.at }
 {
     if s.levels == 0 {
@@ -267,11 +262,11 @@ fn go(s: Reader, p: Place, store: &mut [i32], run: &[i32], out: &mut [u16]) -> T
         (s.ended ≡ false) × (reader_at s p ≡ s) × Own s p.at }
     ensures { Over (length store.old) (length run.now) (at run.now) (length out.old)
         (begin s (at store.old) (heights_at out.old))
-        (run_at result.done (reader_at s result.place) (at store.new) (heights_at out.new)) result.no }
+        (run_at result.done (reader_at s result.place) (at store.new) (heights_at out.new)) (answer result.no) }
 {
     let mut t = Turn {
         on: true,
-        no: 0,
+        no: Ok(()),
         done: Tally { used: 0, rows: 0 },
         place: p,
     };
@@ -284,35 +279,40 @@ fn go(s: Reader, p: Place, store: &mut [i32], run: &[i32], out: &mut [u16]) -> T
 }
 
 // Questions 1, 5 and 9.
-fn run_question(s: Reader, n: usize) -> u8
-    ensures { result ≡ run_question s n }
+fn run_question(s: Reader, n: usize) -> Result<(), Refusal>
+    ensures { answer result ≡ run_question s n }
 {
     if s.levels == 0 {
         return last::store_question(s, n);
     }
     if !questions::counts_fit(s) {
-        return 1;
+        return Err(Refusal::BadState);
     }
     questions::store_question(s, n)
 }
 
 // The question that turns a run away which made no call.
-fn first_no(done: Tally, ended: bool, no: u8) -> u8
-    ensures value { done.used ≡ 0 → done.rows ≡ 0 → ended ≡ false → result ≡ no }
-    ensures value_2 { (done.used + done.rows ≡ 0 → ended ≡ true) → result ≡ 0 }
-    ensures rows_value { (result ≡ 0 → ⊥) → (done.used + done.rows ≡ 0) × (ended ≡ false) }
+fn first_no(done: Tally, ended: bool, no: Result<(), Refusal>) -> Result<(), Refusal>
+    ensures value { done.used ≡ 0 → done.rows ≡ 0 → ended ≡ false → answer result ≡ answer no }
+    ensures value_2 { (done.used + done.rows ≡ 0 → ended ≡ true) → answer result ≡ 0 }
+    ensures rows_value { (answer result ≡ 0 → ⊥) → (done.used + done.rows ≡ 0) × (ended ≡ false) }
 {
     if 0 < done.used {
-        return 0;
+        return Ok(());
     }
     if 0 < done.rows {
-        return 0;
+        return Ok(());
     }
-    if ended { 0 } else { no }
+    if ended { Ok(()) } else { no }
 }
 
 // Band rows fed and height rows drawn, until the run has no whole row more, the next row has no room, all rows are drawn, or a question turns the next away.
-pub fn run(s: Reader, store: &mut [i32], run: &[i32], out: &mut [u16]) -> Ran
+pub fn run(
+    s: Reader,
+    store: &mut [i32],
+    run: &[i32],
+    out: &mut [u16],
+) -> Result<(Tally, Reader), Refusal>
     ensures result_value { of_ran result ≡ seen progress (run_reply s (length store.old) (length run.now) (at run.now)
         (length out.old) (at store.old) (heights_at out.old)) }
     ensures store_after { at store.new ≡ left_by (λ p. p.world.store) (at store.old) (run_reply s (length store.old)
@@ -320,16 +320,8 @@ pub fn run(s: Reader, store: &mut [i32], run: &[i32], out: &mut [u16]) -> Ran
     ensures out_after { heights_at out.new ≡ left_by (λ p. p.area) (heights_at out.old) (run_reply s (length store.old)
         (length run.now) (at run.now) (length out.old) (at store.old) (heights_at out.old)) }
 {
-    let q = run_question(s, store.len());
-    if q != 0 {
-        return Ran::Refused(q);
-    }
+    run_question(s, store.len())?;
     let t = go(s, run_steps::place_now(s), store, run, out);
-    let p = t.place;
-    let d = t.done;
-    let no = first_no(d, p.ended, t.no);
-    if no != 0 {
-        return Ran::Refused(no);
-    }
-    Ran::Went(d, run_steps::reader_at(s, p))
+    first_no(t.done, t.place.ended, t.no)?;
+    Ok((t.done, run_steps::reader_at(s, t.place)))
 }

@@ -7,32 +7,28 @@ ghost use Rattle.reader.specs.Questions.{level_question};
 ghost use Rattle.reader.specs.Stops.{last_at, fresh_at, of_level_size, size_reply};
 
 use crate::{Reader, questions};
+use refusal::Refusal;
 use wavelet::shape::Shape;
-use wavelet::{limits, sizes};
+use wavelet::sizes;
 
 // The columns and rows of the low-low part of a level.
 #[derive(Clone, Copy)]
-pub enum LevelSize {
-    Size(usize, usize),
-    Refused(u8),
+pub struct LevelSize {
+    pub columns: usize,
+    pub rows: usize,
 }
 
 // The questions are 2, 3, 18, 4 and 17.
-pub fn level_size(map: Shape, level: usize) -> LevelSize
+pub fn level_size(map: Shape, level: usize) -> Result<LevelSize, Refusal>
     ensures { of_level_size result ≡
         size_reply (shape.columns map) (shape.rows map) level (level_question map.filter map.width map.height map.levels level) }
 {
-    let q = questions::size_question(map.filter as usize, map.width, map.height, map.levels);
-    if q != 0 {
-        return LevelSize::Refused(q);
-    }
-    if !limits::is_within(level, map.levels) {
-        return LevelSize::Refused(17);
-    }
-    LevelSize::Size(
-        sizes::size_at(level, map.x as usize, map.width),
-        sizes::size_at(level, map.y as usize, map.height),
-    )
+    questions::size_question(map)?;
+    questions::level_question(map, level)?;
+    Ok(LevelSize {
+        columns: sizes::size_at(level, map.x as usize, map.width),
+        rows: sizes::size_at(level, map.y as usize, map.height),
+    })
 }
 
 // The reader of a low-low part with no level to work out. One that is empty has no row, nor has one without a column.
@@ -67,30 +63,32 @@ fn last_at(
 }
 
 // The fresh reader of a map's low-low part of level `stop`; the map's line store has n numbers.
-pub fn reader_at(
-    filter: usize,
-    levels: usize,
-    x: usize,
-    width: usize,
-    y: usize,
-    height: usize,
-    stop: usize,
-    n: usize,
-) -> Reader
-    requires { (streamable filter (side x width) levels ≡ true) × (height < 2 ^ 32) × (x ≤ 2 ^ 16) × (y ≤ 2 ^ 16) × (stop ≤ levels) ×
-        (n ≡ store_by filter (side x width) levels) }
-    ensures { result ≡ fresh_at filter (side x width) (side y height) levels stop }
+pub fn reader_at(map: Shape, stop: usize, n: usize) -> Reader
+    requires { (streamable map.filter (shape.columns map) map.levels ≡ true) × (map.height < 2 ^ 32) × (stop ≤ map.levels) ×
+        (n ≡ store_by map.filter (shape.columns map) map.levels) }
+    ensures { result ≡ fresh_at map.filter (shape.columns map) (shape.rows map) map.levels stop }
 {
-    let across = sizes::start_at(stop, x);
-    let w = sizes::size_at(stop, x, width);
-    let down = sizes::start_at(stop, y);
-    let h = sizes::size_at(stop, y, height);
-    if stop == levels {
+    let filter = map.filter as usize;
+    let across = sizes::start_at(stop, map.x as usize);
+    let w = sizes::size_at(stop, map.x as usize, map.width);
+    let down = sizes::start_at(stop, map.y as usize);
+    let h = sizes::size_at(stop, map.y as usize, map.height);
+    if stop == map.levels {
         return last_at(filter, across, w, down, h, stop, n);
     }
     if (w == 0) | (h == 0) {
         return last_at(filter, across, w, down, h, stop, n);
     }
-    let own = filters::store_length(filter, w, across, levels - stop);
-    Reader::begun(0, filter, levels - stop, across, w, down, h, stop, n - own)
+    let own = filters::store_length(filter, w, across, map.levels - stop);
+    Reader::begun(
+        0,
+        filter,
+        map.levels - stop,
+        across,
+        w,
+        down,
+        h,
+        stop,
+        n - own,
+    )
 }

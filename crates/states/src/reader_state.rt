@@ -7,8 +7,9 @@ ghost use Rattle.states.specs.ReaderAnswers.{fed_words, handed_words, count_of, 
 ghost use Rattle.states.specs.ReaderState.{is_reader, reader_of, moved_words, reader_words};
 
 use crate::array;
-use reader::runs::Ran;
-use reader::{Drawn, Fed, Reader};
+use reader::runs::Tally;
+use reader::{ReadError, Reader};
+use refusal::Refusal;
 
 // Is this the state array of a reader?
 pub fn is_reader(s: &[u64; 16]) -> bool
@@ -82,46 +83,50 @@ fn pack_moved(r: Reader, s: &mut [u64; 16])
 }
 
 // A feed's answer in the caller's numbers.
-pub fn pack_fed(answer: Fed, s: &mut [u64; 16]) -> u32
+pub fn pack_fed(answer: Result<Reader, ReadError>, s: &mut [u64; 16]) -> u32
     ensures value { result ≡ number (of_fed answer) }
     ensures s_after { (s.new ≡ fed_words (of_fed answer) s.old) × (length s.old ≡ 16) }
 {
     array::sized(*s);
     match answer {
-        Fed::Passed(r) => {
+        Ok(r) => {
             pack_moved(r, s);
             0
         }
-        Fed::Impossible(r) => {
+        Err(ReadError::Impossible(r)) => {
             pack_reader(r, s);
             14
         }
-        Fed::Refused(no) => no as u32,
+        Err(ReadError::Refused(why)) => why.number() as u32,
     }
 }
 
 // A draw's answer, and how many heights were drawn.
-pub fn pack_drawn(answer: Drawn, s: &mut [u64; 16], drawn: &mut usize) -> u32
+pub fn pack_drawn(
+    answer: Result<Option<(usize, Reader)>, ReadError>,
+    s: &mut [u64; 16],
+    drawn: &mut usize,
+) -> u32
     ensures value { result ≡ number (of_drawn answer) }
     ensures s_after { (s.new ≡ handed_words (of_drawn answer) s.old) × (length s.old ≡ 16) }
     ensures drawn_after { drawn.new ≡ count_of (of_drawn answer) drawn.old }
 {
     array::sized(*s);
     match answer {
-        Drawn::Heights(n, r) => {
+        Ok(Some((n, r))) => {
             pack_moved(r, s);
             *drawn = n;
             0
         }
-        Drawn::Nothing => {
+        Ok(None) => {
             *drawn = 0;
             0
         }
-        Drawn::Impossible(r) => {
+        Err(ReadError::Impossible(r)) => {
             pack_reader(r, s);
             14
         }
-        Drawn::Refused(no) => no as u32,
+        Err(ReadError::Refused(why)) => why.number() as u32,
     }
 }
 
@@ -133,17 +138,21 @@ fn ending(ended: bool) -> u32
 }
 
 // A run's answer: the whole array, and the counts.
-pub fn pack_ran(answer: Ran, s: &mut [u64; 16], counts: &mut [u64; 2]) -> u32
+pub fn pack_ran(
+    answer: Result<(Tally, Reader), Refusal>,
+    s: &mut [u64; 16],
+    counts: &mut [u64; 2],
+) -> u32
     ensures value { result ≡ ran_number (of_ran answer) }
     ensures s_after { s.new ≡ ran_words (of_ran answer) s.old }
     ensures counts_after { counts.new ≡ counts_of (of_ran answer) counts.old }
 {
     match answer {
-        Ran::Went(done, r) => {
+        Ok((done, r)) => {
             pack_reader(r, s);
             *counts = [done.used as u64, done.rows as u64];
             ending(r.ended)
         }
-        Ran::Refused(no) => no as u32,
+        Err(why) => why.number() as u32,
     }
 }

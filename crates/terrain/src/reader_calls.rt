@@ -13,8 +13,7 @@ ghost use Rattle.states.specs.ReaderAnswers.{count_of, ran_number, ran_words, co
 ghost use Rattle.terrain.specs.ReaderCalls.{state_of, stopping, tolerating, sizing, size_number, columns_of, rows_of, wanting};
 ghost use Rattle.terrain.specs.ReaderCalls.{running, want_of, feeding, feeding_store, drawing, drawing_store, drawing_area, state_drawn};
 
-use reader::stops::LevelSize;
-use reader::{Reader, SetUp, Wanted, runs, stops};
+use reader::{Reader, Wanted, runs, stops};
 use states::reader_state;
 use wavelet::shape::Shape;
 
@@ -33,11 +32,11 @@ pub fn terrain_reader_set_up(state: &mut [u64; 16], shape: Shape, store: &mut [i
         (set_up_question shape.filter (columns shape) (rows shape) shape.levels (length store.old)) (at store.old) }
 {
     match Reader::set_up(shape, store) {
-        SetUp::Ready(r) => {
+        Ok(r) => {
             reader_state::pack_reader(r, state);
             0
         }
-        SetUp::Refused(no) => no as u32,
+        Err(why) => why.number() as u32,
     }
 }
 
@@ -56,11 +55,11 @@ pub fn terrain_reader_set_up_at(
         (stop_question shape.filter (columns shape) (rows shape) shape.levels stop (length store.old)) (at store.old) }
 {
     match Reader::set_up_at(shape, stop, store) {
-        SetUp::Ready(r) => {
+        Ok(r) => {
             reader_state::pack_reader(r, state);
             0
         }
-        SetUp::Refused(no) => no as u32,
+        Err(why) => why.number() as u32,
     }
 }
 
@@ -78,11 +77,11 @@ pub fn terrain_tolerant_set_up(
         set_up_store 0 (side 0 width) levels (tolerant_question width height levels (length store.old)) (at store.old) }
 {
     match Reader::set_up_tolerant(width, height, levels, store) {
-        SetUp::Ready(r) => {
+        Ok(r) => {
             reader_state::pack_reader(r, state);
             0
         }
-        SetUp::Refused(no) => no as u32,
+        Err(why) => why.number() as u32,
     }
 }
 
@@ -93,12 +92,12 @@ pub fn terrain_level_size(shape: Shape, level: usize, across: &mut usize, down: 
     ensures down_after { down.new ≡ rows_of (sizing shape.filter (columns shape) (rows shape) shape.levels level) down.old }
 {
     match stops::level_size(shape, level) {
-        LevelSize::Size(w, h) => {
-            *across = w;
-            *down = h;
+        Ok(size) => {
+            *across = size.columns;
+            *down = size.rows;
             0
         }
-        LevelSize::Refused(no) => no as u32,
+        Err(why) => why.number() as u32,
     }
 }
 
@@ -112,23 +111,30 @@ pub fn terrain_reader_want(state: &[u64; 16], want: &mut [u64; 5]) -> u32
     }
     let s = reader_state::unpack_reader(state);
     match s.want() {
-        Wanted::Row(level, band, row, length) => {
+        Ok(
+            Wanted::Row {
+                level,
+                band,
+                row,
+                length,
+            },
+        ) => {
             *want = [0, level as u64, band as u64, row as u64, length as u64];
             0
         }
-        Wanted::Draw => {
+        Ok(Wanted::Draw) => {
             *want = [1, 0, 0, 0, 0];
             0
         }
-        Wanted::Done => {
+        Ok(Wanted::Done) => {
             *want = [2, 0, 0, 0, 0];
             0
         }
-        Wanted::Ended => {
+        Ok(Wanted::Ended) => {
             *want = [3, 0, 0, 0, 0];
             0
         }
-        Wanted::Refused(no) => no as u32,
+        Err(why) => why.number() as u32,
     }
 }
 

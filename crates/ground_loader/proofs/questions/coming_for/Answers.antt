@@ -1,32 +1,27 @@
 -- `questions::coming_for` meets its contract: by what is wanted. Assumes nothing.
-use mathlib.Core.Path.{sym, ap, ◌∙◌}
+use Rattle.std.proofs.Common.{sym, ap, ◌∙◌, Result, Ok}
+use Rattle.refusal.specs.declared.Refusal.{Refusal}
 use Rattle.reader.specs.declared.Wanted.{Wanted}
 use Rattle.reader.specs.Answers.{of_wanted}
 use Rattle.ground_loader.specs.Loader.{want_in, coming_after}
 use Rattle.ground_loader.proofs.questions.coming_for.Goals as goal
 
-pub returns-in-Row : goal.returns-in-Row
+pub returns-in-Ok-Row : goal.returns-in-Ok-Row
 unfolding coming_after
-returns-in-Row c =
-    c.stands.ensures ∙ sym (ap (λ (o : Wanted). coming_after c.args.c (want_in (of_wanted o)))
-    c.in-Row.is)
+returns-in-Ok-Row c = c.stands.ensures ∙ sym (ap (λ (o : Result Wanted Refusal). coming_after c.args.c (want_in (of_wanted o))) (c.in-Ok-Row.is ∙ ap Ok (rw c.in-Ok-Row.is at c.in-Ok-Row.field-0-is)))
 
-pub returns-in-Draw : goal.returns-in-Draw
+pub returns-in-Ok-Draw : goal.returns-in-Ok-Draw
 unfolding coming_after
-returns-in-Draw c =
-    c.is_none.ensures ∙ sym (ap (λ (o : Wanted). coming_after c.args.c (want_in (of_wanted o))) c.in-Draw.is)
+returns-in-Ok-Draw c = c.is_none.ensures ∙ sym (ap (λ (o : Result Wanted Refusal). coming_after c.args.c (want_in (of_wanted o))) (c.in-Ok-Draw.is ∙ ap Ok (rw c.in-Ok-Draw.is at c.in-Ok-Draw.field-0-is)))
 
-pub returns-in-Done : goal.returns-in-Done
+pub returns-in-Ok-Done : goal.returns-in-Ok-Done
 unfolding coming_after
-returns-in-Done c =
-    c.is_none-in-Done.ensures ∙ sym (ap (λ (o : Wanted). coming_after c.args.c (want_in (of_wanted o))) c.in-Done.is)
+returns-in-Ok-Done c = c.is_none-in-Ok-Done.ensures ∙ sym (ap (λ (o : Result Wanted Refusal). coming_after c.args.c (want_in (of_wanted o))) (c.in-Ok-Done.is ∙ ap Ok (rw c.in-Ok-Done.is at c.in-Ok-Done.field-0-is)))
 
-pub returns-in-Ended : goal.returns-in-Ended
+pub returns-in-Ok-Ended : goal.returns-in-Ok-Ended
 unfolding coming_after
-returns-in-Ended c =
-    c.is_none-in-Ended.ensures ∙ sym (ap (λ (o : Wanted). coming_after c.args.c (want_in (of_wanted o))) c.in-Ended.is)
+returns-in-Ok-Ended c = c.is_none-in-Ok-Ended.ensures ∙ sym (ap (λ (o : Result Wanted Refusal). coming_after c.args.c (want_in (of_wanted o))) (c.in-Ok-Ended.is ∙ ap Ok (rw c.in-Ok-Ended.is at c.in-Ok-Ended.field-0-is)))
 
-pub returns-in-Refused : goal.returns-in-Refused
+pub returns-in-Err : goal.returns-in-Err
 unfolding coming_after
-returns-in-Refused c =
-    c.is_none-in-Refused.ensures ∙ sym (ap (λ (o : Wanted). coming_after c.args.c (want_in (of_wanted o))) c.in-Refused.is)
+returns-in-Err c = c.is_none-in-Err.ensures ∙ sym (ap (λ (o : Result Wanted Refusal). coming_after c.args.c (want_in (of_wanted o))) c.in-Err.is)

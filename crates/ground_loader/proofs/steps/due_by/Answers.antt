@@ -1,31 +1,28 @@
 -- `steps::due_by` meets its contract: case by case. Assumes nothing.
-use mathlib.Core.Path.{sym, ap, ◌∙◌}
+use Rattle.std.proofs.Common.{sym, ap, ◌∙◌, Result, Ok}
+use Rattle.refusal.specs.declared.Refusal.{Refusal}
 use Rattle.reader.specs.declared.Wanted.{Wanted}
 use Rattle.reader.specs.Answers.{of_wanted}
-use Rattle.ground_loader.specs.Loader.{want_in}
 use Rattle.ground_loader.specs.Local.{due_after}
+use Rattle.ground_loader.specs.Loader.{want_in}
 use Rattle.ground_loader.proofs.steps.due_by.Goals as goal
 
-pub returns-in-Row : goal.returns-in-Row
+pub returns-in-Ok-Row : goal.returns-in-Ok-Row
 unfolding due_after
-returns-in-Row c = sym (ap (λ (o : Wanted). due_after c.args.tail (want_in (of_wanted o))) c.in-Row.is)
+returns-in-Ok-Row c = sym (ap (λ (o : Result Wanted Refusal). due_after c.args.tail (want_in (of_wanted o))) (c.in-Ok-Row.is ∙ ap Ok (rw c.in-Ok-Row.is at c.in-Ok-Row.field-0-is)))
 
-pub returns-in-Draw : goal.returns-in-Draw
+pub returns-in-Ok-Draw : goal.returns-in-Ok-Draw
 unfolding due_after
-returns-in-Draw c =
-    c.plain.ensures ∙ sym (ap (λ (o : Wanted). due_after c.args.tail (want_in (of_wanted o))) c.in-Draw.is)
+returns-in-Ok-Draw c = c.plain.ensures ∙ sym (ap (λ (o : Result Wanted Refusal). due_after c.args.tail (want_in (of_wanted o))) (c.in-Ok-Draw.is ∙ ap Ok (rw c.in-Ok-Draw.is at c.in-Ok-Draw.field-0-is)))
 
-pub returns-in-Done : goal.returns-in-Done
+pub returns-in-Ok-Done : goal.returns-in-Ok-Done
 unfolding due_after
-returns-in-Done c =
-    c.at_end.ensures ∙ sym (ap (λ (o : Wanted). due_after c.args.tail (want_in (of_wanted o))) c.in-Done.is)
+returns-in-Ok-Done c = c.at_end.ensures ∙ sym (ap (λ (o : Result Wanted Refusal). due_after c.args.tail (want_in (of_wanted o))) (c.in-Ok-Done.is ∙ ap Ok (rw c.in-Ok-Done.is at c.in-Ok-Done.field-0-is)))
 
-pub returns-in-Ended : goal.returns-in-Ended
+pub returns-in-Ok-Ended : goal.returns-in-Ok-Ended
 unfolding due_after
-returns-in-Ended c =
-    c.plain-in-Ended.ensures ∙ sym (ap (λ (o : Wanted). due_after c.args.tail (want_in (of_wanted o))) c.in-Ended.is)
+returns-in-Ok-Ended c = c.plain-in-Ok-Ended.ensures ∙ sym (ap (λ (o : Result Wanted Refusal). due_after c.args.tail (want_in (of_wanted o))) (c.in-Ok-Ended.is ∙ ap Ok (rw c.in-Ok-Ended.is at c.in-Ok-Ended.field-0-is)))
 
-pub returns-in-Refused : goal.returns-in-Refused
+pub returns-in-Err : goal.returns-in-Err
 unfolding due_after
-returns-in-Refused c =
-    c.plain-in-Refused.ensures ∙ sym (ap (λ (o : Wanted). due_after c.args.tail (want_in (of_wanted o))) c.in-Refused.is)
+returns-in-Err c = c.plain-in-Err.ensures ∙ sym (ap (λ (o : Result Wanted Refusal). due_after c.args.tail (want_in (of_wanted o))) c.in-Err.is)

@@ -1,5 +1,5 @@
 -- `reader::Reader::draw_row` meets its contract: refused by a question, or nothing, or drawn, or ended. Assumes nothing.
-use mathlib.Core.Path.{◌∙◌, sym}
+use mathlib.Core.Path.{ap, ◌∙◌, sym}
 use native.Mathlib.Nat.{le_trans, le_of_eq}
 use native.Mathlib.Omega.{arith}
 use lib.ListN.{length}
@@ -15,6 +15,8 @@ use Rattle.reader.proofs.CallLaws.{fits-no}
 use Rattle.reader.proofs.CallLaws.{zero-kept}
 use Rattle.reader.proofs.Keeps.{draw-also}
 use Rattle.reader.proofs.Clauses.{answer-kept-heights-meaning}
+use Rattle.reader.specs.Answers.{of_drawn}
+use Rattle.refusal.proofs.Laws.{number-some, handed-on}
 use Rattle.reader.proofs.Reader.draw_row.Goals as goal
 
 pub returns-then-not-counts_fit : goal.returns-then-not-counts_fit
@@ -26,30 +28,32 @@ returns-then-not-counts_fit c =
     answer-kept-heights-meaning (draw-also a.self n m x (heights_at a.out.now) (draw-no a.self _ _ _ 1
     (draw-1 a.self n m x (sym c.counts_fit.ensures ∙ not-true _ c.if-not-counts_fit.true-raw)) (omega arith) (omega arith)))
 
-pub store_question-q-requires : goal.store_question-q-requires
-store_question-q-requires c = counts-in _ (sym c.counts_fit.ensures ∙ not-false _ c.if-not-counts_fit.false-raw)
+pub store_question-requires : goal.store_question-requires
+store_question-requires c = counts-in _ (sym c.counts_fit.ensures ∙ not-false _ c.if-not-counts_fit.false-raw)
 
-pub returns-then-q-ne0 : goal.returns-then-q-ne0
-returns-then-q-ne0 c =
-    let q = c.store_question-q.ensures in
+pub returns-in_err-store_question : goal.returns-in_err-store_question
+returns-in_err-store_question c =
+    let q = c.in_err-store_question.ensures in
     let fit = sym c.counts_fit.ensures ∙ not-false _ c.if-not-counts_fit.false-raw in
     let a = c.args in
     let n = length a.store.now in
     let m = length a.out.now in
-    answer-kept-heights-meaning (draw-also a.self (length a.store.now) (length a.out.now) (at a.store.now) (heights_at a.out.now)
-    (draw-no a.self _ _ _ _ (q ∙ draw-early a.self n m (at a.store.now) fit (λ e. c.if-q-ne0.true (q ∙ e))) c.if-q-ne0.true
-    (λ e. store-14 a.self n m (at a.store.now) (at a.store.now) (sym q ∙ e))))
+    let p = (draw-also a.self (length a.store.now) (length a.out.now) (at a.store.now) (heights_at a.out.now)
+    (draw-no a.self _ _ _ _ (q ∙ draw-early a.self n m (at a.store.now) fit (λ e. (number-some _) (q ∙ e))) (number-some _)
+    (λ e. store-14 a.self n m (at a.store.now) (at a.store.now) (sym q ∙ e)))) in
+    let e = handed-on c.from_residual.result c.from_residual.ensures.1 in
+    record { answer = ap of_drawn e ∙ p.0; kept = p.1.0; heights = p.1.1.0; meaning = rw e p.1.1.1 }
 
 pub draw_due-requires : goal.draw_due-requires
 draw_due-requires c = (store_in _ _ (sym c.counts_fit.ensures ∙ not-false _ c.if-not-counts_fit.false-raw)
-    (sym c.store_question-q.ensures ∙ c.if-q-ne0.false)).0
+    (sym c.in_ok-store_question.ensures)).0
 
 pub returns-then-not-draw_due : goal.returns-then-not-draw_due
 returns-then-not-draw_due c =
     let a = c.args in
     let none = sym c.draw_due.ensures ∙ not-true _ c.if-not-draw_due.true-raw in
     let fit = sym c.counts_fit.ensures ∙ not-false _ c.if-not-counts_fit.false-raw in
-    let one = sym c.store_question-q.ensures ∙ c.if-q-ne0.false in
+    let one = sym c.in_ok-store_question.ensures in
     answer-kept-heights-meaning (draw-also a.self (length a.store.now) (length a.out.now) (at a.store.now) (heights_at a.out.now)
     (draw-nothing a.self _ _ _ (draw-none a.self (length a.store.now) (length a.out.now) (at a.store.now) fit one none) none))
 
@@ -57,7 +61,7 @@ pub returns-then-out-self : goal.returns-then-out-self
 returns-then-out-self c =
     let a = c.args in
     let fit = sym c.counts_fit.ensures ∙ not-false _ c.if-not-counts_fit.false-raw in
-    let one = sym c.store_question-q.ensures ∙ c.if-q-ne0.false in
+    let one = sym c.in_ok-store_question.ensures in
     answer-kept-heights-meaning (draw-also a.self (length a.store.now) (length a.out.now) (at a.store.now) (heights_at a.out.now)
     (draw-no a.self _ _ _ 12 (draw-12 a.self (length a.store.now) (length a.out.now) (at a.store.now) fit one
     (sym c.draw_due.ensures ∙ not-false _ c.if-not-draw_due.false-raw) c.if-out-self.true) (omega arith) (omega arith)))
@@ -65,13 +69,13 @@ returns-then-out-self c =
 pub work_all_due-requires : goal.work_all_due-requires
 work_all_due-requires c =
     let one = store_in _ _ (sym c.counts_fit.ensures ∙ not-false _ c.if-not-counts_fit.false-raw)
-    (sym c.store_question-q.ensures ∙ c.if-q-ne0.false) in
+    (sym c.in_ok-store_question.ensures) in
     (one.0, sym (due_in _ (sym c.draw_due.ensures ∙ not-false _ c.if-not-draw_due.false-raw)).1, one.1)
 
 pub hand_out-requires : goal.hand_out-requires
 hand_out-requires c =
     let one = store_in _ _ (sym c.counts_fit.ensures ∙ not-false _ c.if-not-counts_fit.false-raw)
-    (sym c.store_question-q.ensures ∙ c.if-q-ne0.false) in
+    (sym c.in_ok-store_question.ensures) in
     let draws = due_in _ (sym c.draw_due.ensures ∙ not-false _ c.if-not-draw_due.false-raw) in
     (one.0, draws.0, le_trans one.1 (le_of_eq (sym c.work_all_due.auto.store)), c.if-out-self.false)
 
@@ -89,7 +93,7 @@ returns-then-work_all_due c =
     let m = length a.out.now in
     let x = at a.store.now in
     let fit = sym c.counts_fit.ensures ∙ not-false _ c.if-not-counts_fit.false-raw in
-    let one = sym c.store_question-q.ensures ∙ c.if-q-ne0.false in
+    let one = sym c.in_ok-store_question.ensures in
     let is-due = sym c.draw_due.ensures ∙ not-false _ c.if-not-draw_due.false-raw in
     let made = told-yes c.work_all_due.result (at c.work_all_due.new.store) _ c.work_all_due.ensures.store_after c.if-work_all_due.true in
     answer-kept-heights-meaning (draw-also s n m x (heights_at a.out.now)
@@ -99,7 +103,7 @@ returns-then-work_all_due c =
 pub ending-requires : goal.ending-requires
 ending-requires c =
     let one = store_in _ _ (sym c.counts_fit.ensures ∙ not-false _ c.if-not-counts_fit.false-raw)
-    (sym c.store_question-q.ensures ∙ c.if-q-ne0.false) in
+    (sym c.in_ok-store_question.ensures) in
     (one.0, le_trans one.3 (le_of_eq (sym c.work_all_due.auto.store)))
 
 pub shape_of-store : goal.shape_of-store
@@ -114,7 +118,7 @@ returns c =
     let x = at a.store.now in
     let y = at c.work_all_due.new.store in
     let fit = sym c.counts_fit.ensures ∙ not-false _ c.if-not-counts_fit.false-raw in
-    let one = sym c.store_question-q.ensures ∙ c.if-q-ne0.false in
+    let one = sym c.in_ok-store_question.ensures in
     let is-due = sym c.draw_due.ensures ∙ not-false _ c.if-not-draw_due.false-raw in
     let made = told-no c.work_all_due.result y _ c.work_all_due.ensures.store_after c.if-work_all_due.false in
     answer-kept-heights-meaning (draw-also s n m x (heights_at a.out.now)

@@ -1,5 +1,5 @@
 -- `reader::Reader::set_up_at` meets its contract: refused by a question, or the store cleared and the reader of the low-low part. Assumes nothing.
-use mathlib.Core.Path.{◌≡◌, sym, ◌∙◌}
+use mathlib.Core.Path.{ap, ◌≡◌, sym, ◌∙◌}
 use native.Mathlib.Omega.{arith}
 use lib.ListN.{length}
 use borrow.Author.Rules.{rules}
@@ -15,26 +15,28 @@ use Rattle.reader.proofs.StoreLaws.{length-is}
 use Rattle.reader.proofs.QuestionLaws.{stop-in}
 use Rattle.reader.proofs.StopLaws.{stop-no, stop-yes, streams-are}
 use Rattle.reader.proofs.Clauses.{answer-kept}
+use Rattle.reader.specs.Answers.{of_set_up}
+use Rattle.refusal.proofs.Laws.{number-some, handed-on}
 use Rattle.reader.proofs.Reader.set_up_at.Goals as goal
 
-pub returns-then-q-ne0 : goal.returns-then-q-ne0
-returns-then-q-ne0 c =
+pub returns-in_err-stop_question : goal.returns-in_err-stop_question
+returns-in_err-stop_question c =
     let a = c.args in
-    answer-kept (stop-no _ (side a.map.x a.map.width) (side a.map.y a.map.height) a.map.levels a.stop _ _ _ c.stop_question-q.ensures
-    c.if-q-ne0.true)
+    let p = (stop-no _ (side a.map.x a.map.width) (side a.map.y a.map.height) a.map.levels a.stop _ _ _ c.in_err-stop_question.ensures
+    (number-some _)) in
+    let e = handed-on c.from_residual.result c.from_residual.ensures.1 in
+    record { answer = ap of_set_up e ∙ p.0; kept = p.1 }
 
 pub reader_at-requires : goal.reader_at-requires
 reader_at-requires c =
     let a = c.args in
     let W = side a.map.x a.map.width in
     let ok = stop-in a.map.filter W (side a.map.y a.map.height) a.map.levels a.stop _
-    (sym c.stop_question-q.ensures ∙ c.if-q-ne0.false) in
+    (sym c.in_ok-stop_question.ensures) in
     let h = within-true 1 max_height a.map.height ok.1 in
     let j = within-true 1 a.map.levels a.stop ok.4 in (
       streams-are a.map.filter W a.map.levels ok.2 ok.0 ok.3,
       omega (arith, h.1, height-small),
-      omega (arith, c.well_formed.0),
-      omega (arith, c.well_formed.0),
       j.1,
       c.store_length-n.ensures ∙ length-is _ W a.map.levels ok.2 ok.0 ok.3,
     )
@@ -46,7 +48,7 @@ pub returns : goal.returns
 returns c =
     let a = c.args in
     let W = side a.map.x a.map.width in
-    let asked = sym c.stop_question-q.ensures ∙ c.if-q-ne0.false in
+    let asked = sym c.in_ok-stop_question.ensures in
     let ok = stop-in a.map.filter W (side a.map.y a.map.height) a.map.levels a.stop _ asked in
     let n = c.store_length-n.ensures ∙ length-is _ W a.map.levels ok.2 ok.0 ok.3 in
     let room = le-leb c.store_length-n.result (length a.store.now) (omega (arith, ok.5, n)) in

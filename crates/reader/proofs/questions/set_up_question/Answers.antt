@@ -1,45 +1,18 @@
--- `reader::questions::set_up_question` meets its contract: the definition's tests, in its order. Assumes nothing.
-use mathlib.Core.Path.{◌∙◌, sym}
-use native.Mathlib.Omega.{arith}
-use borrow.Author.Tests.{not-true, not-false}
-use Rattle.wavelet.specs.Limits.{max_width, max_height}
-use Rattle.reader.proofs.QuestionLaws.{up-2, up-3, up-18, up-4, up-5, up-0, levels-asked}
+-- `reader::questions::set_up_question` meets its contract: the sizes, then the store. Assumes nothing.
+use Rattle.std.proofs.Common.{sym, ap, ◌∙◌}
+use Rattle.lifting.specs.Grid.{side}
+use Rattle.refusal.specs.Numbers.{answer}
+use Rattle.refusal.proofs.Laws.{number-some, handed-on}
+use Rattle.reader.proofs.QuestionLaws.{up-sizes, up-room}
 use Rattle.reader.proofs.questions.set_up_question.Goals as goal
 
-pub returns-then-not-is_within : goal.returns-then-not-is_within
-unfolding max_width max_height
-returns-then-not-is_within c = up-2 _ _ _ _ _ (sym c.is_within.ensures ∙ not-true _ c.if-not-is_within.true-raw)
-
-pub returns-then-not-is_within-2 : goal.returns-then-not-is_within-2
-unfolding max_width max_height
-returns-then-not-is_within-2 c =
-    up-3 _ _ _ _ _ (sym c.is_within.ensures ∙ not-false _ c.if-not-is_within.false-raw) (sym c.is_within-2.ensures ∙ not-true _ c.if-not-is_within-2.true-raw)
-
-pub returns-then-not-is_filter : goal.returns-then-not-is_filter
-unfolding max_width max_height
-returns-then-not-is_filter c =
-    up-18 _ _ _ _ _ (sym c.is_within.ensures ∙ not-false _ c.if-not-is_within.false-raw) (sym c.is_within-2.ensures ∙ not-false _ c.if-not-is_within-2.false-raw)
-    (sym c.is_filter.ensures ∙ not-true _ c.if-not-is_filter.true-raw)
-
-pub returns-then-not-is_within-3 : goal.returns-then-not-is_within-3
-unfolding max_width max_height
-returns-then-not-is_within-3 c =
-    up-4 _ _ _ _ _ (sym c.is_within.ensures ∙ not-false _ c.if-not-is_within.false-raw) (sym c.is_within-2.ensures ∙ not-false _ c.if-not-is_within-2.false-raw)
-    (sym c.is_filter.ensures ∙ not-false _ c.if-not-is_filter.false-raw)
-    (levels-asked _ _ _ _ _ c.most_levels.ensures c.is_within-3.ensures (not-true _ c.if-not-is_within-3.true-raw))
-
-pub returns-then-length-store_length : goal.returns-then-length-store_length
-unfolding max_width max_height
-returns-then-length-store_length c =
-    up-5 _ _ _ _ _ (sym c.is_within.ensures ∙ not-false _ c.if-not-is_within.false-raw) (sym c.is_within-2.ensures ∙ not-false _ c.if-not-is_within-2.false-raw)
-    (sym c.is_filter.ensures ∙ not-false _ c.if-not-is_filter.false-raw)
-    (levels-asked _ _ _ _ _ c.most_levels.ensures c.is_within-3.ensures (not-false _ c.if-not-is_within-3.false-raw))
-    c.store_length.result c.store_length.ensures (omega arith)
+pub returns-in_err-size_question : goal.returns-in_err-size_question
+returns-in_err-size_question c =
+    let m = c.args.map in
+    ap answer (handed-on c.from_residual.result c.from_residual.ensures.1)
+    ∙ up-sizes m.filter (side m.x m.width) (side m.y m.height) m.levels 0 c.args.length _ c.in_err-size_question.ensures (number-some _)
 
 pub returns : goal.returns
-unfolding max_width max_height
 returns c =
-    up-0 _ _ _ _ _ (sym c.is_within.ensures ∙ not-false _ c.if-not-is_within.false-raw) (sym c.is_within-2.ensures ∙ not-false _ c.if-not-is_within-2.false-raw)
-    (sym c.is_filter.ensures ∙ not-false _ c.if-not-is_filter.false-raw)
-    (levels-asked _ _ _ _ _ c.most_levels.ensures c.is_within-3.ensures (not-false _ c.if-not-is_within-3.false-raw))
-    c.store_length.result c.store_length.ensures (omega arith)
+    let m = c.args.map in
+    c.room_question.ensures ∙ up-room m.filter (side m.x m.width) (side m.y m.height) m.levels 0 c.args.length (sym c.in_ok-size_question.ensures)

@@ -9,6 +9,7 @@ use borrow.Rule.Slice.PartMut.{put_mid}
 use Rattle.numbers.specs.Signal.{at}
 use Rattle.areas.specs.Areas.{heights_at}
 use Rattle.reader.specs.declared.run_steps.Place.{Place}
+use Rattle.refusal.specs.Numbers.{answer}
 use Rattle.reader.specs.RunSteps.{reader_at, Own, run_at, DrawnTo, Turned}
 use Rattle.reader.proofs.QuestionLaws.{counts-in}
 use Rattle.reader.proofs.RunLaws.{turn-stays, own-stays, row-wide, drew-turn, rows_few}
@@ -89,8 +90,8 @@ returns c =
     record {
       by_index = λ m v within.
           subst (λ (o : Place). Turned n m v k (run_at a.done s x z) (run_at c.goes.result.done (reader_at s o) y (heights_at (put_mid from (k - from)
-          a.out.now part))) c.goes.result.on c.goes.result.no) (sym g.1)
+          a.out.now part))) c.goes.result.on (answer c.goes.result.no)) (sym g.1)
           (drew-turn n m v k a.done s x z some p.0 p.1 p.2 p.3 (sym p.6) (omega (arith, c.if-out-a.false)) p.7 within y (heights_at part) _ q f
-          after c.goes.result.done c.goes.result.on c.goes.result.no g.0 g.2 g.3);
+          after c.goes.result.done c.goes.result.on (answer c.goes.result.no) g.0 g.2 g.3);
       own = subst (λ (o : Place). Own (reader_at s o) o.at) (sym g.1) f.own;
     }

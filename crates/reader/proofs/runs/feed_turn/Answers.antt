@@ -13,6 +13,7 @@ use Rattle.reader.specs.Questions.{run_fits}
 use Rattle.reader.specs.State.{next_length}
 use Rattle.reader.specs.State as state
 use Rattle.reader.specs.declared.run_steps.Place.{Place}
+use Rattle.refusal.specs.Numbers.{answer}
 use Rattle.reader.specs.RunSteps.{reader_at, Own, run_at, FedTo, Turned}
 use Rattle.reader.proofs.QuestionLaws.{counts-in}
 use Rattle.reader.proofs.StepLaws.{level-fits, near}
@@ -137,9 +138,9 @@ returns c =
     record {
       by_index = λ k z wide.
           subst (λ (o : Place). Turned (length a.store.now) (length a.run.now) (at a.run.now) k (run_at a.done s x z)
-          (run_at c.goes.result.done (reader_at s o) y z) c.goes.result.on c.goes.result.no) (sym g.1)
+          (run_at c.goes.result.done (reader_at s o) y z) c.goes.result.on (answer c.goes.result.no)) (sym g.1)
           (fed-turn (length a.store.now) (length a.run.now) (at a.run.now) k a.done s x z some p.0 p.1 p.2 p.3 wanted long
-          nonempty (sym small ∙ not-false _ c.if-not-run_fits.false-raw) wide p.8 y q f c.goes.result.done c.goes.result.on c.goes.result.no g.0
+          nonempty (sym small ∙ not-false _ c.if-not-run_fits.false-raw) wide p.8 y q f c.goes.result.done c.goes.result.on (answer c.goes.result.no) g.0
           g.2 (λ e. ((g.3 e).0 ∙ ap (λ i. a.done.used + i) len, (g.3 e).1)));
       own = subst (λ (o : Place). Own (reader_at s o) o.at) (sym g.1) f.own;
     }

@@ -5,22 +5,23 @@ use lib.ListN.{length}
 use Rattle.numbers.specs.Signal.{at}
 use Rattle.areas.specs.Areas.{heights_at}
 use Rattle.reader.proofs.RunLaws.{turn-stays, own-stays}
+use Rattle.refusal.proofs.Laws.{number-some, not-refused}
 use Rattle.reader.proofs.RunLast.{last-early, last-says, last-done}
 use Rattle.reader.proofs.runs.last_turn.Goals as goal
 
-pub returns-then-q-ne0 : goal.returns-then-q-ne0
-returns-then-q-ne0 c =
+pub returns-in-Err : goal.returns-in-Err
+returns-in-Err c =
     let a = c.args in
     let p = c.requires in
     let e = c.stays.ensures in
     let n = length a.store.now in
     let m = length a.run.now in
     let k = length a.out.now in
-    let q = c.store_question-q.ensures in
+    let q = c.in-Err.ensures in
     record {
       turned = turn-stays n m (at a.run.now) k a.done a.s (at a.store.now) (heights_at a.out.now) a.p _ _ _ _ _ e.0 e.1 e.2 e.3 p.2
-          (last-early n m (at a.run.now) k a.done a.s (at a.store.now) (heights_at a.out.now) p.0 _ q c.if-q-ne0.true)
-          (last-says n m (at a.run.now) k a.done a.s (at a.store.now) (heights_at a.out.now) p.0 _ q c.if-q-ne0.true p.1)
+          (last-early n m (at a.run.now) k a.done a.s (at a.store.now) (heights_at a.out.now) p.0 _ q (number-some _))
+          (last-says n m (at a.run.now) k a.done a.s (at a.store.now) (heights_at a.out.now) p.0 _ q (number-some _) p.1)
           p.4 p.5;
       own = own-stays a.s a.p _ e.3 p.2 p.3;
     }
@@ -33,7 +34,7 @@ returns-then-s c =
     let n = length a.store.now in
     let m = length a.run.now in
     let k = length a.out.now in
-    let one = sym c.store_question-q.ensures ∙ c.if-q-ne0.false in
+    let one = sym c.store_question.ensures ∙ not-refused _ c.in_default.not-Err in
     let u = last-done n m (at a.run.now) k a.done a.s (at a.store.now) (heights_at a.out.now) p.0 one c.if-s.true in
     record {
       turned = turn-stays n m (at a.run.now) k a.done a.s (at a.store.now) (heights_at a.out.now) a.p _ _ _ _ _ e.0
@@ -44,7 +45,7 @@ returns-then-s c =
 pub last_feed-requires : goal.last_feed-requires
 last_feed-requires c =
     let p = c.requires in
-    (p.0, sym c.store_question-q.ensures ∙ c.if-q-ne0.false, c.if-s.false, c.if-s-eq0.true, p.2, p.3, p.4)
+    (p.0, sym c.store_question.ensures ∙ not-refused _ c.in_default.not-Err, c.if-s.false, c.if-s-eq0.true, p.2, p.3, p.4)
 
 pub shape_of-store-then-s-eq0 : goal.shape_of-store-then-s-eq0
 shape_of-store-then-s-eq0 c = c.last_feed.auto.store
@@ -57,7 +58,7 @@ returns-then-s-eq0 c =
 pub last_draw-requires : goal.last_draw-requires
 last_draw-requires c =
     let p = c.requires in
-    (p.0, sym c.store_question-q.ensures ∙ c.if-q-ne0.false, c.if-s.false, omega (arith, c.if-s-eq0.false), p.2, p.3, p.5)
+    (p.0, sym c.store_question.ensures ∙ not-refused _ c.in_default.not-Err, c.if-s.false, omega (arith, c.if-s-eq0.false), p.2, p.3, p.5)
 
 pub shape_of-store : goal.shape_of-store
 shape_of-store c = refl

@@ -10,18 +10,18 @@ use Rattle.reader.specs.Calls.{set_up_reply}
 use Rattle.terrain.specs.ReaderCalls.{state_of}
 use Rattle.terrain.proofs.reader_calls.terrain_reader_set_up.Goals as goal
 
-pub returns-in-Ready : goal.returns-in-Ready
-returns-in-Ready c =
+pub returns-in-Ok : goal.returns-in-Ok
+returns-in-Ok c =
     let a = c.args in
     let e : set_up_reply a.shape.filter (columns a.shape) (rows a.shape) a.shape.levels
     (set_up_question a.shape.filter (columns a.shape) (rows a.shape) a.shape.levels (length a.store.now)) ≡ _ =
-    sym c.set_up.ensures.answer ∙ ap of_set_up c.in-Ready.is in
+    sym c.set_up.ensures.answer ∙ ap of_set_up c.in-Ok.is in
     record { value = sym (ap number e); state_after = c.pack_reader.ensures ∙ sym (ap (λ (q : Reply Reader). state_of q a.state.now) e); store_after = c.set_up.ensures.kept }
 
-pub returns-in-Refused : goal.returns-in-Refused
-returns-in-Refused c =
+pub returns-in-Err : goal.returns-in-Err
+returns-in-Err c =
     let a = c.args in
     let e : set_up_reply a.shape.filter (columns a.shape) (rows a.shape) a.shape.levels
     (set_up_question a.shape.filter (columns a.shape) (rows a.shape) a.shape.levels (length a.store.now)) ≡ _ =
-    sym c.set_up.ensures.answer ∙ ap of_set_up c.in-Refused.is in
-    record { value = sym (ap number e); state_after = sym (ap (λ (q : Reply Reader). state_of q a.state.now) e); store_after = c.set_up.ensures.kept }
+    sym c.set_up.ensures.answer ∙ ap of_set_up c.in-Err.is in
+    record { value = c.number.ensures ∙ sym (ap number e); state_after = sym (ap (λ (q : Reply Reader). state_of q a.state.now) e); store_after = c.set_up.ensures.kept }

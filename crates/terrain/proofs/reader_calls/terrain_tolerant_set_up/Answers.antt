@@ -7,16 +7,16 @@ use Rattle.reader.specs.Answers.{Reply, number, of_set_up}
 use Rattle.terrain.specs.ReaderCalls.{state_of, tolerating}
 use Rattle.terrain.proofs.reader_calls.terrain_tolerant_set_up.Goals as goal
 
-pub returns-in-Ready : goal.returns-in-Ready
-returns-in-Ready c =
+pub returns-in-Ok : goal.returns-in-Ok
+returns-in-Ok c =
     let a = c.args in
     let e : tolerating a.width a.height a.levels (length a.store.now) ≡ _ =
-    sym c.set_up_tolerant.ensures.answer ∙ ap of_set_up c.in-Ready.is in
+    sym c.set_up_tolerant.ensures.answer ∙ ap of_set_up c.in-Ok.is in
     record { value = sym (ap number e); state_after = c.pack_reader.ensures ∙ sym (ap (λ (q : Reply Reader). state_of q a.state.now) e); store_after = c.set_up_tolerant.ensures.kept }
 
-pub returns-in-Refused : goal.returns-in-Refused
-returns-in-Refused c =
+pub returns-in-Err : goal.returns-in-Err
+returns-in-Err c =
     let a = c.args in
     let e : tolerating a.width a.height a.levels (length a.store.now) ≡ _ =
-    sym c.set_up_tolerant.ensures.answer ∙ ap of_set_up c.in-Refused.is in
-    record { value = sym (ap number e); state_after = sym (ap (λ (q : Reply Reader). state_of q a.state.now) e); store_after = c.set_up_tolerant.ensures.kept }
+    sym c.set_up_tolerant.ensures.answer ∙ ap of_set_up c.in-Err.is in
+    record { value = c.number.ensures ∙ sym (ap number e); state_after = sym (ap (λ (q : Reply Reader). state_of q a.state.now) e); store_after = c.set_up_tolerant.ensures.kept }
