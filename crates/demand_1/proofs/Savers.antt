@@ -20,7 +20,7 @@ use Rattle.filters.specs.Filters.{filter_of, is_filter}
 use Rattle.filters.proofs.PlainFigures.{known-exactly, levels-exactly}
 use Rattle.rounding.specs.Plain.{StepWithin}
 use Rattle.ground_file.specs.declared.saver.Saver.{Saver}
-use Rattle.ground_file.specs.declared.saver.Saved.{Saved}
+use Rattle.ground_file.specs.Saving.{Saved}
 use Rattle.ground_file.specs.Saving.{max_step, plain, row_of, row_number, set_up_number, saver_fits, save_number, Saves}
 use Rattle.ground_file.specs.Header.{shape_in, step_in, is_header, roundable, header_number}
 use Rattle.ground_file.proofs.SaverAsks.{save-one, save-five, save-none}

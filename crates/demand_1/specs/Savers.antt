@@ -6,7 +6,7 @@ use Rattle.wavelet.specs.declared.shape.Shape.{Shape}
 use Rattle.wavelet.specs.Asks.{Asks, Passes, ShapeAsks}
 use Rattle.rounding.specs.Plain.{StepWithin}
 use Rattle.ground_file.specs.declared.saver.Saver.{Saver}
-use Rattle.ground_file.specs.declared.saver.Saved.{Saved}
+use Rattle.ground_file.specs.Saving.{Saved}
 use Rattle.ground_file.specs.Saving.{row_of, row_number, set_up_number, saver_fits, fresh, Saves}
 use Rattle.ground_file.specs.Header.{shape_in, step_in, is_header, roundable, header_number, header_in}
 use Rattle.states.specs.SaverState.{is_saver, saver_words}

@@ -17,7 +17,7 @@ use Rattle.writer.specs.History as writer
 use Rattle.writer.specs.History.{DrawnRow}
 use Rattle.round_trip.specs.RoundTrip.{wrote, rows_wrote}
 use Rattle.ground_file.specs.declared.saver.Saver.{Saver}
-use Rattle.ground_file.specs.declared.saver.Saved.{Saved}
+use Rattle.ground_file.specs.Saving.{Saved}
 use Rattle.ground_file.specs.Maps.{map_file}
 use Rattle.ground_file.specs.Saving.{set_up_number, fresh, Saves, SavesOn, Calls}
 use Rattle.ground_loader.specs.Loader.{set_up_question, store_needs, fresh_world}

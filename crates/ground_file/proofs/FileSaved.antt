@@ -39,7 +39,7 @@ use Rattle.reader_order.specs.Order.{nowhere, shape_fits, place_fits, first_plac
 use Rattle.reader_order.proofs.OrderLaws.{place-in}
 use Rattle.reader_order.proofs.OrderTheorem.{Order, order}
 use Rattle.ground_file.specs.declared.saver.Saver.{Saver}
-use Rattle.ground_file.specs.declared.saver.Saved.{Saved}
+use Rattle.ground_file.specs.Saving.{Saved}
 use Rattle.ground_file.specs.Groups.{zigzag, bytes_of, group_of, groups_of, row_bytes}
 use Rattle.ground_file.specs.File.{header_of, stored, listed, numbers_of, rows_bytes, wanted, body_of, as_number, prime, file_of, Fits}
 use Rattle.ground_file.specs.Values.{kept, is_multiple}
@@ -50,7 +50,7 @@ use Rattle.ground_file.proofs.Digits.{bytes-length}
 use Rattle.ground_file.proofs.FileLaws.{listed-length, listed_same, same-is, times-first, wanted-kept, kept-wanted}
 use Rattle.ground_file.proofs.MapFiles.{by_one, range_small}
 use Rattle.ground_file.proofs.ValueLaws.{kept-is, kept_small, multiple-of, number_append, number-rest, is-multiple}
-use Rattle.ground_file.proofs.SaverLaws.{start-in, piece-head, piece-group, piece-sum, moved-part, moved-whole, on-head, on-group, on-sum}
+use Rattle.ground_file.proofs.SaverLaws.{start-in, piece-head, piece-group, piece-sum, moved-part, moved-whole, on-head, on-group, on-sum, nothing_written}
 use Rattle.ground_file.proofs.SaverLaws.{group-more, group-last, stop-row, multiple-one, number-none, first-phase}
 use Rattle.ground_file.proofs.SaverAsks.{Passed, passed, filter-few}
 
@@ -658,14 +658,6 @@ pub calls-free : (sh : Shape) (q : ℕ) → set_up_number sh q ≡ 0 → (p : Li
 calls-free sh q ok p long can b s w = went-free sh q ok p long can b s (calls-went b s w)
 
 -- a call with room for a byte writes one, unless the file is over or the row that is to be begun is turned away
-some-length : (m : ℕ) (l : List ℕ) → 0 < m → m ≤ length l → 0 < length (take m l)
-some-length m l h n = omega (arith, length-take m l)
-
-pub nothing_written : {p : List ℤ} {s : Saver} (b : List ℕ) (s' : Saver) → Went p s b s' → length b ≡ 0 → s' ≡ s
-nothing_written _ _ here e = refl
-nothing_written {p} _ _ (on {b = b} {s = v} m x ph free some n) e =
-    absurd (omega (arith, length-append b (take m (rest_of v (row_of v p))), some-length m (rest_of v (row_of v p)) some n, e))
-
 pub goes-forward : (s : Saver) (p : List ℤ) (before after : List ℕ) (r : Saved) → Saves s p before after r → save_number s (length p) ≡ 0 → 0 < length before →
     s.phase < 3 → row_number s (row_of s p) ≡ 0 → 0 < r.written
 goes-forward s p before after r v ok room ph free = elim (dec_lt 0 r.written) [ yes h ↦ h | no h ↦ absurd (none_left (omega (arith, h))) ]

@@ -14,9 +14,18 @@ use Rattle.wavelet.specs.declared.shape.Shape.{Shape}
 use Rattle.ground_file.specs.Groups.{digits}
 use Rattle.ground_file.specs.Saving.{set_up_number}
 use Rattle.ground_file.specs.Header.{number_in, shape_in, step_in, is_header, roundable, header_number}
-use Rattle.ground_file.proofs.WidthLaws.{part-back}
+use Rattle.ground_file.proofs.WidthLaws.{drop-first}
 
 -- ---- a number's bytes, from the last on
+-- the n numbers from `from` on, from the one before number i on
+part-back : (l : List ℕ) (from n i : ℕ) → from + n ≤ length l → i ≤ n → 0 < i
+    → take (n - (i - 1)) (drop (from + (i - 1)) l) ≡ get_or l (from + (i - 1)) 0 ∷ take (n - i) (drop (from + i) l)
+part-back l from n i there some h =
+    let e : n - (i - 1) ≡ suc (n - i) = omega arith in
+    let f : from + (i - 1) + 1 ≡ from + i = omega arith in
+    rw e (ap (take (suc (n - i))) (drop-first l (from + (i - 1)) (omega arith))
+    ∙ ap (λ k. get_or l (from + (i - 1)) 0 ∷ take (n - i) (drop k l)) f)
+
 pub record Reading (bytes : List ℕ) (from n r i : ℕ) : Type 0 where
   pub there : from + n ≤ length bytes
   pub few : n ≤ 8
@@ -128,6 +137,3 @@ shape-made b p q r s t u = λ i. record { width = p i; height = q i; levels = r 
 pub step_is : (b : List ℕ) (q : ℕ) → q ≡ number_in b 11 1 → q ≡ step_in b
 unfolding step_in
 step_is b q e = e
-
-pub header-kept : (q : ℕ) (a b : List ℕ) → (q ≡ 0 → ⊥) → b ≡ pick (eqb q 0) a b
-header-kept q a b e = rw (ne_eqb q 0 e) refl

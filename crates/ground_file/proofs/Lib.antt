@@ -1,3 +1,4 @@
+pub mod AnswerLaws
 pub mod Digits
 pub mod GroupLaws
 pub mod FileLaws
@@ -17,4 +18,3 @@ pub mod HeaderLaws
 pub mod HeaderTheorems
 pub mod SumLaws
 pub mod MapSaved
-mod Clauses

@@ -29,45 +29,43 @@ bytes-append (suc j) k n =
     shr-shr n 8 (8 * j) ∙ ap (λ i. n / 2 ^ i) (omega (arith, mul-suc 8 j)) in
     ap (λ i. bytes_of i n) e ∙ ap (λ l. (n % 256) ∷ l) (bytes-append j k (n / 256) ∙ ap (λ i. bytes_of j (n / 256) ++ bytes_of k i) f)
 
--- ---- flush: `done` bytes are written
-pub record Flushed (l₀ c₀ a₀ : ℕ) (before out : List ℕ) (low count at : ℕ) : Type 0 where
-  pub done : ℕ
-  pub bits : count + 8 * done ≡ c₀
-  pub rest : low ≡ l₀ / 2 ^ (8 * done)
-  pub room : a₀ + c₀ / 8 ≤ length before
-  pub wrote : Wrote (bytes_of done l₀) a₀ at before out
+-- ---- flush: the bytes from place a₀ to `at` are written, of n
+pub record Flushed (l₀ n a₀ : ℕ) (before out : List ℕ) (low at : ℕ) : Type 0 where
+  pub from : a₀ ≤ at
+  pub rest : low ≡ l₀ / 2 ^ (8 * (at - a₀))
+  pub room : a₀ + n ≤ length before
+  pub wrote : Wrote (bytes_of (at - a₀) l₀) a₀ at before out
 
-pub flush-start : (l c a : ℕ) (o : List ℕ) → a + c / 8 ≤ length o → Flushed l c a o o l c a
+pub flush-start : (l n a : ℕ) (o : List ℕ) → a + n ≤ length o → Flushed l n a o o l a
 unfolding bytes_of
-flush-start l c a o h = record { done = 0; bits = omega arith; rest = sym (div-one l); room = h; wrote = wrote_none a o (omega arith) }
+flush-start l n a o h =
+    let e : a - a ≡ 0 = omega arith in
+    record { from = omega arith; rest = rw e (sym (div-one l)); room = h; wrote = rw e (wrote_none a o (omega arith)) }
 
-module _ {l₀ c₀ a₀ : ℕ} {before out : List ℕ} {low count at : ℕ} (f : Flushed l₀ c₀ a₀ before out low count at) where
-  -- the bytes written so far, and the place after them
-  at-is : at ≡ a₀ + f.done
-  at-is = f.wrote.place ∙ ap (λ n. a₀ + n) (bytes-length f.done l₀)
+module _ {l₀ n a₀ : ℕ} {before out : List ℕ} {low at : ℕ} (f : Flushed l₀ n a₀ before out low at) where
+  pub flush-place : at < a₀ + n → at < length out
+  flush-place h = omega (arith, f.room, wrote-size f.wrote)
 
-  pub flush-place : 8 ≤ count → at < length out
-  flush-place h = omega (arith, at-is, f.bits, f.room, wrote-size f.wrote)
-
-  pub flush-next : 8 ≤ count → Flushed l₀ c₀ a₀ before (set out at (low % 256)) (low / 256) (count - 8) (at + 1)
+  pub flush-next : at < a₀ + n → Flushed l₀ n a₀ before (set out at (low % 256)) (low / 256) (at + 1)
   flush-next h =
-      let more : bytes_of f.done l₀ ++ ((low % 256) ∷ []) ≡ bytes_of (f.done + 1) l₀ =
-      ap (λ v. bytes_of f.done l₀ ++ ((v % 256) ∷ [])) f.rest
-      ∙ ap (λ l. bytes_of f.done l₀ ++ l) (sym (bytes_one (l₀ / 2 ^ (8 * f.done)))) ∙ sym (bytes-append f.done 1 l₀) in
-      let bits' : 8 * (f.done + 1) ≡ 8 * f.done + 8 = omega arith in
+      let done = at - a₀ in
+      let next : at + 1 - a₀ ≡ done + 1 = omega (arith, f.from) in
+      let more : bytes_of done l₀ ++ ((low % 256) ∷ []) ≡ bytes_of (at + 1 - a₀) l₀ =
+      ap (λ v. bytes_of done l₀ ++ ((v % 256) ∷ [])) f.rest
+      ∙ ap (λ l. bytes_of done l₀ ++ l) (sym (bytes_one (l₀ / 2 ^ (8 * done)))) ∙ sym (bytes-append done 1 l₀) ∙ ap (λ k. bytes_of k l₀) (sym next) in
+      let bits' : 8 * (at + 1 - a₀) ≡ 8 * done + 8 = omega (arith, next) in
       record {
-        done = f.done + 1;
-        bits = omega (arith, f.bits);
-        rest = ap (λ v. v / 256) f.rest ∙ shr-shr l₀ (8 * f.done) 8 ∙ ap (λ i. l₀ / 2 ^ i) (sym bits');
+        from = omega (arith, f.from);
+        rest = ap (λ v. v / 256) f.rest ∙ shr-shr l₀ (8 * done) 8 ∙ ap (λ i. l₀ / 2 ^ i) (sym bits');
         room = f.room;
         wrote = subst (λ l. Wrote l a₀ (at + 1) before (set out at (low % 256))) more
             (wrote_on f.wrote (wrote-byte (low % 256) out at (flush-place h)));
       }
 
-  pub flush-end : count < 8 → Wrote (bytes_of (c₀ / 8) l₀) a₀ at before out × ((low ≡ l₀ / 2 ^ (8 * (c₀ / 8))) × (count ≡ c₀ % 8))
+  pub flush-end : at ≡ a₀ + n → Wrote (bytes_of n l₀) a₀ at before out × (low ≡ l₀ / 2 ^ (8 * n))
   flush-end h =
-      let e : f.done ≡ c₀ / 8 = omega (arith, f.bits) in
-      (subst (λ k. Wrote (bytes_of k l₀) a₀ at before out) e f.wrote, (f.rest ∙ ap (λ k. l₀ / 2 ^ (8 * k)) e, omega (arith, f.bits)))
+      let e : at - a₀ ≡ n = omega arith in
+      (subst (λ k. Wrote (bytes_of k l₀) a₀ at before out) e f.wrote, f.rest ∙ ap (λ k. l₀ / 2 ^ (8 * k)) e)
 
 -- ---- the low bits of a number
 -- whole bytes of it do not depend on what stands above
@@ -174,80 +172,54 @@ module _ {w a₀ : ℕ} {l before out : List ℕ} {low count at i : ℕ} (p : Pa
       subst (λ t. Wrote t a₀ at' before out') text (wrote_on p.wrote wr)
 
 -- ---- the loop's invariant: what stays, and what is put
-pub record Puts (numbers : List ℕ) (from n w at : ℕ) (before out : List ℕ) (low count place i : ℕ) : Type 0 where
-  pub there : from + n ≤ length numbers
+pub record Puts (l : List ℕ) (w at : ℕ) (before out : List ℕ) (low count place i : ℕ) : Type 0 where
   pub narrow : w ≤ 28
-  pub eight : n ≤ 8
-  pub held : holds w (take n (drop from numbers)) ≡ true
-  pub room : at + (w * n + 7) / 8 ≤ length before
-  pub short : length numbers < 2 ^ 61
-  pub memory : length before < 2 ^ 63
-  pub packed : Packed w (take n (drop from numbers)) at before out low count place i
+  pub held : holds w l ≡ true
+  pub room : at + (w * length l + 7) / 8 ≤ length before
+  pub packed : Packed w l at before out low count place i
 
-module _ {numbers before out : List ℕ} {from n w at low count place i : ℕ} (p : Puts numbers from n w at before out low count place i) where
-  pub size : length (take n (drop from numbers)) ≡ n
-  size = length-take n (drop from numbers) ∙ ap (min n) (length-drop from numbers) ∙ omega (arith, p.there)
-
+module _ {l before out : List ℕ} {w at low count place i : ℕ} (p : Puts l w at before out low count place i) where
   -- the bits so far, and those of one number more, have room
-  bits-room : i ≤ n → count + 8 * p.packed.done ≤ w * n
+  bits-room : i ≤ length l → count + 8 * p.packed.done ≤ w * length l
   bits-room h = omega (arith, p.packed.bits, mul-le-mul_left w h)
 
   pub placed : place ≡ at + p.packed.done
-  placed = p.packed.wrote.place ∙ ap (λ k. at + k) (bytes-length p.packed.done (digits (2 ^ w) (take n (drop from numbers))))
+  placed = p.packed.wrote.place ∙ ap (λ k. at + k) (bytes-length p.packed.done (digits (2 ^ w) l))
 
   pub last-room : place + (count + 7) / 8 ≤ length out
-  last-room = omega (arith, placed, p.room, bits-room (omega (arith, p.packed.some, size)), wrote-size p.packed.wrote)
+  last-room = omega (arith, placed, p.room, bits-room p.packed.some, wrote-size p.packed.wrote)
 
-  pub next-room : i < n → place + (count + w) / 8 ≤ length out
+  pub next-room : i < length l → place + (count + w) / 8 ≤ length out
   next-room h = omega (arith, placed, p.room, p.packed.bits, mul-add w i 1, mul-one w, mul-le-mul_left w (step h), wrote-size p.packed.wrote)
     where
-      step : i < n → i + 1 ≤ n
+      step : i < length l → i + 1 ≤ length l
       step h = omega arith
 
-  module _ (h : i < n) (x : ℕ) (is : x ≡ get_or numbers (from + i) 0) where
-    here : x ≡ get_or (take n (drop from numbers)) i 0
-    here = is ∙ sym (get_or-drop from numbers i 0) ∙ sym (get_or-take n (drop from numbers) i 0 h)
-
+  module _ (h : i < length l) (x : ℕ) (is : x ≡ get_or l i 0) where
     pub fits : x < 2 ^ w
-    fits = rw here (below_at (2 ^ w) _ i (holds-below w _ p.held) (omega (arith, size)))
+    fits = rw is (below_at (2 ^ w) _ i (holds-below w _ p.held) h)
 
     -- the sum of the bits does not wrap, and neither does the shift
     pub sum-small : low + x * 2 ^ count < 2 ^ 36
-    sum-small =
-        lt_of_lt_of_le (one-small p.packed x (omega (arith, size)) here fits) (pow_mono {j = 36} (omega (arith, p.narrow, p.packed.few)))
+    sum-small = lt_of_lt_of_le (one-small p.packed x h is fits) (pow_mono {j = 36} (omega (arith, p.narrow, p.packed.few)))
 
     -- v is what the code has for the bits with one number more
     pub puts-next : {out' : List ℕ} {v low' count' place' : ℕ} → v ≡ low + x * 2 ^ count → Wrote (bytes_of ((count + w) / 8) v) place place' out out'
-        → low' ≡ v / 2 ^ (8 * ((count + w) / 8)) → count' ≡ (count + w) % 8 → Puts numbers from n w at before out' low' count' place' (i + 1)
+        → low' ≡ v / 2 ^ (8 * ((count + w) / 8)) → count' ≡ (count + w) % 8 → Puts l w at before out' low' count' place' (i + 1)
     puts-next {out'} {v} {low'} {count'} {place'} e wr el ec =
         record {
-          there = p.there;
           narrow = p.narrow;
-          eight = p.eight;
           held = p.held;
           room = p.room;
-          short = p.short;
-          memory = p.memory;
           packed =
-              pack-next p.packed x (omega (arith, size)) here fits (subst (λ u. Wrote (bytes_of ((count + w) / 8) u) place place' out out') e wr)
+              pack-next p.packed x h is fits (subst (λ u. Wrote (bytes_of ((count + w) / 8) u) place place' out out') e wr)
               (el ∙ ap (λ u. u / 2 ^ (8 * ((count + w) / 8))) e) ec;
         }
 
-pub puts-start : {numbers out : List ℕ} {from n w at : ℕ}
-    → (from + n ≤ length numbers) × (w ≤ 28) × (n ≤ 8) × (holds w (take n (drop from numbers)) ≡ true) × (at + (w * n + 7) / 8 ≤ length out)
-    → length numbers < 2 ^ 61 → length out < 2 ^ 63 → Puts numbers from n w at out out 0 0 at 0
-puts-start h s m =
-    record {
-      there = h.0;
-      narrow = h.1;
-      eight = h.2;
-      held = h.3;
-      room = h.4;
-      short = s;
-      memory = m;
-      packed = pack-start _ _ _ _ (omega (arith, h.4));
-    }
+pub puts-start : {l out : List ℕ} {w at : ℕ} → (w ≤ 28) × (length l ≤ 8) × (holds w l ≡ true) × (at + (w * length l + 7) / 8 ≤ length out)
+    → Puts l w at out out 0 0 at 0
+puts-start h = record { narrow = h.0; held = h.2; room = h.3; packed = pack-start _ _ _ _ (omega (arith, h.3)) }
 
-pub puts-end : {numbers before out out' : List ℕ} {from n w at low count place i place' : ℕ} → Puts numbers from n w at before out low count place i → n ≤ i
-    → Wrote (bytes_of ((count + 7) / 8) low) place place' out out' → Wrote (part_of w (take n (drop from numbers))) at place' before out'
-puts-end p h wr = pack-end p.packed (omega (arith, p.packed.some, size p)) wr
+pub puts-end : {l before out out' : List ℕ} {w at low count place i place' : ℕ} → Puts l w at before out low count place i → length l ≤ i
+    → Wrote (bytes_of ((count + 7) / 8) low) place place' out out' → Wrote (part_of w l) at place' before out'
+puts-end p h wr = pack-end p.packed (omega (arith, p.packed.some)) wr

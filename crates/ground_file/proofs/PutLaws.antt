@@ -7,8 +7,8 @@ use Prim.Native.Nat.{ℕ, zero, suc, ◌+◌, ◌*◌, ◌-◌, ◌/◌, ◌^◌
 use native.Mathlib.Nat.{mul-le-mul_left}
 use native.Mathlib.Omega.{arith}
 use native.Mathlib.Decide.{dec_lt}
-use lib.ListN.{length, take, drop, set, length-set, length-take}
-use lib.Seq.{take-take, take_all}
+use lib.ListN.{length, take, drop, set, length-set, length-take, length-drop}
+use lib.Seq.{take_all}
 use borrow.Author.Tests.{lt-ltb}
 use Rattle.text.specs.Text.{Wrote}
 use Rattle.text.proofs.TextLaws.{wrote_on, wrote-byte, wrote-size}
@@ -53,30 +53,20 @@ drop_past zero (x ∷ m) h = absurd (omega arith)
 drop_past (suc i) [] h = refl
 drop_past (suc i) (x ∷ m) h = drop_past i m (omega arith)
 
-take_none : (i : ℕ) → ◌≡◌ {A = List ℕ} (take i []) []
-take_none zero = refl
-take_none (suc i) = refl
-
-drop-take : (i n : ℕ) (m : List ℕ) → drop i (take n m) ≡ take (n - i) (drop i m)
-drop-take zero n m = let e : n - 0 ≡ n = omega arith in rw e refl
-drop-take (suc i) zero m = let e : 0 - suc i ≡ 0 = omega arith in rw e refl
-drop-take (suc i) (suc n) [] = sym (take_none (suc n - suc i))
-drop-take (suc i) (suc n) (x ∷ m) = let e : suc n - suc i ≡ n - i = omega arith in rw e (drop-take i n m)
-
--- ---- the two parts of the first n numbers, k of them in the first
-module _ (l : List ℕ) (n k : ℕ) (is : k ≡ min 8 n) (g : n ≤ length l) where
-  pub first-is : take k (drop 0 l) ≡ take 8 (take n l)
+-- ---- the two parts of a list, k numbers in the first
+module _ (l : List ℕ) (k : ℕ) (is : k ≡ min (length l) 8) where
+  pub first-is : take k l ≡ take 8 l
   first-is =
-      elim (dec_lt n 8) [
-        | yes p ↦ let e : k ≡ n = omega arith in ap (λ i. take i l) e ∙ sym (take_all 8 (take n l) (omega (arith, length-take n l)))
-        | no p ↦ let e : k ≡ 8 = omega arith in ap (λ i. take i l) e ∙ sym (take-take 8 n l (omega arith))
+      elim (dec_lt (length l) 8) [
+        | yes p ↦ let e : k ≡ length l = omega arith in ap (λ i. take i l) e ∙ take_all (length l) l (omega arith) ∙ sym (take_all 8 l (omega arith))
+        | no p ↦ let e : k ≡ 8 = omega arith in ap (λ i. take i l) e
       ]
 
-  pub second_is : take (n - k) (drop k l) ≡ drop 8 (take n l)
-  second_is =
-      elim (dec_lt n 8) [
-        | yes p ↦ let e : n - k ≡ 0 = omega arith in ap (λ i. take i (drop k l)) e ∙ sym (drop_past 8 (take n l) (omega (arith, length-take n l)))
-        | no p ↦ let e : k ≡ 8 = omega arith in ap (λ i. take (n - i) (drop i l)) e ∙ sym (drop-take 8 n l)
+  pub second_is : take (length l - k) (drop k l) ≡ drop 8 l
+  second_is = take_all (length l - k) (drop k l) (omega (arith, length-drop k l)) ∙
+      elim (dec_lt (length l) 8) [
+        | yes p ↦ let e : k ≡ length l = omega arith in ap (λ i. drop i l) e ∙ drop_past (length l) l (omega arith) ∙ sym (drop_past 8 l (omega arith))
+        | no p ↦ let e : k ≡ 8 = omega arith in ap (λ i. drop i l) e
       ]
 
 -- ---- the byte and the two parts
@@ -91,56 +81,56 @@ group-wrote l {c} {d} {w} {v} {at} {p} {r} {o} {o'} {o''} a b h x y =
     subst (λ t. Wrote t at r o o'') text (wrote_on byte (wrote_on x y))
 
 -- ---- what the call needs, over plain variables: m, c and w are what was found of a part
-module _ (l : List ℕ) (n k : ℕ) (is : k ≡ min 8 n) (most : n ≤ 16) (g : n ≤ length l) (held : holds 28 (take n l) ≡ true) where
-  all-below : Below (2 ^ 28) (take n l)
-  all-below = holds-below 28 (take n l) held
+module _ (l : List ℕ) (k : ℕ) (is : k ≡ min (length l) 8) (most : length l ≤ 16) (held : holds 28 l ≡ true) where
+  all-below : Below (2 ^ 28) l
+  all-below = holds-below 28 l held
 
-  pub low-part : {m c w : ℕ} → m ≡ largest_of (take k (drop 0 l)) → c ≡ code_of (m ∷ []) → w ≡ width_of c → Part (take 8 (take n l)) c w
-  low-part em ec ew = part-of (take 8 (take n l)) (below-take (2 ^ 28) 8 (take n l) all-below) (em ∙ ap largest_of (first-is l n k is g)) ec ew
+  pub low-part : {m c w : ℕ} → m ≡ largest_of (take k l) → c ≡ code_of (m ∷ []) → w ≡ width_of c → Part (take 8 l) c w
+  low-part em ec ew = part-of (take 8 l) (below-take (2 ^ 28) 8 l all-below) (em ∙ ap largest_of (first-is l k is)) ec ew
 
-  pub high-part : {m c w : ℕ} → m ≡ largest_of (take (n - k) (drop k l)) → c ≡ code_of (m ∷ []) → w ≡ width_of c → Part (drop 8 (take n l)) c w
-  high-part em ec ew = part-of (drop 8 (take n l)) (below-drop (2 ^ 28) 8 (take n l) all-below) (em ∙ ap largest_of (second_is l n k is g)) ec ew
-
-  pub codes-fit : {c d w v : ℕ} → Part (take 8 (take n l)) c w → Part (drop 8 (take n l)) d v → c + 16 * d < 256
-  codes-fit a b = omega (arith, a.few, b.few)
+  pub high-part : {m c w : ℕ} → m ≡ largest_of (take (length l - k) (drop k l)) → c ≡ code_of (m ∷ []) → w ≡ width_of c → Part (drop 8 l) c w
+  high-part em ec ew = part-of (drop 8 l) (below-drop (2 ^ 28) 8 l all-below) (em ∙ ap largest_of (second_is l k is)) ec ew
 
   -- a part of at most eight numbers takes at most 28 bytes
   part_room : (w i : ℕ) → w ≤ 28 → i ≤ 8 → (w * i + 7) / 8 ≤ 28
   part_room w i p q = omega (arith, mul-le-mul_left w q)
 
-  pub low-asks : {c w : ℕ} (at u : ℕ) (o : List ℕ) → Part (take 8 (take n l)) c w → at + 57 ≤ length o
-      → (0 + k ≤ length l) × (w ≤ 28) × (k ≤ 8) × (holds w (take k (drop 0 l)) ≡ true) × ((at + 1) + (w * k + 7) / 8 ≤ length (set o at u))
+  first-size : length (take k l) ≤ 8
+  first-size = omega (arith, length-take k l, is)
+
+  second-size : length (take (length l - k) (drop k l)) ≤ 8
+  second-size = omega (arith, length-take (length l - k) (drop k l), length-drop k l, is, most)
+
+  pub low-asks : {c w : ℕ} (at u : ℕ) (o : List ℕ) → Part (take 8 l) c w → at + 57 ≤ length o
+      → (w ≤ 28) × (length (take k l) ≤ 8) × (holds w (take k l) ≡ true) × ((at + 1) + (w * length (take k l) + 7) / 8 ≤ length (set o at u))
   low-asks {c} {w} at u o a h = (
-    omega arith,
     a.narrow,
-    omega arith,
-    ap (holds w) (first-is l n k is g) ∙ a.held,
-    omega (arith, part_room w k a.narrow (omega arith), length-set o at u),
+    first-size,
+    ap (holds w) (first-is l k is) ∙ a.held,
+    omega (arith, part_room w (length (take k l)) a.narrow first-size, length-set o at u),
   )
 
-  pub high-asks : {c d w v p : ℕ} (at u : ℕ) (o : List ℕ) {o' : List ℕ} → Part (take 8 (take n l)) c w → Part (drop 8 (take n l)) d v → at + 57 ≤ length o
-      → Wrote (part_of w (take k (drop 0 l))) (at + 1) p (set o at u) o'
-      → (k + (n - k) ≤ length l) × (v ≤ 28) × (n - k ≤ 8) × (holds v (take (n - k) (drop k l)) ≡ true) × (p + (v * (n - k) + 7) / 8 ≤ length o')
-  high-asks {c} {d} {w} {v} {p} at u o a b h x =
-      let size : length (take k (drop 0 l)) ≤ 8 = omega (arith, length-take k l, is) in (
-        omega arith,
-        b.narrow,
-        omega arith,
-        ap (holds v) (second_is l n k is g) ∙ b.held,
-        omega (
-          arith,
-          x.place,
-          part_length w (take k (drop 0 l)),
-          part_room w (length (take k (drop 0 l))) a.narrow size,
-          part_room v (n - k) b.narrow (omega arith),
-          wrote-size x,
-          length-set o at u,
-        ),
-      )
+  pub high-asks : {c d w v p : ℕ} (at u : ℕ) (o : List ℕ) {o' : List ℕ} → Part (take 8 l) c w → Part (drop 8 l) d v → at + 57 ≤ length o
+      → Wrote (part_of w (take k l)) (at + 1) p (set o at u) o'
+      → (v ≤ 28) × (length (take (length l - k) (drop k l)) ≤ 8) × (holds v (take (length l - k) (drop k l)) ≡ true) × (p + (v * length (take (length l - k) (drop k l)) + 7) / 8 ≤ length o')
+  high-asks {c} {d} {w} {v} {p} at u o a b h x = (
+    b.narrow,
+    second-size,
+    ap (holds v) (second_is l k is) ∙ b.held,
+    omega (
+      arith,
+      x.place,
+      part_length w (take k l),
+      part_room w (length (take k l)) a.narrow first-size,
+      part_room v (length (take (length l - k) (drop k l))) b.narrow second-size,
+      wrote-size x,
+      length-set o at u,
+    ),
+  )
 
-  pub all-wrote : {c d w v at p r : ℕ} {o o' o'' : List ℕ} → Part (take 8 (take n l)) c w → Part (drop 8 (take n l)) d v → at < length o
-      → Wrote (part_of w (take k (drop 0 l))) (at + 1) p (set o at (c + 16 * d)) o' → Wrote (part_of v (take (n - k) (drop k l))) p r o' o''
-      → Wrote (group_of (take n l)) at r o o''
+  pub all-wrote : {c d w v at p r : ℕ} {o o' o'' : List ℕ} → Part (take 8 l) c w → Part (drop 8 l) d v → at < length o
+      → Wrote (part_of w (take k l)) (at + 1) p (set o at (c + 16 * d)) o' → Wrote (part_of v (take (length l - k) (drop k l))) p r o' o''
+      → Wrote (group_of l) at r o o''
   all-wrote {c} {d} {w} {v} {at} {p} {r} {o} {o'} {o''} a b h x y =
-      group-wrote (take n l) a b h (subst (λ q. Wrote (part_of w q) (at + 1) p (set o at (c + 16 * d)) o') (first-is l n k is g) x)
-      (subst (λ q. Wrote (part_of v q) p r o' o'') (second_is l n k is g) y)
+      group-wrote l a b h (subst (λ q. Wrote (part_of w q) (at + 1) p (set o at (c + 16 * d)) o') (first-is l k is) x)
+      (subst (λ q. Wrote (part_of v q) p r o' o'') (second_is l k is) y)

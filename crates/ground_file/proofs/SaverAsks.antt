@@ -19,9 +19,13 @@ use Rattle.wavelet.proofs.QuestionLaws.{within-true}
 use Rattle.filters.specs.Filters.{filter_of, is_filter}
 use Rattle.filters.proofs.FigureLaws.{levels-most}
 use Rattle.ground_file.specs.declared.saver.Saver.{Saver}
-use Rattle.ground_file.specs.declared.saver.Saved.{Saved}
+use Rattle.ground_file.specs.Saving.{Saved}
 use Rattle.ground_file.specs.File.{prime}
-use Rattle.ground_file.specs.Saving.{max_step, plain, set_up_number, saver_fits, save_number, Inside, Ran, Saves}
+use Rattle.std.proofs.Common.{Err}
+use Rattle.refusal.specs.declared.Refusal.{Refusal}
+use Rattle.refusal.specs.Numbers.{number}
+use Rattle.ground_file.proofs.AnswerLaws.{number-above}
+use Rattle.ground_file.specs.Saving.{of_saved, max_step, plain, set_up_number, saver_fits, save_number, Inside, Ran, Saves}
 
 -- a question that is passed, and one that is not
 pub ask-passed : (t : Bool) (n r : ℕ) → 0 < n → pick t r n ≡ 0 → (t ≡ true) × (r ≡ 0)
@@ -210,9 +214,8 @@ module _ (s : Saver) where
       omega arith
 
 -- ---- what a call gives
-pub saves-not : (s : Saver) (p : List ℤ) (o : List ℕ) (n x : ℕ) → n ≡ save_number s (length p) → (n ≡ 0 → ⊥) → x ≡ n →
-    Saves s p o o (record { answer = x; written = 0; saver = s })
-saves-not s p o n x e z f = record { refused = λ h. (f ∙ e, refl, refl, refl); done = λ h. absurd (z (e ∙ h)) }
+pub saves-not : (s : Saver) (p : List ℤ) (o : List ℕ) (why : Refusal) → number why ≡ save_number s (length p) → Saves s p o o (of_saved s (Err why))
+saves-not s p o why e = record { refused = λ h. (e, refl, refl, refl); done = λ h. absurd (omega (arith, number-above why, e)) }
 
 pub saves-ran : (s : Saver) (p : List ℤ) (o a : List ℕ) (n : ℕ) (r : Saved) → n ≡ save_number s (length p) → n ≡ 0 → Ran s p o a r → Saves s p o a r
 saves-ran s p o a n r e z w = record { refused = λ h. absurd (omega (arith, e, z)); done = λ h. w }

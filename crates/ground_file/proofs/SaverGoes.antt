@@ -13,7 +13,7 @@ use Rattle.numbers.specs.Signal.{at, pick, both}
 use Rattle.wavelet.specs.declared.shape.Shape.{Shape}
 use Rattle.reader_order.specs.Order.{first_place, next_place}
 use Rattle.ground_file.specs.declared.saver.Saver.{Saver}
-use Rattle.ground_file.specs.declared.saver.Saved.{Saved}
+use Rattle.ground_file.specs.Saving.{Saved}
 use Rattle.ground_file.specs.File.{prime, as_number}
 use Rattle.ground_file.specs.Saving.{saver_at, at_row, onward, partly, piece_of, from_of, moved, row_of, set_up_number, save_number}
 use Rattle.ground_file.specs.Saving.{fresh, Saves, Savable, SavesOn, Went, here, on, Calls}

@@ -22,7 +22,7 @@ use Rattle.wavelet.proofs.BandPlaces.{columns-in}
 use Rattle.reader_order.specs.declared.Place.{Place}
 use Rattle.reader_order.specs.Order.{first_place, next_place, row_at}
 use Rattle.ground_file.specs.declared.saver.Saver.{Saver}
-use Rattle.ground_file.specs.declared.saver.Saved.{Saved}
+use Rattle.ground_file.specs.Saving.{Saved}
 use Rattle.ground_file.specs.Groups.{width_of, code_of, bytes_of, part_of, group_of}
 use Rattle.ground_file.specs.File.{header_of, listed, as_number, prime}
 use Rattle.ground_file.specs.Values.{kept}
@@ -33,9 +33,9 @@ use Rattle.ground_file.proofs.FileLaws.{listed-length, listed_below}
 use Rattle.ground_file.proofs.GroupLaws.{code-small, part_length, below-take, below-drop}
 use Rattle.ground_file.proofs.PutLaws.{width-most}
 use Rattle.ground_file.proofs.ValueLaws.{kept_small}
-use Rattle.ground_file.proofs.SaverLaws.{remains, prime-some, stop-full, stop-over, stop-row}
+use Rattle.ground_file.proofs.SaverLaws.{remains, prime-some, stop-full, stop-over, stop-row, nothing_written}
 use Rattle.ground_file.proofs.SaverAsks.{passed}
-use Rattle.ground_file.proofs.FileSaved.{drop-0, nothing_written, goes-forward}
+use Rattle.ground_file.proofs.FileSaved.{drop-0, goes-forward}
 
 -- ---- no piece is longer than 57 bytes
 part-few : (l : List ℕ) → Below (2 ^ 28) l → length l ≤ 8 → length (part_of (width_of (code_of l)) l) ≤ 28

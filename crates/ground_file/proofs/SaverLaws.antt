@@ -4,10 +4,11 @@ use mathlib.Core.Bool.{Bool, true, false, ◌&&◌}
 use mathlib.Core.List.{List, [], ◌∷◌}
 use Prim.Native.Nat.{ℕ, ◌+◌, ◌-◌, ◌*◌, ◌%◌, ◌^◌, ◌≤◌, ◌<◌, min}
 use native.Mathlib.Omega.{arith}
+use native.Mathlib.Decide.{dec_lt}
 use lib.IntN.{ℤ, pos, ◌-ℤ◌}
 use lib.Signed.{mag}
 use lib.Dec.{leb, ltb, eqb}
-use lib.ListN.{length, take, drop, length-drop, length-take}
+use lib.ListN.{length, take, drop, length-drop, length-take, length-append}
 use lib.Seq.{paste, take-paste, drop-paste, length-paste, drop-drop}
 use borrow.Author.Tests.{lt-ltb, le-ltb, lt-leb, le-leb, eq-eqb, ne_eqb, ltb-true, leb-false}
 use Rattle.numbers.specs.Signal.{at, pick, both}
@@ -28,7 +29,12 @@ use Rattle.text.specs.Text.{Wrote}
 use Rattle.text.proofs.TextLaws.{wrote-front}
 use Rattle.ground_file.specs.Values.{sign_of, kept, is_multiple}
 use Rattle.ground_file.specs.Saving.{saver_at, start_of, row_of, step_of, piece_of, at_row, onward, partly, from_of, rest_of, moved, begins, row_fits, row_divides}
-use Rattle.ground_file.specs.Saving.{row_number, stop_of, Inside, Went, here, on, Ran}
+use Rattle.ground_file.specs.Saving.{row_number, stop_of, Inside, Went, here, on, Ran, of_saved}
+use Rattle.ground_file.specs.declared.saver.Turn.{Turn}
+use Rattle.std.proofs.Common.{Ok, Err}
+use Rattle.refusal.specs.declared.Refusal.{Refusal}
+use Rattle.refusal.specs.Numbers.{number}
+use Rattle.ground_file.proofs.AnswerLaws.{number-above}
 
 pub level-none : (k : ℕ) → k ≡ 0 → ◌≡◌ {A = ℕ} 2 (pick (eqb k 0) 2 1)
 level-none k e = rw (eq-eqb k 0 e) refl
@@ -302,115 +308,140 @@ row-short s p = go (eqb (view_question (length p) (columns s.shape) (rows s.shap
     go true = omega (arith, length-take n (drop f p), length-drop f p)
     go false = omega arith
 
+-- a row that is turned away is so by 7 or 22
+pub number-big : (s : Saver) (row : List ℤ) → 0 < row_number s row → 1 < row_number s row
+unfolding row_number
+number-big s row h = go (begins s) (row_fits s row) (row_divides s row) h
+  where
+    go : (t u v : Bool) → 0 < pick t (pick u (pick v 0 22) 7) 0 → 1 < pick t (pick u (pick v 0 22) 7) 0
+    go false u v h = absurd (omega arith)
+    go true false v h = omega arith
+    go true true false h = omega arith
+    go true true true h = absurd (omega arith)
+
+-- nothing is written: the saver stays
+pub nothing_written : {p : List ℤ} {s : Saver} (b : List ℕ) (s' : Saver) → Went p s b s' → length b ≡ 0 → s' ≡ s
+nothing_written _ _ here e = refl
+nothing_written {p} _ _ (on {b = b} {s = v} m x ph free some n) e =
+    absurd (omega (arith, length-append b (take m (rest_of v (row_of v p))), length-take m (rest_of v (row_of v p)), some, n, e))
+
 -- the saver is at `at` of an area, having begun as s₀ with the area before
-pub record Running (p : List ℤ) (s₀ : Saver) (before : List ℕ) (room : ℕ) (s : Saver) (m stop : ℕ) (after : List ℕ) : Type 0 where
+pub record Running (p : List ℤ) (s₀ : Saver) (before : List ℕ) (s : Saver) (m : ℕ) (after : List ℕ) : Type 0 where
   pub inside : Inside s
-  pub all : room ≡ length before
   pub size : length after ≡ length before
-  pub within : m ≤ room
+  pub within : m ≤ length before
   pub past : drop m after ≡ drop m before
   pub went : Went p s₀ (take m after) s
-  pub stops : stop ≡ stop_of s p m room
 
-pub running-start : (p : List ℤ) (s : Saver) (o : List ℕ) (room stop : ℕ) → Inside s → room ≡ length o → stop ≡ stop_of s p 0 room
-    → Running p s o room s 0 stop o
-running-start p s o room stop i e f =
-    record { inside = i; all = e; size = refl; within = omega arith; past = refl; went = subst (λ l. Went p s l s) (sym (front o)) here; stops = f }
+pub running-start : (p : List ℤ) (s : Saver) (o : List ℕ) → Inside s → Running p s o s 0 o
+running-start p s o i =
+    record { inside = i; size = refl; within = omega arith; past = refl; went = subst (λ l. Went p s l s) (sym (front o)) here }
   where
     front : (l : List ℕ) → take 0 l ≡ []
     front [] = refl
     front (x ∷ l) = refl
 
--- where it goes on, there is room, and the row that it is to begin is not turned away
-pub goes-on : (s : Saver) (p : List ℤ) (m n : ℕ) → stop_of s p m n ≡ 0 → (m < n) × (s.phase < 3) × (row_number s (row_of s p) ≡ 0)
-unfolding stop_of
-goes-on s p m n e = go (leb n m) refl (leb 3 s.phase) refl e
-  where
-    go : (t : Bool) → leb n m ≡ t → (u : Bool) → leb 3 s.phase ≡ u → pick t 1 (pick u 1 (row_number s (row_of s p))) ≡ 0
-        → (m < n) × (s.phase < 3) × (row_number s (row_of s p) ≡ 0)
-    go true a u b z = absurd (omega arith)
-    go false a true b z = absurd (omega arith)
-    go false a false b z = (leb-false n m a, leb-false 3 s.phase b, z)
-
-module _ (p : List ℤ) (s₀ : Saver) (o : List ℕ) (room : ℕ) (s : Saver) (m stop : ℕ) (a : List ℕ) (r : Running p s₀ o room s m stop a) (zero : stop ≡ 0) where
+module _ (p : List ℤ) (s₀ : Saver) (o : List ℕ) (s : Saver) (m : ℕ) (a : List ℕ) (r : Running p s₀ o s m a) (here : m < length a) (ph : s.phase < 3) where
   abbrev much : ℕ
   much = min (length (rest_of s (row_of s p))) (length a - m)
-
-  goes : (m < room) × (s.phase < 3) × (row_number s (row_of s p) ≡ 0)
-  goes = goes-on s p m room (sym r.stops ∙ zero)
 
   rest_some : 0 < length (rest_of s (row_of s p))
   rest_some =
       omega (arith, rest-length s (row_of s p), start-below s.part (length (piece_of s (row_of s p))) (piece-some s (row_of s p)), piece-some s (row_of s p))
 
-  pub step_room : (m < length a) × (0 < much) × (m + much ≤ length a) × (much ≤ length (rest_of s (row_of s p)))
-  step_room =
-      let h : m < length a = omega (arith, goes.0, r.all, r.size) in
-      (h, omega (arith, h, rest_some), omega (arith, h), omega arith)
+  step_room : (0 < much) × (m + much ≤ length a) × (much ≤ length (rest_of s (row_of s p)))
+  step_room = (omega (arith, here, rest_some), omega (arith, here), omega arith)
 
-  pub running-on : (s' : Saver) (m' stop' : ℕ) (a' : List ℕ) → length (row_of s p) < 2 ^ 61 → s' ≡ moved s (row_of s p) much → m' ≡ m + much
-      → a' ≡ paste a m (rest_of s (row_of s p)) much → stop' ≡ stop_of s' p m' room → Running p s₀ o room s' m' stop' a'
-  running-on s' m' stop' a' small es em ea ez =
+  running-on : row_number s (row_of s p) ≡ 0 → (s' : Saver) (m' : ℕ) (a' : List ℕ) → length (row_of s p) < 2 ^ 61 → s' ≡ moved s (row_of s p) much → m' ≡ m + much
+      → a' ≡ paste a m (rest_of s (row_of s p)) much → Running p s₀ o s' m' a'
+  running-on free s' m' a' small es em ea =
       let k = step_room in
-      let le : m ≤ length a = omega (arith, k.0) in
+      let le : m ≤ length a = omega (arith, here) in
       record {
         inside = subst Inside (sym es) (inside-moved s r.inside (row_of s p) much small);
-        all = r.all;
-        size = ap length ea ∙ length-paste a m (rest_of s (row_of s p)) much k.2 k.3 ∙ r.size;
-        within = omega (arith, em, k.2, r.all, r.size);
+        size = ap length ea ∙ length-paste a m (rest_of s (row_of s p)) much k.1 k.2 ∙ r.size;
+        within = omega (arith, em, k.1, r.size);
         past =
-            ap₂ drop em ea ∙ drop-paste a m (rest_of s (row_of s p)) much le k.3 ∙ sym (drop-drop much m a) ∙ ap (drop much) r.past
+            ap₂ drop em ea ∙ drop-paste a m (rest_of s (row_of s p)) much le k.2 ∙ sym (drop-drop much m a) ∙ ap (drop much) r.past
             ∙ drop-drop much m o ∙ ap (λ n. drop n o) (sym em);
         went =
-            subst (λ l. Went p s₀ l s') (sym (ap₂ take em ea ∙ take-paste a m (rest_of s (row_of s p)) much le k.3))
-            (subst (Went p s₀ _) (sym es) (on much r.went goes.1 goes.2 k.1 k.3));
-        stops = ez;
+            subst (λ l. Went p s₀ l s') (sym (ap₂ take em ea ∙ take-paste a m (rest_of s (row_of s p)) much le k.2))
+            (subst (Went p s₀ _) (sym es) (on much r.went ph free k.0 k.2));
       }
 
-  -- the same of a row that is the one at the saver's place
-  module _ (row : List ℤ) (er : row ≡ row_of s p) (s' : Saver) (small : length p < 2 ^ 61)
-      (es : s' ≡ moved s row (min (length (rest_of s row)) (length a - m))) where
-    short : length (row_of s p) < 2 ^ 61
-    short = omega (arith, small, row-short s p)
+  -- of a row that is the one at the saver's place
+  module _ (row : List ℤ) (er : row ≡ row_of s p) where
+    row-at : row_number s (row_of s p) ≡ row_number s row
+    row-at = ap (row_number s) (sym er)
 
-    moved-is : s' ≡ moved s (row_of s p) much
-    moved-is = es ∙ ap (λ r. moved s r (min (length (rest_of s r)) (length a - m))) er
+    module _ (s' : Saver) (small : length p < 2 ^ 61) (es : s' ≡ moved s row (min (length (rest_of s row)) (length a - m))) where
+      short : length (row_of s p) < 2 ^ 61
+      short = omega (arith, small, row-short s p)
 
-    pub inside-by : Inside s'
-    inside-by = subst Inside (sym moved-is) (inside-moved s r.inside (row_of s p) much short)
+      moved-is : s' ≡ moved s (row_of s p) much
+      moved-is = es ∙ ap (λ r. moved s r (min (length (rest_of s r)) (length a - m))) er
 
-    module _ (m' : ℕ) (em : m' ≡ m + min (length (rest_of s row)) (length a - m)) where
-      place_is : m' ≡ m + much
-      place_is = em ∙ ap (λ r. m + min (length (rest_of s r)) (length a - m)) er
+      module _ (m' : ℕ) (em : m' ≡ m + min (length (rest_of s row)) (length a - m)) where
+        place_is : m' ≡ m + much
+        place_is = em ∙ ap (λ r. m + min (length (rest_of s r)) (length a - m)) er
 
-      pub less_by : room - m' < room - m
-      less_by = let k = step_room in omega (arith, place_is, k.1, goes.0)
+        pub less_by : length o - m' < length o - m
+        less_by = omega (arith, place_is, step_room.0, here, r.size)
 
-      pub running-by : (stop' : ℕ) (a' : List ℕ) → a' ≡ paste a m (rest_of s row) (min (length (rest_of s row)) (length a - m)) → stop' ≡ stop_of s' p m' room
-          → Running p s₀ o room s' m' stop' a'
-      running-by stop' a' ea ez =
-          running-on s' m' stop' a' short moved-is place_is (ea ∙ ap (λ r. paste a m (rest_of s r) (min (length (rest_of s r)) (length a - m))) er) ez
+        pub running-by : 0 ≡ row_number s row → (a' : List ℕ) → a' ≡ paste a m (rest_of s row) (min (length (rest_of s row)) (length a - m))
+            → Running p s₀ o s' m' a'
+        running-by free a' ea =
+            running-on (row-at ∙ sym free) s' m' a' short moved-is place_is (ea ∙ ap (λ r. paste a m (rest_of s r) (min (length (rest_of s r)) (length a - m))) er)
 
--- what it gives where it stops
-pub ran : (p : List ℤ) (s₀ : Saver) (o : List ℕ) (room : ℕ) (s : Saver) (m stop x : ℕ) (a : List ℕ) → Running p s₀ o room s m stop a → (stop ≡ 0 → ⊥)
-    → x ≡ pick (eqb m 0 && ltb 1 stop) stop 0 → Ran s₀ p o a (record { answer = x; written = m; saver = s })
-ran p s₀ o room s m stop x a r some e =
-    let is : stop ≡ stop_of s p m (length o) = r.stops ∙ ap (stop_of s p m) r.all in
-    record {
-      size = r.size;
-      room = omega (arith, r.within, r.all);
-      past = r.past;
-      went = r.went;
-      stops = omega (arith, is, some);
-      answer = e ∙ ap (λ t. pick t stop 0) (and_both (eqb m 0) (ltb 1 stop)) ∙ ap (λ n. pick (both (eqb m 0) (ltb 1 n)) n 0) is;
-    }
+    -- where that is turned away
+    module _ (why : Refusal) (no : number why ≡ row_number s row) where
+      stops-by : number why ≡ stop_of s p m (length o)
+      stops-by = no ∙ sym row-at ∙ stop-row s p m (length o) (omega (arith, here, r.size)) ph
+
+      big : 1 < number why
+      big = omega (arith, number-above why, no, number-big s row (omega (arith, number-above why, no)))
+
+      -- having written nothing
+      pub ran-refused : m ≡ 0 → Ran s₀ p o a (of_saved s₀ (Err why))
+      ran-refused e =
+          let same : s ≡ s₀ = nothing_written _ _ r.went (ap (λ n. length (take n a)) e ∙ none a) in
+          let is : number why ≡ stop_of s₀ p 0 (length o) = stops-by ∙ ap₂ (λ v n. stop_of v p n (length o)) same e in
+          record {
+            size = r.size;
+            room = omega arith;
+            past = ap (λ n. drop n a) (sym e) ∙ r.past ∙ ap (λ n. drop n o) e;
+            went = subst (λ n. Went p s₀ (take n a) s₀) e (subst (Went p s₀ (take m a)) same r.went);
+            stops = omega (arith, is, big);
+            answer = rw (← is, lt-ltb 1 (number why) big) refl;
+          }
+        where
+          none : (l : List ℕ) → length (take 0 l) ≡ 0
+          none [] = refl
+          none (x ∷ l) = refl
+
+      -- having written something
+      pub ran-some : (m ≡ 0 → ⊥) → Ran s₀ p o a (of_saved s₀ (Ok (record { saver = s; at = m })))
+      ran-some z = record {
+        size = r.size;
+        room = r.within;
+        past = r.past;
+        went = r.went;
+        stops = omega (arith, stops-by, big);
+        answer = rw (ne_eqb m 0 z) refl;
+      }
+
+-- no room is left, or the file is over
+pub ran-over : (p : List ℤ) (s₀ : Saver) (o : List ℕ) (s : Saver) (m : ℕ) (a : List ℕ) → Running p s₀ o s m a → 1 ≡ stop_of s p m (length o)
+    → Ran s₀ p o a (of_saved s₀ (Ok (record { saver = s; at = m })))
+ran-over p s₀ o s m a r e = record {
+  size = r.size;
+  room = r.within;
+  past = r.past;
+  went = r.went;
+  stops = omega (arith, e);
+  answer = none (eqb m 0) ∙ ap (λ x. pick (both (eqb m 0) (ltb 1 x)) x 0) e;
+}
   where
-    and_both : (t u : Bool) → t && u ≡ both t u
-    and_both true u = refl
-    and_both false u = refl
-
-pub answer-stop : (t : Bool) (n : ℕ) → t ≡ true → n ≡ pick t n 0
-answer-stop t n e = rw e refl
-
-pub answer-none : (t : Bool) (n : ℕ) → t ≡ false → 0 ≡ pick t n 0
-answer-none t n e = rw e refl
+    none : (t : Bool) → ◌≡◌ {A = ℕ} 0 (pick (both t (ltb 1 1)) 1 0)
+    none true = refl
+    none false = refl

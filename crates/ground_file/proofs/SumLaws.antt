@@ -4,11 +4,11 @@ use mathlib.Core.List.{List, [], ◌∷◌}
 use Prim.Native.Nat.{ℕ, ◌+◌, ◌*◌, ◌-◌, ◌/◌, ◌%◌, ◌^◌, ◌≤◌, ◌<◌}
 use native.Mathlib.Nat.{mul-add-mod_self_right}
 use native.Mathlib.Omega.{arith}
-use lib.ListN.{length, take, drop, get_or, length-take, length-drop}
-use lib.Seq.{take-add, get_or-drop}
+use lib.ListN.{length, take, drop, get_or, length-take, length-drop, take-append-drop}
+use lib.Seq.{take-add, take_all}
 use Rattle.ground_file.specs.File.{as_number, prime}
 use Rattle.ground_file.proofs.WidthLaws.{drop-first}
-use Rattle.ground_file.proofs.ValueLaws.{number_append, number-rest, sum_more}
+use Rattle.ground_file.proofs.ValueLaws.{number_append, number-rest}
 
 -- four bytes of a list
 four-listed : (l : List ℕ) (k : ℕ) → k + 4 ≤ length l → take 4 (drop k l) ≡ get_or l k 0 ∷ get_or l (k + 1) 0 ∷ get_or l (k + 2) 0 ∷ get_or l (k + 3) 0 ∷ []
@@ -47,14 +47,13 @@ rest-four a b =
     let e : 4294967296 * a + b ≡ 4294967296 * (a / prime) * prime + (4294967296 * (a % prime) + b) = omega arith in
     sym (ap (λ n. n % prime) e ∙ mul-add-mod_self_right (4294967296 * (a / prime)) prime (4294967296 * (a % prime) + b))
 
-remains : (a : ℕ) → a % prime < prime
+pub remains : (a : ℕ) → a % prime < prime
 unfolding prime
 remains a = omega arith
 
 -- ---- i fours are summed
 pub record Fours (sum : ℕ) (l : List ℕ) (m r i : ℕ) : Type 0 where
   pub there : 4 * m ≤ length l
-  pub some : i ≤ m
   pub short : length l < 2 ^ 63
   pub small : r < prime
   pub number : r ≡ as_number sum (take (4 * i) l) % prime
@@ -71,13 +70,12 @@ begin-is sum (x ∷ l) h = own sum h
 pub fours-start : {sum : ℕ} {l : List ℕ} {m : ℕ} → 4 * m ≤ length l → sum < prime → length l < 2 ^ 63 → Fours sum l m sum 0
 fours-start {sum} {l} {m} h s z =
     let e : 4 * 0 ≡ 0 = omega arith in
-    record { there = h; some = omega arith; short = z; small = s; number = begin-is sum l s ∙ ap (λ k. as_number sum (take k l) % prime) (sym e) }
+    record { there = h; short = z; small = s; number = begin-is sum l s ∙ ap (λ k. as_number sum (take k l) % prime) (sym e) }
 
 pub fours-next : {sum : ℕ} {l : List ℕ} {m r i : ℕ} → Fours sum l m r i → i < m → (f : ℕ) → f ≡ as_number 0 (take 4 (drop (4 * i) l))
     → Fours sum l m ((4294967296 * r + f) % prime) (i + 1)
 fours-next {sum} {l} {m} {r} {i} s h f e = record {
   there = s.there;
-  some = omega arith;
   short = s.short;
   small = remains (4294967296 * r + f);
   number = ap₂ (λ a b. (4294967296 * a + b) % prime) s.number e
@@ -93,59 +91,12 @@ fours-next {sum} {l} {m} {r} {i} s h f e = record {
     long : length (take 4 (drop (4 * i) l)) ≡ 4
     long = omega (arith, length-take 4 (drop (4 * i) l), length-drop (4 * i) l, s.there, h)
 
-pub fours-end : {sum : ℕ} {l : List ℕ} {m r i : ℕ} → Fours sum l m r i → m ≤ i → (r ≡ as_number sum (take (4 * m) l) % prime) × (r < prime)
-fours-end {sum} {l} {m} {r} {i} s h =
-    let e : i ≡ m = omega (arith, s.some) in
-    (s.number ∙ ap (λ k. as_number sum (take (4 * k) l) % prime) e, s.small)
-
--- ---- bytes k to i are summed
-pub record Ones (sum : ℕ) (l : List ℕ) (k n r i : ℕ) : Type 0 where
-  pub there : n ≤ length l
-  pub from : k ≤ i
-  pub some : i ≤ n
-  pub small : r < prime
-  pub number : r ≡ as_number sum (take (i - k) (drop k l)) % prime
-
-pub ones-start : {sum : ℕ} {l : List ℕ} {k n : ℕ} → k ≤ n → n ≤ length l → sum < prime → Ones sum l k n sum k
-ones-start {sum} {l} {k} {n} h m s =
-    let e : k - k ≡ 0 = omega arith in
-    record {
-      there = m;
-      from = omega arith;
-      some = h;
-      small = s;
-      number = begin-is sum (drop k l) s ∙ ap (λ j. as_number sum (take j (drop k l)) % prime) (sym e);
-    }
-
-pub ones-next : {sum : ℕ} {l : List ℕ} {k n r i : ℕ} → Ones sum l k n r i → i < n → (b : ℕ) → b ≡ get_or l i 0 → Ones sum l k n ((256 * r + b) % prime) (i + 1)
-ones-next {sum} {l} {k} {n} {r} {i} s h b e =
-    record {
-      there = s.there;
-      from = omega (arith, s.from);
-      some = omega arith;
-      small = remains (256 * r + b);
-      number = sum_more sum (drop k l) (i - k) r b (omega (arith, length-drop k l, s.from, s.there)) s.number (e ∙ read)
-          ∙ ap (λ j. as_number sum (take j (drop k l)) % prime) place;
-    }
-  where
-    place : i - k + 1 ≡ i + 1 - k
-    place = omega (arith, s.from)
-
-    there : k + (i - k) ≡ i
-    there = omega (arith, s.from)
-
-    read : get_or l i 0 ≡ get_or (drop k l) (i - k) 0
-    read = sym (get_or-drop k l (i - k) 0 ∙ ap (λ j. get_or l j 0) there)
-
-pub ones-end : {sum : ℕ} {l : List ℕ} {k n r i : ℕ} → Ones sum l k n r i → n ≤ i → r ≡ as_number sum (take (n - k) (drop k l)) % prime
-ones-end {sum} {l} {k} {n} {r} {i} s h =
-    let e : i - k ≡ n - k = omega (arith, s.some) in
-    s.number ∙ ap (λ j. as_number sum (take j (drop k l)) % prime) e
+pub fours-end : {sum : ℕ} {l : List ℕ} {m r i : ℕ} → Fours sum l m r i → i ≡ m → (r ≡ as_number sum (take (4 * m) l) % prime) × (r < prime)
+fours-end {sum} {l} {m} {r} {i} s e = (s.number ∙ ap (λ k. as_number sum (take (4 * k) l) % prime) e, s.small)
 
 -- ---- both
-pub sum_is : (sum : ℕ) (l : List ℕ) (k n a r : ℕ) → k ≤ n → a ≡ as_number sum (take k l) % prime → r ≡ as_number a (take (n - k) (drop k l)) % prime
-    → r ≡ as_number sum (take n l) % prime
-sum_is sum l k n a r h ea er =
-    let e : k + (n - k) ≡ n = omega arith in
-    er ∙ ap (λ x. as_number x (take (n - k) (drop k l)) % prime) ea ∙ number-rest (as_number sum (take k l)) (take (n - k) (drop k l))
-    ∙ ap (λ x. x % prime) (sym (number_append sum (take k l) (take (n - k) (drop k l))) ∙ ap (as_number sum) (sym (take-add k (n - k) l) ∙ ap (λ j. take j l) e))
+pub sum_is : (sum : ℕ) (l : List ℕ) (k a r : ℕ) → a ≡ as_number sum (take k l) % prime → r ≡ as_number a (take (length l - k) (drop k l)) % prime
+    → r ≡ as_number sum l % prime
+sum_is sum l k a r ea er =
+    er ∙ ap (λ m. as_number a m % prime) (take_all (length l - k) (drop k l) (omega (arith, length-drop k l))) ∙ ap (λ x. as_number x (drop k l) % prime) ea ∙ number-rest (as_number sum (take k l)) (drop k l)
+    ∙ ap (λ x. x % prime) (sym (number_append sum (take k l) (drop k l)) ∙ ap (as_number sum) (take-append-drop k l))

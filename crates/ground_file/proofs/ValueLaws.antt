@@ -1,5 +1,5 @@
 -- Values of a row as numbers, as the code makes them, and the checksum a byte at a time. Assumes nothing.
-use mathlib.Core.Path.{◌≡◌, refl, sym, ap, ap₂, ◌∙◌}
+use mathlib.Core.Path.{◌≡◌, refl, sym, ap, ap₂, subst, ◌∙◌}
 use mathlib.Core.Bool.{Bool, true, false, ◌&&◌}
 use mathlib.Core.List.{List, [], ◌∷◌, ◌++◌}
 use Prim.Native.Nat.{ℕ, zero, suc, ◌+◌, ◌*◌, ◌-◌, ◌/◌, ◌%◌, ◌^◌, ◌≤◌, ◌<◌}
@@ -12,10 +12,11 @@ use lib.Dec.{T}
 use lib.ListN.{length, take, set, get_or, length-set}
 use lib.Seq.{take-suc, take-suc-set}
 use mir.Syntax.{w32}
-use mir.Val.{SFits, to_z, of_z}
+use mir.Val.{SFits, to_z, of_z, bool_byte}
 use mir.ValLaws.{to_z-of_z}
 use borrow.Author.Tests.{ltb-true, ltb-false, lt-ltb, eq-eqb, eqb-true}
-use Rattle.numbers.specs.Signal.{both}
+use Rattle.std.specs.List.{list_all}
+use Rattle.numbers.specs.Signal.{at, both}
 use Rattle.numbers.specs.Tests.{every}
 use Rattle.numbers.proofs.Integers.{each, lin, dif-nat_abs}
 use Rattle.ground_file.specs.Groups.{zigzag, holds}
@@ -76,12 +77,12 @@ pub mag-small : (z : ℤ) → SFits w32 z → mag z < 2147483648
 mag-small (pos n) f = f.sfits
 mag-small (negsuc n) f = f.sfits
 
-pub sign_below : (z : ℤ) → lt_z z (pos 0) ≡ true → 1 ≡ sign_of z
+sign_below : (z : ℤ) → lt_z z (pos 0) ≡ true → 1 ≡ sign_of z
 unfolding sign_of
 sign_below (pos n) e = absurd (omega (arith, ltb-true n 0 e))
 sign_below (negsuc n) e = refl
 
-pub sign_above : (z : ℤ) → lt_z z (pos 0) ≡ false → 0 ≡ sign_of z
+sign_above : (z : ℤ) → lt_z z (pos 0) ≡ false → 0 ≡ sign_of z
 unfolding sign_of
 sign_above (pos n) e = refl
 sign_above (negsuc n) e = let b : ◌≡◌ {A = ℕ} 0 1 = cc in absurd (omega arith)
@@ -90,6 +91,13 @@ pub sign_small : (z : ℤ) → sign_of z ≤ 1
 unfolding sign_of
 sign_small (pos n) = omega arith
 sign_small (negsuc n) = omega arith
+
+pub sign_from : (z : ℤ) → bool_byte (lt_z z (pos 0)) ≡ sign_of z
+sign_from z = go (lt_z z (pos 0)) refl
+  where
+    go : (t : Bool) → lt_z z (pos 0) ≡ t → bool_byte t ≡ sign_of z
+    go true e = sign_below z e
+    go false e = sign_above z e
 
 pub by_one : (m q : ℕ) → q ≡ 1 → m ≡ m / q
 by_one m q e = rw e (omega arith)
@@ -167,6 +175,9 @@ filling-start l x = record { size = refl; done = take_0 l }
     take_0 [] = refl
     take_0 (y ∷ l) = refl
 
+pub filling-end : {l₀ l : List ℕ} {x : ℕ → ℕ} {i n : ℕ} → i ≡ n → Filling l₀ l x i → take n l ≡ listed n x
+filling-end {l = l} {x = x} e f = subst (λ m. take m l ≡ listed m x) e f.done
+
 pub filling-more : {l₀ l : List ℕ} {x : ℕ → ℕ} {i : ℕ} (v : ℕ) → Filling l₀ l x i → i < length l₀ → v ≡ x i →
     Filling l₀ (set l i v) x (i + 1)
 filling-more {l₀} {l} {x} {i} v f h e =
@@ -182,15 +193,28 @@ listed-held zero x h = refl
 listed-held (suc n) x h = rw (lt-ltb (x 0) (2 ^ 28) (h 0), listed-held n (λ i. x (suc i)) (λ i. h (suc i))) refl
 
 -- ---- every value passed
-pub every_more : (i : ℕ) (p : ℕ → Bool) (ok b : Bool) → ok ≡ every i p → b ≡ p i → ok && b ≡ every (i + 1) p
+both_assoc : (a b c : Bool) → both (both a b) c ≡ both a (both b c)
+both_assoc true b c = refl
+both_assoc false b c = refl
+
+both-true : (b : Bool) → b ≡ both b true
+both-true true = refl
+both-true false = refl
+
+every-front : (n : ℕ) (p : ℕ → Bool) → every (suc n) p ≡ both (p 0) (every n (λ i. p (suc i)))
 unfolding every
-every_more i p ok b e f =
-    let one : i + 1 ≡ suc i = omega arith in
-    rw one (ap₂ ◌&&◌ e f ∙ go (every i p) (p i))
-  where
-    go : (a b : Bool) → a && b ≡ both a b
-    go true b = refl
-    go false b = refl
+every-front zero p = both-true (p 0)
+every-front (suc n) p = ap (λ b. both b (p (suc n))) (every-front n p) ∙ both_assoc (p 0) (every n (λ i. p (suc i))) (p (suc n))
+
+and_both : (a b : Bool) → a && b ≡ both a b
+and_both true b = refl
+and_both false b = refl
+
+pub all_every : (test : ℤ → Bool) (l : List ℤ) → list_all test l ≡ every (length l) (λ i. test (at l i))
+unfolding every
+all_every test [] = refl
+all_every test (x ∷ l) =
+    and_both (test x) (list_all test l) ∙ ap (both (test x)) (all_every test l) ∙ sym (every-front (length l) (λ i. test (at (x ∷ l) i)))
 
 -- ---- the checksum
 as_number-more : (n : ℕ) (l : List ℕ) (b : ℕ) → as_number n (l ++ (b ∷ [])) ≡ 256 * as_number n l + b

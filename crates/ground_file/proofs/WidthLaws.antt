@@ -2,7 +2,7 @@
 use mathlib.Core.Path.{◌≡◌, refl, sym, ap, ap₂, ◌∙◌, subst}
 use mathlib.Core.Bool.{true, false}
 use mathlib.Core.List.{List, [], ◌∷◌}
-use Prim.Native.Nat.{ℕ, zero, suc, ◌+◌, ◌*◌, ◌-◌, ◌^◌, ◌≤◌, ◌<◌}
+use Prim.Native.Nat.{ℕ, zero, suc, ◌+◌, ◌*◌, ◌-◌, ◌^◌, ◌≤◌, ◌<◌, max}
 use native.Mathlib.Nat.{lt_of_lt_of_le}
 use native.Mathlib.Omega.{arith}
 use native.Mathlib.Decide.{dec_lt}
@@ -161,7 +161,7 @@ code-bits m b p q =
     half : (w : ℕ) → w < b → 2 ^ w ≤ m
     half w h = let d : 2 ^ (w + 1) ≤ 2 ^ b = pow_mono (omega arith) in omega (arith, d, q, pow-add 2 w 1)
 
--- ---- the largest number, from the last on
+-- ---- the numbers of a list from a place on
 pub drop-first : (l : List ℕ) (j : ℕ) → j < length l → drop j l ≡ get_or l j 0 ∷ drop (j + 1) l
 drop-first [] j h = absurd (omega arith)
 drop-first (x ∷ l) zero h = refl
@@ -176,44 +176,15 @@ part-back l from n i there some h =
     rw e (ap (take (suc (n - i))) (drop-first l (from + (i - 1)) (omega arith))
     ∙ ap (λ k. get_or l (from + (i - 1)) 0 ∷ take (n - i) (drop k l)) f)
 
-pub record Seen (numbers : List ℕ) (from n most i : ℕ) : Type 0 where
-  pub there : from + n ≤ length numbers
-  pub some : i ≤ n
-  pub short : length numbers < 2 ^ 61
-  pub largest : most ≡ largest_of (take (n - i) (drop (from + i) numbers))
-
-pub seen_start : {numbers : List ℕ} {from n : ℕ} → from + n ≤ length numbers → length numbers < 2 ^ 61 → Seen numbers from n 0 n
+-- ---- the largest number, number by number
+pub largest-none : largest_of [] ≡ 0
 unfolding largest_of
-seen_start {numbers} {from} {n} h s =
-    let e : n - n ≡ 0 = omega arith in
-    record { there = h; some = omega arith; short = s; largest = rw e refl }
+largest-none = refl
 
-module _ {numbers : List ℕ} {from n most i : ℕ} (s : Seen numbers from n most i) (h : 0 < i) (x : ℕ) (is : x ≡ get_or numbers (from + (i - 1)) 0) where
-  list-is : take (n - (i - 1)) (drop (from + (i - 1)) numbers) ≡ x ∷ take (n - i) (drop (from + i) numbers)
-  list-is = part-back numbers from n i s.there s.some h ∙ ap (λ v. v ∷ take (n - i) (drop (from + i) numbers)) (sym is)
-
-  pub seen_more : most < x → Seen numbers from n x (i - 1)
-  unfolding largest_of
-  seen_more p =
-      record {
-        there = s.there;
-        some = omega (arith, s.some);
-        short = s.short;
-        largest = rw (list-is, sym s.largest, lt-ltb most x p) refl;
-      }
-
-  pub seen-less : x ≤ most → Seen numbers from n most (i - 1)
-  unfolding largest_of
-  seen-less p =
-      record {
-        there = s.there;
-        some = omega (arith, s.some);
-        short = s.short;
-        largest = rw (list-is, sym s.largest, le-ltb most x p) refl;
-      }
-
-pub seen-all : {numbers : List ℕ} {from n most i : ℕ} → Seen numbers from n most i → i ≤ 0 → most ≡ largest_of (take n (drop from numbers))
-seen-all {numbers} {from} {n} {most} {i} s h =
-    let e : n - i ≡ n = omega arith in
-    let f : from + i ≡ from = omega arith in
-    s.largest ∙ ap₂ (λ a b. largest_of (take a (drop b numbers))) e f
+pub largest-more : (x : ℕ) (l : List ℕ) → largest_of (x ∷ l) ≡ max x (largest_of l)
+unfolding largest_of
+largest-more x l =
+    elim (dec_lt (largest_of l) x) [
+      | yes p ↦ rw (lt-ltb (largest_of l) x p) (omega arith)
+      | no p ↦ rw (le-ltb (largest_of l) x (omega arith)) (omega arith)
+    ]

@@ -1,5 +1,5 @@
 -- What a saver does: the piece of the file that it is at, what is left of it, and where it goes on. docs/FORMAT.md, "Saving".
-use Rattle.std.specs.Prelude.{◌≡◌, Bool, true, List, [], ◌++◌, ℕ, ◌+◌, ◌-◌, ◌*◌, ◌%◌, ◌^◌, ◌≤◌, ◌<◌, min, ℤ, pos, nat_abs, ◌*ℤ◌, leb, ltb, eqb, length, take, drop}
+use Rattle.std.specs.Prelude.{◌≡◌, Result, Ok, Err, Bool, true, List, [], ◌++◌, ℕ, ◌+◌, ◌-◌, ◌*◌, ◌%◌, ◌^◌, ◌≤◌, ◌<◌, min, ℤ, pos, nat_abs, ◌*ℤ◌, leb, ltb, eqb, length, take, drop}
 use Rattle.std.specs.Int.Signed.{shr_z}
 use Rattle.numbers.specs.Signal.{at, pick, both}
 use Rattle.numbers.specs.Tests.{every}
@@ -14,7 +14,9 @@ use Rattle.filters.specs.Filters.{filter_of, is_filter}
 use Rattle.reader_order.specs.declared.Place.{Place}
 use Rattle.reader_order.specs.Order.{nowhere, first_place, next_place, row_at}
 use Rattle.ground_file.specs.declared.saver.Saver.{Saver}
-use Rattle.ground_file.specs.declared.saver.Saved.{Saved}
+use Rattle.ground_file.specs.declared.saver.Turn.{Turn}
+use Rattle.refusal.specs.declared.Refusal.{Refusal}
+use Rattle.refusal.specs.Numbers.{number}
 use Rattle.ground_file.specs.Groups.{bytes_of, group_of}
 use Rattle.ground_file.specs.File.{header_of, listed, prime, as_number}
 use Rattle.ground_file.specs.Values.{kept, is_multiple}
@@ -128,6 +130,17 @@ abbrev pub fresh : Shape → ℕ → Saver
 fresh s q = saver_at s q nowhere 0 0 0 0
 
 -- ---- what a call gives
+-- 0 or the number of the question that turned it away, how many bytes it wrote, and the saver after them
+pub record Saved : Type 0 where
+  pub answer : ℕ
+  pub written : ℕ
+  pub saver : Saver
+
+-- where the saver s is turned away, nothing is written and it stays
+abbrev pub of_saved : Saver → Result Turn Refusal → Saved
+of_saved s (Ok t) = record { answer = 0; written = t.at; saver = t.saver }
+of_saved s (Err why) = record { answer = number why; written = 0; saver = s }
+
 -- the numbers that the code needs to be small
 pub record Inside (s : Saver) : Type 0 where
   pub some : 1 ≤ s.step

@@ -1,10 +1,18 @@
 // The header of a file, from its first 24 bytes: a loader's caller lends areas of that shape.
-ghost use Rattle.std.specs.Prelude.{◌≡◌, ◌+◌, ◌*◌, ◌^◌, ◌≤◌, ◌<◌, eqb, length};
-ghost use Rattle.numbers.specs.Signal.{pick};
-ghost use Rattle.ground_file.specs.Header.{number_in, shape_in, step_in, is_header, roundable, header_number, header_words, header_in};
+ghost use Rattle.std.specs.Prelude.{◌≡◌, ◌+◌, ◌*◌, ◌^◌, ◌≤◌, ◌<◌, length, IfOk};
+ghost use Rattle.refusal.specs.Numbers.{answer};
+ghost use Rattle.ground_file.specs.Header.{number_in, shape_in, step_in, is_header, roundable, header_number};
 
 use crate::saver;
+use refusal::Refusal;
 use wavelet::shape::Shape;
+
+// A map's shape and the step of its file.
+#[derive(Clone, Copy)]
+pub struct Header {
+    pub shape: Shape,
+    pub step: usize,
+}
 
 const SIGNATURE: u64 = 727905341870589833;
 
@@ -14,9 +22,7 @@ fn number_in(bytes: &[u8], from: usize, n: usize) -> u64
     ensures { (result ≡ number_in bytes.now from n) × (result < 2 ^ (8 * n)) }
 {
     let mut r = 0;
-    let mut i = n;
-    while 0 < i {
-        i -= 1;
+    for i in (0..n).rev() {
         r = 256 * r + bytes[from + i] as u64;
     }
     r
@@ -66,49 +72,32 @@ fn shape_in(bytes: &[u8]) -> Shape
     }
 }
 
-// 22, then 2, 3, 18, 4 and 20 of what the bytes say; 0 where none says no.
-fn question(bytes: &[u8], shape: Shape, step: usize) -> u8
-    requires { (24 ≤ length bytes.now) × (shape ≡ shape_in bytes.now) × (step ≡ step_in bytes.now) }
-    ensures { result ≡ header_number bytes.now }
+// 22, then 2, 3, 18, 4 and 20 of what the bytes say.
+fn question(bytes: &[u8], head: Header) -> Result<(), Refusal>
+    requires { (24 ≤ length bytes.now) × (head.shape ≡ shape_in bytes.now) × (head.step ≡ step_in bytes.now) }
+    ensures { answer result ≡ header_number bytes.now }
 {
     if !is_header(bytes) {
-        return 22;
+        return Err(Refusal::NoFile);
     }
-    if !is_roundable(shape, step) {
-        return 22;
+    if !is_roundable(head.shape, head.step) {
+        return Err(Refusal::NoFile);
     }
-    saver::set_up_question(shape, step)
+    saver::set_up_question(head.shape, head.step)
 }
 
-// A shape and a step as seven numbers.
-fn put(s: Shape, step: usize, header: &mut [u64; 7])
-    ensures { header.new ≡ header_words s step }
-{
-    *header = [
-        s.width as u64,
-        s.height as u64,
-        s.levels as u64,
-        s.x as u64,
-        s.y as u64,
-        s.filter as u64,
-        step as u64,
-    ];
-}
-
-// The shape and the step that the first 24 bytes of a file say, as seven numbers. The questions are 5, 22, 2, 3, 18, 4 and 20; a no leaves these.
-pub fn read(bytes: &[u8], header: &mut [u64; 7]) -> u8
-    ensures value { result ≡ header_number bytes.now }
-    ensures header_after { header.new ≡ pick (eqb result 0) (header_in bytes.now) header.old }
+// What the first 24 bytes of a file say. The questions are 5, 22, 2, 3, 18, 4 and 20.
+pub fn read(bytes: &[u8]) -> Result<Header, Refusal>
+    ensures value { answer result ≡ header_number bytes.now }
+    ensures header { IfOk result (λ h. (h.shape ≡ shape_in bytes.now) × (h.step ≡ step_in bytes.now)) }
 {
     if bytes.len() < 24 {
-        return 5;
+        return Err(Refusal::AreaShort);
     }
-    let shape = shape_in(bytes);
-    let step = number_in(bytes, 11, 1) as usize;
-    let no = question(bytes, shape, step);
-    if no != 0 {
-        return no;
-    }
-    put(shape, step, header);
-    0
+    let head = Header {
+        shape: shape_in(bytes),
+        step: number_in(bytes, 11, 1) as usize,
+    };
+    question(bytes, head)?;
+    Ok(head)
 }

@@ -1,5 +1,5 @@
 // The numbers of a part as bytes. The module is private: only this crate, which meets what is required, can call it.
-ghost use Rattle.std.specs.Prelude.{◌≡◌, true, ◌+◌, ◌*◌, ◌/◌, ◌%◌, ◌^◌, ◌≤◌, ◌<◌, length, take, drop};
+ghost use Rattle.std.specs.Prelude.{◌≡◌, true, ◌+◌, ◌*◌, ◌/◌, ◌%◌, ◌^◌, ◌≤◌, ◌<◌, length};
 ghost use Rattle.text.specs.Text.{Wrote};
 ghost use Rattle.ground_file.specs.Groups.{bytes_of, holds, part_of};
 
@@ -17,16 +17,17 @@ fn flush(bits: Bits, out: &mut [u8]) -> Bits
     ensures wrote { Wrote (bytes_of (bits.count / 8) bits.low) bits.at result.at out.old out.new }
     ensures low_value { (result.low ≡ bits.low / 2 ^ (8 * (bits.count / 8))) × (result.count ≡ bits.count % 8) }
 {
+    let end = bits.at + bits.count / 8;
     let mut low = bits.low;
-    let mut count = bits.count;
-    let mut at = bits.at;
-    while 8 <= count {
-        out[at] = (low % 256) as u8;
-        low = low / 256;
-        count = count - 8;
-        at = at + 1;
+    for place in bits.at..end {
+        out[place] = (low % 256) as u8;
+        low /= 256;
     }
-    Bits { low, count, at }
+    Bits {
+        low,
+        count: bits.count % 8,
+        at: end,
+    }
 }
 
 // A number's bits above the `count` bits that wait.
@@ -37,37 +38,28 @@ fn joined(low: u64, x: u32, count: usize) -> u64
     low + ((x as u64) << count)
 }
 
-// n numbers of w bits each, from number `from` on, written from place `at` on; answers the place after them.
-pub fn pack(numbers: &[u32], from: usize, n: usize, w: usize, out: &mut [u8], at: usize) -> usize
-    requires { (from + n ≤ length numbers.now) × (w ≤ 28) × (n ≤ 8) × (holds w (take n (drop from numbers.now)) ≡ true) ×
-        (at + (w * n + 7) / 8 ≤ length out.old) }
-    ensures { Wrote (part_of w (take n (drop from numbers.now))) at result out.old out.new }
+// Numbers of w bits each, eight at most, written from place `at` on; answers the place after them.
+pub fn pack(numbers: &[u32], w: usize, out: &mut [u8], at: usize) -> usize
+    requires { (w ≤ 28) × (length numbers.now ≤ 8) × (holds w numbers.now ≡ true) × (at + (w * length numbers.now + 7) / 8 ≤ length out.old) }
+    ensures { Wrote (part_of w numbers.now) at result out.old out.new }
 {
     let mut bits = Bits {
         low: 0,
         count: 0,
         at,
     };
-    let mut i = 0;
-    while i < n {
-        let low = joined(bits.low, numbers[from + i], bits.count);
-        bits = flush(
-            Bits {
-                low,
-                count: bits.count + w,
-                at: bits.at,
-            },
-            out,
-        );
-        i += 1;
-    }
-    flush(
-        Bits {
-            low: bits.low,
-            count: bits.count + 7,
+    for x in numbers {
+        let low = joined(bits.low, *x, bits.count);
+        let more = Bits {
+            low,
+            count: bits.count + w,
             at: bits.at,
-        },
-        out,
-    )
-    .at
+        };
+        bits = flush(more, out);
+    }
+    let last = Bits {
+        count: bits.count + 7,
+        ..bits
+    };
+    flush(last, out).at
 }

@@ -69,5 +69,5 @@ pub fn put_group(row: &[i32], from: usize, step: u32, out: &mut [u8]) -> usize
     let mut few = [0u32; 16];
     let n = bytes::some(row.len(), from, 16);
     values::fill(row, from, n, step, &mut few);
-    groups::put(&few, n, out, 0)
+    groups::put(&few[..n], out, 0)
 }

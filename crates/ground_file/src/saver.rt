@@ -6,15 +6,18 @@ ghost use Rattle.std.proofs.Math.Seq.{paste};
 ghost use Rattle.text.specs.Text.{Wrote};
 ghost use Rattle.ground_file.specs.Saving.{saver_at, row_of, step_of, piece_of, at_row, onward, start_of, rest_of, moved, begins, row_fits, row_divides};
 ghost use Rattle.ground_file.specs.Saving.{row_number};
-ghost use Rattle.ground_file.specs.Saving.{stop_of, Inside, Ran, plain, set_up_number, fresh, saver_fits, save_number, Saves};
+ghost use Rattle.ground_file.specs.Saving.{Inside, Ran, plain, set_up_number, fresh, saver_fits, save_number, Saves, of_saved};
+ghost use Rattle.refusal.specs.Numbers.{answer};
 
 use crate::{pieces, sums, values};
 use areas::ranges;
 use reader_order::Place;
+use refusal::Refusal;
 use text::bytes;
 use wavelet::shape::Shape;
 use wavelet::{limits, view};
 
+// Stays: `phase` is a number, since a caller's state array may hold any, and question 1 is asked of it.
 // A plane that is being saved. `phase` is the piece that is written: 0 the header, 1 group `group` of the row at `place`, 2 the checksum, 3 none; `part` bytes
 // of it are written, and `sum` is that of the pieces before it.
 #[derive(Clone, Copy)]
@@ -28,19 +31,11 @@ pub struct Saver {
     pub phase: usize,
 }
 
-// A saver and the place in the area after what it wrote.
+// A saver, and the place in the area after what it wrote: how many bytes a call wrote.
 #[derive(Clone, Copy)]
 pub struct Turn {
     pub saver: Saver,
     pub at: usize,
-}
-
-// What a saving call gives: 0 or the number of the question that turned it away, how many bytes it wrote, and the saver after them.
-#[derive(Clone, Copy)]
-pub struct Saved {
-    pub answer: u8,
-    pub written: usize,
-    pub saver: Saver,
 }
 
 pub const MAX_STEP: usize = 64;
@@ -81,27 +76,18 @@ fn phase_of(level: usize) -> usize
     if level == 0 { 2 } else { 1 }
 }
 
-// The same saver at another place.
-fn with(s: Saver, place: Place, group: usize, part: usize, sum: u64, phase: usize) -> Saver
-    ensures { result ≡ saver_at s.shape s.step place group part sum phase }
-{
-    let shape = s.shape;
-    Saver {
-        shape,
-        step: s.step,
-        place,
-        group,
-        part,
-        sum,
-        phase,
-    }
-}
-
 // The row at a place, from its first group on; the checksum where there is none.
 fn at_row(s: Saver, place: Place, sum: u64) -> Saver
     ensures { result ≡ at_row s place sum }
 {
-    with(s, place, 0, 0, sum, phase_of(place.level))
+    Saver {
+        place,
+        group: 0,
+        part: 0,
+        sum,
+        phase: phase_of(place.level),
+        ..s
+    }
 }
 
 // After a group of a row of so many values.
@@ -110,13 +96,17 @@ fn past_group(s: Saver, length: usize, sum: u64) -> Saver
     ensures { result ≡ pick (ltb (16 * (s.group + 1)) length) (saver_at s.shape s.step s.place (s.group + 1) 0 sum 1)
         (at_row s (next_place s.shape s.place) sum) }
 {
-    let shape = s.shape;
-    let place = s.place;
     let group = s.group + 1;
     if 16 * group < length {
-        return with(s, place, group, 0, sum, 1);
+        return Saver {
+            group,
+            part: 0,
+            sum,
+            phase: 1,
+            ..s
+        };
     }
-    at_row(s, reader_order::next(shape, place), sum)
+    at_row(s, reader_order::next(s.shape, s.place), sum)
 }
 
 // After the piece.
@@ -124,15 +114,19 @@ fn go_on(s: Saver, length: usize, sum: u64) -> Saver
     requires { Inside s }
     ensures { result ≡ onward s length sum }
 {
-    let shape = s.shape;
-    let place = s.place;
     if s.phase == 0 {
-        return at_row(s, reader_order::first(shape), sum);
+        return at_row(s, reader_order::first(s.shape), sum);
     }
     if s.phase == 1 {
         return past_group(s, length, sum);
     }
-    with(s, place, 0, 0, 0, 3)
+    Saver {
+        group: 0,
+        part: 0,
+        sum: 0,
+        phase: 3,
+        ..s
+    }
 }
 
 // Is a row to be begun?
@@ -169,38 +163,21 @@ fn divides(s: Saver, row: &[i32]) -> bool
     values::multiples(row, step)
 }
 
-// 7 or 22 where a row is to be begun that no file has; else 0.
-fn row_question(s: Saver, row: &[i32]) -> u8
+// 7 or 22 where a row is to be begun that no file has.
+fn row_question(s: Saver, row: &[i32]) -> Result<(), Refusal>
     requires { Inside s }
-    ensures { result ≡ row_number s row.now }
+    ensures { answer result ≡ row_number s row.now }
 {
     if !is_first(s) {
-        return 0;
+        return Ok(());
     }
     if !in_range(s, row) {
-        return 7;
+        return Err(Refusal::OutOfRange);
     }
     if !divides(s, row) {
-        return 22;
+        return Err(Refusal::NoFile);
     }
-    0
-}
-
-// Why the saver stops with so many bytes written of `room`: 1 no room is left or the file is over, 7 or 22; 0 where it goes on.
-fn stop_of(s: Saver, plane: &[i32], at: usize, room: usize) -> u8
-    requires { Inside s }
-    ensures { result ≡ stop_of s plane.now at room }
-{
-    if room <= at {
-        return 1;
-    }
-    if 3 <= s.phase {
-        return 1;
-    }
-    if !is_first(s) {
-        return 0;
-    }
-    row_question(s, row_of(s, plane))
+    Ok(())
 }
 
 // The first byte of a piece of n bytes that is not written.
@@ -224,39 +201,35 @@ fn write_some(s: Saver, row: &[i32], out: &mut [u8], at: usize) -> Turn
     let from = start_of(s.part, n);
     let m = bytes::copy(&area[..n], from, out, at);
     if from + m < n {
-        let place = s.place;
         return Turn {
-            saver: with(s, place, s.group, from + m, s.sum, s.phase),
+            saver: Saver {
+                part: from + m,
+                ..s
+            },
             at: at + m,
         };
     }
-    let sum = sums::sum_of(s.sum, &area, n);
+    let sum = sums::sum_of(s.sum, &area[..n]);
     Turn {
         saver: go_on(s, row.len(), sum),
         at: at + m,
     }
 }
 
-// Piece after piece, until the saver stops.
-fn run(s: Saver, plane: &[i32], out: &mut [u8]) -> Saved
+// Piece after piece, until the area is full, the file is over or a row is to be begun that no file has.
+fn run(s: Saver, plane: &[i32], out: &mut [u8]) -> Result<Turn, Refusal>
     requires { Inside s }
-    ensures { Ran s plane.now out.old out.new result }
+    ensures { Ran s plane.now out.old out.new (of_saved s result) }
 {
-    let room = out.len();
-    let mut saver = s;
-    let mut at = 0;
-    let mut stop = stop_of(s, plane, 0, room);
-    while stop == 0 {
-        let t = write_some(saver, row_of(saver, plane), out, at);
-        saver = t.saver;
-        at = t.at;
-        stop = stop_of(saver, plane, at, room);
+    let mut turn = Turn { saver: s, at: 0 };
+    while turn.at < out.len() && turn.saver.phase < 3 {
+        let row = row_of(turn.saver, plane);
+        if let Err(why) = row_question(turn.saver, row) {
+            return if turn.at == 0 { Err(why) } else { Ok(turn) };
+        }
+        turn = write_some(turn.saver, row, out, turn.at);
     }
-    Saved {
-        answer: if (at == 0) & (1 < stop) { stop } else { 0 },
-        written: at,
-        saver,
-    }
+    Ok(turn)
 }
 
 // Is a step of 1, or of a map by the 5/3 at origin 0?
@@ -275,30 +248,30 @@ fn is_plain(s: Shape, step: usize) -> bool
     s.filter == 0
 }
 
-// Questions 2, 3, 18, 4, 20 and 22 of a shape and a step: 0, or the number of the first that says no.
-pub fn set_up_question(s: Shape, step: usize) -> u8
-    ensures { result ≡ set_up_number s step }
+// Questions 2, 3, 18, 4, 20 and 22 of a shape and a step.
+pub fn set_up_question(s: Shape, step: usize) -> Result<(), Refusal>
+    ensures { answer result ≡ set_up_number s step }
 {
     let filter = s.filter as usize;
     if !limits::is_within(s.width, limits::MAX_WIDTH) {
-        return 2;
+        return Err(Refusal::BadWidth);
     }
     if !limits::is_within(s.height, limits::MAX_HEIGHT) {
-        return 3;
+        return Err(Refusal::BadHeight);
     }
     if !filters::is_filter(filter) {
-        return 18;
+        return Err(Refusal::BadFilter);
     }
     if !limits::is_within(s.levels, filters::most_levels(filter)) {
-        return 4;
+        return Err(Refusal::BadLevels);
     }
     if !limits::is_within(step, MAX_STEP) {
-        return 20;
+        return Err(Refusal::BadStep);
     }
     if !is_plain(s, step) {
-        return 22;
+        return Err(Refusal::NoFile);
     }
-    0
+    Ok(())
 }
 
 // A saver that has written nothing.
@@ -325,8 +298,7 @@ pub fn begin(s: Shape, step: usize) -> Saver
 fn counts_fit(s: Saver) -> bool
     ensures { result ≡ saver_fits s }
 {
-    let shape = s.shape;
-    if set_up_question(shape, s.step) != 0 {
+    if set_up_question(s.shape, s.step).is_err() {
         return false;
     }
     if 3 < s.phase {
@@ -342,31 +314,23 @@ fn counts_fit(s: Saver) -> bool
 }
 
 // Questions 1 and 5, of a plane of n numbers.
-fn question(s: Saver, n: usize) -> u8
-    ensures { result ≡ save_number s n }
+fn question(s: Saver, n: usize) -> Result<(), Refusal>
+    ensures { answer result ≡ save_number s n }
 {
     if !counts_fit(s) {
-        return 1;
+        return Err(Refusal::BadState);
     }
-    let shape = s.shape;
-    if n < shape.width * shape.height {
-        return 5;
+    if n < s.shape.width * s.shape.height {
+        return Err(Refusal::AreaShort);
     }
-    0
+    Ok(())
 }
 
 // The next bytes of the plane's file, as many as there is room for. The questions are 1 and 5; before a row is begun 7 and 22: the call ends before that row,
-// and answers the number if it has written nothing.
-pub fn save(s: Saver, plane: &[i32], out: &mut [u8]) -> Saved
-    ensures { Saves s plane.now out.old out.new result }
+// and is turned away if it has written nothing. What is turned away has written nothing.
+pub fn save(s: Saver, plane: &[i32], out: &mut [u8]) -> Result<Turn, Refusal>
+    ensures { Saves s plane.now out.old out.new (of_saved s result) }
 {
-    let no = question(s, plane.len());
-    if no != 0 {
-        return Saved {
-            answer: no,
-            written: 0,
-            saver: s,
-        };
-    }
+    question(s, plane.len())?;
     run(s, plane, out)
 }

@@ -1,6 +1,6 @@
 // The checksum: bytes as one number, the first highest, modulo a prime. Four bytes at a time, since each step waits for the division of the one before. The
 // module is private, as `parts` is.
-ghost use Rattle.std.specs.Prelude.{◌≡◌, ◌+◌, ◌-◌, ◌*◌, ◌^◌, ◌%◌, ◌≤◌, ◌<◌, length, take, drop};
+ghost use Rattle.std.specs.Prelude.{◌≡◌, ◌+◌, ◌*◌, ◌^◌, ◌%◌, ◌≤◌, ◌<◌, length, take, drop};
 ghost use Rattle.ground_file.specs.File.{as_number, prime};
 
 pub const PRIME: u64 = 4293501227;
@@ -22,33 +22,29 @@ fn sum_fours(sum: u64, bytes: &[u8], m: usize) -> u64
     ensures { (result ≡ as_number sum (take (4 * m) bytes.now) % prime) × (result < prime) }
 {
     let mut r = sum;
-    let mut i = 0;
-    while i < m {
+    for i in 0..m {
         r = (4294967296 * r + four(bytes, 4 * i)) % PRIME;
-        i += 1;
     }
     r
 }
 
-// The sum of bytes that are followed by bytes k to n of these.
-fn sum_rest(sum: u64, bytes: &[u8], k: usize, n: usize) -> u64
-    requires { (k ≤ n) × (n ≤ length bytes.now) × (sum < prime) }
-    ensures { result ≡ as_number sum (take (n - k) (drop k bytes.now)) % prime }
+// The sum of bytes that are followed by these.
+fn sum_rest(sum: u64, bytes: &[u8]) -> u64
+    requires { sum < prime }
+    ensures { result ≡ as_number sum bytes.now % prime }
 {
     let mut r = sum;
-    let mut i = k;
-    while i < n {
-        r = (256 * r + bytes[i] as u64) % PRIME;
-        i += 1;
+    for byte in bytes {
+        r = (256 * r + *byte as u64) % PRIME;
     }
     r
 }
 
-// The sum of bytes that are followed by the first n of these.
-pub fn sum_of(sum: u64, bytes: &[u8], n: usize) -> u64
-    requires { (n ≤ length bytes.now) × (sum < prime) }
-    ensures { result ≡ as_number sum (take n bytes.now) % prime }
+// The same, most of it four bytes at a time.
+pub fn sum_of(sum: u64, bytes: &[u8]) -> u64
+    requires { sum < prime }
+    ensures { result ≡ as_number sum bytes.now % prime }
 {
-    let m = n / 4;
-    sum_rest(sum_fours(sum, bytes, m), bytes, 4 * m, n)
+    let m = bytes.len() / 4;
+    sum_rest(sum_fours(sum, bytes, m), &bytes[4 * m..])
 }

@@ -22,7 +22,7 @@ fn magnitude(v: i32) -> u32
 fn sign(v: i32) -> u32
     ensures { result ≡ sign_of v }
 {
-    if v < 0 { 1 } else { 0 }
+    u32::from(v < 0)
 }
 
 fn divided(m: u32, step: u32) -> u32
@@ -45,10 +45,8 @@ pub fn fill(row: &[i32], from: usize, n: usize, step: u32, numbers: &mut [u32])
     requires { (n ≤ length row.now - from) × (n ≤ length numbers.old) × (1 ≤ step) }
     ensures { take n numbers.new ≡ listed n (λ i. kept step (at row.now (from + i))) }
 {
-    let mut i = 0;
-    while i < n {
+    for i in 0..n {
         numbers[i] = number_of(row[from + i], step);
-        i += 1;
     }
 }
 
@@ -65,11 +63,5 @@ pub fn multiples(row: &[i32], step: u32) -> bool
     requires { 1 ≤ step }
     ensures { result ≡ every (length row.now) (λ i. is_multiple step (at row.now i)) }
 {
-    let mut ok = true;
-    let mut i = 0;
-    while i < row.len() {
-        ok = ok & is_multiple(row[i], step);
-        i += 1;
-    }
-    ok
+    row.iter().all(|v| is_multiple(*v, step))
 }

@@ -25,6 +25,12 @@ use Rattle.ground_loader.specs.declared.loader.Loader.{Loader}
 use Rattle.ground_loader.specs.Coming.{between}
 use Rattle.ground_loader.specs.Loader.{reader_wants, second_fits, part_fits, standing, is_none, coming_after, loader_fits, take_question, row_needs}
 use Rattle.ground_loader.specs.Loader.{bytes_wanted, is_over, most_step}
+use Rattle.std.proofs.Common.{Result, Ok, Err}
+use Rattle.std.specs.Result.{is_ok}
+use Rattle.refusal.specs.declared.Refusal.{Refusal}
+use Rattle.reader.specs.declared.Wanted.{Wanted}
+use Rattle.reader.specs.declared.Wanted.TheVariants as wanted
+use Rattle.reader.specs.Answers.{of_wanted}
 use Rattle.ground_loader.specs.Local.{is_given}
 use Rattle.ground_loader.proofs.ReaderLaws.{given_is, levels-some}
 
@@ -151,6 +157,13 @@ module _ (m : ℕ) (c : Coming) where
   stand-part h e = rw (ne_eqb c.phase 0 h) e
 
 -- ---- question 1
+pub ok-given : (w : Result Wanted Refusal) → is_ok w ≡ is_given (of_wanted w)
+ok-given (Ok (wanted.Row k b r n)) = refl
+ok-given (Ok wanted.Draw) = refl
+ok-given (Ok wanted.Done) = refl
+ok-given (Ok wanted.Ended) = refl
+ok-given (Err why) = refl
+
 pub loader-is : (l : Loader) (t i e : Bool) (a : ℕ)
     → t ≡ is_given (reading.want_reply l.reader (reading.want_question l.reader))
     → i ≡ within 1 1 l.step

@@ -9,15 +9,15 @@ use lib.IntN.{ℤ}
 use lib.Dec.{ltb, leb, eqb}
 use lib.Pow.{pow_pos, pow_mono}
 use borrow.Author.Tests.{lt-ltb, le-ltb, eq-eqb, ne_eqb}
+use Rattle.std.proofs.Common.{Some, None}
 use Rattle.numbers.specs.Signal.{pick, spliced}
 use Rattle.ground_file.specs.Groups.{width_of, code_of}
 use Rattle.ground_loader.specs.declared.rows.Coming.{Coming}
 use Rattle.ground_loader.specs.declared.rows.Seen.{Seen}
-use Rattle.ground_loader.specs.declared.rows.Took.{Took}
 use Rattle.ground_loader.specs.Numbers.{value_of, number_at, numbers_in, greatest}
 use Rattle.ground_loader.specs.Coming.{put, part_size, between, opened, second, second_put, grouped, group_put, group_refused}
 use Rattle.ground_loader.specs.Coming.{seen_bits, whole_of, seen_of, part_refused, stayed, deinterleaved, ends_first, part_stored, part_put}
-use Rattle.ground_loader.specs.Coming.{refused, moved, put_on, took_of, InPart}
+use Rattle.ground_loader.specs.Coming.{refused, moved, put_on, next_of, InPart}
 use Rattle.ground_loader.proofs.SmallestLaws.{widest, some-width}
 
 -- ---- the second part
@@ -205,30 +205,24 @@ module _ (c : Coming) (s : Seen) where
 
 -- ---- a byte
 module _ (n : ℕ) (c : Coming) (b : ℕ) where
-  abbrev away : Took
-  away = record { answer = 22; coming = c }
-
-  abbrev on : Coming → Took
-  on r = record { answer = 0; coming = r }
-
   -- where the test t, which is that of the phase, says yes or no
-  took-no : {t : Bool} → t ≡ refused n c b → t ≡ true → away ≡ took_of n c b
-  unfolding took_of
+  took-no : {t : Bool} → t ≡ refused n c b → t ≡ true → None ≡ next_of n c b
+  unfolding next_of
   took-no e h = rw (sym e ∙ h) refl
 
-  took-yes : {t : Bool} {r : Coming} → t ≡ refused n c b → t ≡ false → r ≡ moved n c b → on r ≡ took_of n c b
-  unfolding took_of
-  took-yes e h g = rw (sym e ∙ h) (ap on g)
+  took-yes : {t : Bool} {r : Coming} → t ≡ refused n c b → t ≡ false → r ≡ moved n c b → Some r ≡ next_of n c b
+  unfolding next_of
+  took-yes e h g = rw (sym e ∙ h) (ap Some g)
 
   module _ (z : c.phase ≡ 0) where
     at-group : {t : Bool} → t ≡ group_refused n c.done b → t ≡ refused n c b
     unfolding refused
     at-group e = rw (eq-eqb c.phase 0 z) e
 
-    pub group-away : {t : Bool} → t ≡ group_refused n c.done b → t ≡ true → away ≡ took_of n c b
+    pub group-away : {t : Bool} → t ≡ group_refused n c.done b → t ≡ true → None ≡ next_of n c b
     group-away e h = took-no (at-group e) h
 
-    pub group-on : {t : Bool} {r : Coming} → t ≡ group_refused n c.done b → t ≡ false → r ≡ grouped n c.done b → on r ≡ took_of n c b
+    pub group-on : {t : Bool} {r : Coming} → t ≡ group_refused n c.done b → t ≡ false → r ≡ grouped n c.done b → Some r ≡ next_of n c b
     unfolding moved
     group-on e h f = took-yes (at-group e) h (rw (eq-eqb c.phase 0 z) f)
 
@@ -254,10 +248,10 @@ module _ (n : ℕ) (c : Coming) (b : ℕ) where
       unfolding refused
       at_part e = rw (ne_eqb c.phase 0 (λ v. omega arith)) (e ∙ ap (part_refused c) is)
 
-      pub part-away : {t : Bool} → t ≡ part_refused c s → t ≡ true → away ≡ took_of n c b
+      pub part-away : {t : Bool} → t ≡ part_refused c s → t ≡ true → None ≡ next_of n c b
       part-away e h = took-no (at_part e) h
 
-      pub part-on : {t : Bool} {r : Coming} → t ≡ part_refused c s → t ≡ false → r ≡ deinterleaved n c s → on r ≡ took_of n c b
+      pub part-on : {t : Bool} {r : Coming} → t ≡ part_refused c s → t ≡ false → r ≡ deinterleaved n c s → Some r ≡ next_of n c b
       part-on e h f = took-yes (at_part e) h (f ∙ ap (deinterleaved n c) is ∙ sym part_moved)
 
       pub part-put : (x : ℕ → ℤ) {y : ℕ → ℤ} → y ≡ part_put n c s x → y ≡ put_on n c b x
@@ -265,19 +259,18 @@ module _ (n : ℕ) (c : Coming) (b : ℕ) where
       part-put x g = rw (ne_eqb c.phase 0 (λ v. omega arith)) (g ∙ ap (λ v. part_put n c v x) is)
 
 -- what a taken byte is
-pub took-away : (n : ℕ) (c : Coming) (b : ℕ) → ((took_of n c b).answer ≡ 0 → ⊥) → refused n c b ≡ true
-unfolding took_of
+pub took-away : (n : ℕ) (c : Coming) (b : ℕ) → next_of n c b ≡ None → refused n c b ≡ true
+unfolding next_of
 took-away n c b h = go (refused n c b) h
   where
-    go : (t : Bool) → ((pick t (away n c b) (on n c b (moved n c b))).answer ≡ 0 → ⊥) → t ≡ true
+    go : (t : Bool) → pick t None (Some (moved n c b)) ≡ None → t ≡ true
     go true h = refl
-    go false h = absurd (h refl)
+    go false h = cc
 
-pub took-on : (n : ℕ) (c : Coming) (b : ℕ) → (took_of n c b).answer ≡ 0 → (refused n c b ≡ false) × ((took_of n c b).coming ≡ moved n c b)
-unfolding took_of
-took-on n c b h = go (refused n c b) h
+pub took-on : (n : ℕ) (c : Coming) (b : ℕ) (v : Coming) → next_of n c b ≡ Some v → (refused n c b ≡ false) × (v ≡ moved n c b)
+unfolding next_of
+took-on n c b v h = go (refused n c b) h
   where
-    go : (t : Bool) → (pick t (away n c b) (on n c b (moved n c b))).answer ≡ 0
-        → (t ≡ false) × ((pick t (away n c b) (on n c b (moved n c b))).coming ≡ moved n c b)
-    go true h = absurd (omega arith)
-    go false h = (refl, refl)
+    go : (t : Bool) → pick t None (Some (moved n c b)) ≡ Some v → (t ≡ false) × (v ≡ moved n c b)
+    go true h = cc
+    go false h = (refl, cc)

@@ -1,10 +1,12 @@
 -- Behind the loops over the numbers in some bits: the lowest bits, the largest number, the numbers stored (`Storing`). Assumes nothing.
 use mathlib.Core.Path.{◌≡◌, refl, sym, ap, ◌∙◌, subst}
 use mathlib.Core.List.{List, ◌∷◌}
-use Prim.Native.Nat.{ℕ, suc, ◌+◌, ◌*◌, ◌-◌, ◌/◌, ◌%◌, ◌^◌, ◌≤◌, ◌<◌}
+use Prim.Native.Nat.{ℕ, suc, ◌+◌, ◌*◌, ◌-◌, ◌/◌, ◌%◌, ◌^◌, ◌≤◌, ◌<◌, max}
 use native.Mathlib.Nat.{mul-suc, mul-zero, div-one, mod-lt, lt_of_lt_of_le}
 use native.Mathlib.Omega.{arith}
+use native.Mathlib.Decide.{dec_lt}
 use lib.IntN.{ℤ, pos, negsuc, ◌-ℤ◌}
+use lib.Dec.{ltb}
 use lib.ListN.{length, set}
 use lib.Pow.{split, shr-shr, pow_pos, pow_mono}
 use borrow.Author.Tests.{lt-ltb, le-ltb, eq-eqb, ne_eqb}
@@ -54,13 +56,15 @@ module _ (w k b : ℕ) (i m x : ℕ) (h : i < k) (is : x ≡ b % 2 ^ w) where
   unfolding numbers_in
   one-more = let e : k - i ≡ suc (k - (i + 1)) = omega arith in rw (e, is) refl
 
-  pub greatest-more : m < x → greatest m (numbers_in w (k - i) b) ≡ greatest x (numbers_in w (k - (i + 1)) (b / 2 ^ w))
+  pub greatest-next : greatest m (numbers_in w (k - i) b) ≡ greatest (max m x) (numbers_in w (k - (i + 1)) (b / 2 ^ w))
   unfolding greatest
-  greatest-more p = ap (greatest m) one-more ∙ ap (λ t. greatest (pick t x m) (numbers_in w (k - (i + 1)) (b / 2 ^ w))) (lt-ltb m x p)
-
-  pub greatest-less : x ≤ m → greatest m (numbers_in w (k - i) b) ≡ greatest m (numbers_in w (k - (i + 1)) (b / 2 ^ w))
-  unfolding greatest
-  greatest-less p = ap (greatest m) one-more ∙ ap (λ t. greatest (pick t x m) (numbers_in w (k - (i + 1)) (b / 2 ^ w))) (le-ltb m x p)
+  greatest-next = ap (greatest m) one-more ∙ ap (λ v. greatest v (numbers_in w (k - (i + 1)) (b / 2 ^ w))) larger
+    where
+      larger : pick (ltb m x) x m ≡ max m x
+      larger = elim (dec_lt m x) [
+        | yes p ↦ rw (lt-ltb m x p) (omega arith)
+        | no p ↦ rw (le-ltb m x (omega arith)) (omega arith)
+      ]
 
 pub greatest-end : (w k i b m : ℕ) → k ≤ i → greatest m (numbers_in w (k - i) b) ≡ m
 unfolding numbers_in greatest

@@ -1,24 +1,25 @@
 -- Behind the loop over a run of bytes: what is left to do is the same from turn to turn (`Running`), and at its end it is done. Assumes nothing.
 use mathlib.Core.Path.{◌≡◌, refl, sym, ap, ◌∙◌, subst}
-use mathlib.Core.Bool.{Bool, true, false, ◌&&◌}
+use mathlib.Core.Bool.{Bool, true, false}
 use mathlib.Core.List.{List, [], ◌∷◌}
 use Prim.Native.Nat.{ℕ, zero, suc, ◌+◌, ◌-◌, ◌≤◌, ◌<◌}
 use native.Mathlib.Omega.{arith}
 use lib.IntN.{ℤ}
 use lib.Dec.{ltb, eqb}
 use lib.ListN.{length, get_or, drop}
-use borrow.Author.Tests.{eq-eqb, ne_eqb, eqb-true, eqb-false, ltb-true, ltb-false}
+use Rattle.std.proofs.Common.{Err}
+use borrow.Author.Tests.{lt-ltb, eq-eqb, ne_eqb, eqb-true, eqb-false, ltb-true, ltb-false}
 use Rattle.numbers.specs.Signal.{pick, both}
 use Rattle.numbers.proofs.Sweep.{both as halves}
 use Rattle.ground_loader.specs.declared.loader.Loader.{Loader}
 use Rattle.ground_loader.specs.declared.loader.Due.{Due}
-use Rattle.ground_loader.specs.declared.loader.Step.{Step}
+use Rattle.ground_loader.specs.declared.loader.Stop.{Stop}
+use Rattle.ground_loader.specs.declared.loader.Stop.TheVariants as stop
 use Rattle.ground_loader.specs.Loader.{World, world_of, Byte, byte_of, Ran, stopped, ran_on, ran, bytes_wanted}
 use Rattle.ground_loader.specs.Loader.{passed, impossible, turned, ran_answer}
-use Rattle.ground_loader.specs.Local.{due_of, Sound, Areas, Onward, Became, took, over, ToldOf}
+use Rattle.ground_loader.specs.Local.{Step, stop_number, stop_loader, of_step, due_of, Sound, Areas, Onward, Became, took, over, ToldOf}
 use Rattle.ground_loader.specs.Local as local
 use Rattle.ground_loader.proofs.DueLaws.{bytes-yes, bytes-no}
-use Rattle.ground_loader.proofs.AskLaws.{and_both}
 
 -- ---- what a call answers
 module _ (q k : ℕ) (l : Loader) where
@@ -26,23 +27,26 @@ module _ (q k : ℕ) (l : Loader) where
   unfolding ran_answer
   told-14 e x y = sym (λ i. pick (eq-eqb q 14 e i) (impossible k l) (pick (both (eqb k 0) (ltb 0 q)) (turned q) (passed k l)))
 
-  pub told-turned : (q ≡ 14 → ⊥) → (eqb k 0 && ltb 0 q) ≡ true → ToldOf q k l (turned q)
+  pub told-turned : (q ≡ 14 → ⊥) → 0 < q → k ≡ 0 → ToldOf q k l (turned q)
   unfolding ran_answer
-  told-turned e f x y =
-      let both_true : both (eqb k 0) (ltb 0 q) ≡ true = sym (and_both (eqb k 0) refl) ∙ f in
-      sym (λ i. pick (ne_eqb q 14 e i) (impossible k l) (pick (both_true i) (turned q) (passed k l)))
+  told-turned e h z x y =
+      sym (λ i. pick (ne_eqb q 14 e i) (impossible k l) (pick (both (eq-eqb k 0 z i) (lt-ltb 0 q h i)) (turned q) (passed k l)))
 
-  pub told-passed : (q ≡ 14 → ⊥) → (eqb k 0 && ltb 0 q) ≡ false → ToldOf q k l (passed k l)
+  pub told-passed : (q ≡ 14 → ⊥) → (0 < q → k ≡ 0 → ⊥) → ToldOf q k l (passed k l)
   unfolding ran_answer
-  told-passed e f x y =
-      let both_false : both (eqb k 0) (ltb 0 q) ≡ false = sym (and_both (eqb k 0) refl) ∙ f in
-      sym (λ i. pick (ne_eqb q 14 e i) (impossible k l) (pick (both_false i) (turned q) (passed k l)))
+  told-passed e h x y =
+      sym (λ i. pick (ne_eqb q 14 e i) (impossible k l) (pick (none (eqb k 0) refl (ltb 0 q) refl i) (turned q) (passed k l)))
+    where
+      none : (t : Bool) → eqb k 0 ≡ t → (u : Bool) → ltb 0 q ≡ u → both t u ≡ false
+      none false e u f = refl
+      none true e false f = refl
+      none true e true f = absurd (h (ltb-true 0 q f) (eqb-true k 0 e))
 
 -- ---- the run
 abbrev plus : ℕ → Ran → Ran
 plus k r = record { count = k + r.count; why = r.why; world = r.world }
 
-abbrev stopping : ℕ → ℕ → World → Ran
+abbrev pub stopping : ℕ → ℕ → World → Ran
 stopping k q w = record { count = k; why = q; world = w }
 
 drop_at : (k : ℕ) (l : List ℕ) → k < length l → drop k l ≡ get_or l k 0 ∷ drop (k + 1) l
@@ -96,7 +100,7 @@ module _ {n m : ℕ} {bs : List ℕ} {w₀ : World} {l : Loader} {d : Due} {k q 
   pub turn_in : k < length bs
   turn_in = going.2
 
-  pub turn-zero : q ≡ 0
+  turn-zero : q ≡ 0
   turn-zero = going.0
 
   -- what is left begins with the byte
@@ -166,18 +170,6 @@ module _ {n m : ℕ} {bs : List ℕ} {w₀ : World} {l : Loader} {d : Due} {k q 
             areas = λ f. absurd (off f);
           }
 
--- the measure: bytes left, and one more while none was turned away
-pub left : ℕ → ℕ → ℕ → ℕ
-left n k q = n - k + pick (eqb q 0) 1 0
-
-pub less : (n k q a e : ℕ) → k < n → q ≡ 0 → e ≡ pick (eqb a 0) 1 0 → left n (k + e) a < left n k q
-unfolding left
-less n k q a e h z ee = go (eqb a 0) ee
-  where
-    go : (t : Bool) → e ≡ pick t 1 0 → n - (k + e) + pick t 1 0 < n - k + pick (eqb q 0) 1 0
-    go true f = let g : ◌≡◌ {A = ℕ} (pick (eqb q 0) 1 0) 1 = λ i. pick (eq-eqb q 0 z i) 1 0 in omega (arith, f, g)
-    go false f = let g : ◌≡◌ {A = ℕ} (pick (eqb q 0) 1 0) 1 = λ i. pick (eq-eqb q 0 z i) 1 0 in omega (arith, f, g)
-
 -- at the end
 pub running-end : {n m : ℕ} {bs : List ℕ} {w₀ : World} {l : Loader} {d : Due} {k q : ℕ} {x y : ℕ → ℤ} → Running n m bs w₀ l d k q x y
     → both (eqb q 0) (both (ltb d.phase 3) (ltb k (length bs))) ≡ false → ran n bs w₀ ≡ stopping k q (world_of l x y)
@@ -203,9 +195,36 @@ running-end {n} {m} {bs} {w₀} {l} {d} {k} {q} {x} {y} r e =
         no : true ≡ false → ⊥
         no f = let z : ◌≡◌ {A = ℕ} 1 0 = ap (λ t. pick t 1 0) f in omega (arith, z)
 
-pub one-le : (a e : ℕ) → e ≡ pick (eqb a 0) 1 0 → e ≤ 1
-one-le a e f = go (eqb a 0) f
+-- ---- turn by turn
+pub goes-by : (d : Due) (k n : ℕ) → d.phase < 3 → k < n → both (eqb 0 0) (both (ltb d.phase 3) (ltb k n)) ≡ true
+goes-by d k n h g = rw (lt-ltb d.phase 3 h, lt-ltb k n g) refl
+
+stop-none : (s : Stop) → ◌≡◌ {A = ℕ} 0 (pick (eqb (stop_number s) 0) 1 0)
+stop-none stop.NoFile = refl
+stop-none stop.OutOfRange = refl
+stop-none (stop.Ended k) = refl
+
+stop-some : (s : Stop) → stop_number s ≡ 0 → ⊥
+stop-some stop.NoFile e = omega arith
+stop-some stop.OutOfRange e = omega arith
+stop-some (stop.Ended k) e = omega arith
+
+-- a byte that was not taken ends it
+pub turn-stopped : {n m : ℕ} {bs : List ℕ} {w₀ : World} {l : Loader} {d : Due} {k : ℕ} {x y : ℕ → ℤ} → Running n m bs w₀ l d k 0 x y
+    → both (eqb 0 0) (both (ltb d.phase 3) (ltb k (length bs))) ≡ true → (s : Stop) (b n' : ℕ) (x' y' : ℕ → ℤ) → b ≡ get_or bs k 0 → n' ≡ n
+    → Became (world_of l x y) (of_step l d (Err s)) x' y' (byte_of (world_of l x y) n' b) → Onward l (of_step l d (Err s))
+    → ran n bs w₀ ≡ stopping k (stop_number s) (world_of (stop_loader l s) x' y')
+turn-stopped {n} {m} {bs} {w₀} {l} {d} {k} {x} {y} r goes s b n' x' y' eb en g o =
+    let t = turn r goes (of_step l d (Err s)) b 0 n' x' y' eb en g o (stop-none s) in
+    let same : k + 0 ≡ k = omega arith in
+    t.stop (stop-some s) ∙ ap (λ v. stopping v (stop_number s) (world_of (stop_loader l s) x' y')) same
+
+-- no byte is wanted, or the run is used up
+pub run-over : {n m : ℕ} {bs : List ℕ} {w₀ : World} {l : Loader} {d : Due} {k : ℕ} {x y : ℕ → ℤ} → Running n m bs w₀ l d k 0 x y
+    → (d.phase < 3 → k < length bs → ⊥) → ran n bs w₀ ≡ stopping k 0 (world_of l x y)
+run-over {bs = bs} {d = d} {k = k} r h = running-end r (none (ltb d.phase 3) refl (ltb k (length bs)) refl)
   where
-    go : (t : Bool) → e ≡ pick t 1 0 → e ≤ 1
-    go true g = omega arith
-    go false g = omega arith
+    none : (t : Bool) → ltb d.phase 3 ≡ t → (u : Bool) → ltb k (length bs) ≡ u → both t u ≡ false
+    none false e u f = refl
+    none true e false f = refl
+    none true e true f = absurd (h (ltb-true d.phase 3 e) (ltb-true k (length bs) f))

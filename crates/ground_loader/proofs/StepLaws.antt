@@ -18,11 +18,10 @@ use Rattle.ground_file.specs.File.{header_of, prime}
 use Rattle.ground_loader.specs.declared.rows.Coming.{Coming}
 use Rattle.ground_loader.specs.declared.loader.Loader.{Loader}
 use Rattle.ground_loader.specs.declared.loader.Due.{Due}
-use Rattle.ground_loader.specs.declared.loader.Step.{Step}
 use Rattle.ground_loader.specs.Coming.{between, refused, moved, put_on}
 use Rattle.ground_loader.specs.Loader.{World, world_of, loader_at, shape_of, taken, away, ends, sum_on, is_over}
 use Rattle.ground_loader.specs.Loader.{header_byte, tail_byte, feed_byte, row_byte, row_over, fed_number, fed_store}
-use Rattle.ground_loader.specs.Local.{plain_due, due_of, Stands, Sound, Onward, Became, took, turned, over, FedStep, passed, ended, none, HeaderTaken}
+use Rattle.ground_loader.specs.Local.{Step, plain_due, due_of, Stands, Sound, Onward, Became, took, turned, over, FedStep, passed, ended, HeaderTaken}
 use Rattle.ground_loader.specs.Local.{TailTaken}
 use Rattle.ground_loader.proofs.SumLaws.{prime-some, sum-bytes}
 use Rattle.ground_loader.proofs.StandLaws.{byte-on}
@@ -145,12 +144,6 @@ module _ (l : Loader) (d : Due) (b : ℕ) (s : Sound l d) (z : d.phase ≡ 1) (q
       ek' : k ≡ to
       ek' = ek ∙ ap (λ v. loader_at r l.step l.header v l.sum l.tail) ec
 
-  pub fed-none : (a : answer.Reply Reader) (p : ℕ) (t : Step) → a ≡ feed_reply l.reader q → a ≡ answer.refused p → t ≡ refusing p l d
-      → FedStep l b t (feed_reply l.reader q) × Onward l t
-  fed-none a p t ea er is =
-      subst (λ t. FedStep l b t (feed_reply l.reader q) × Onward l t) (sym is)
-      (subst (FedStep l b (refusing p l d)) (sym er ∙ ea) (none p), stays l d p s)
-
 -- ---- a byte of a row
 module _ (l : Loader) (x y : ℕ → ℤ) (n b c m : ℕ) where
   abbrev w : World
@@ -186,31 +179,27 @@ module _ (l : Loader) (x y : ℕ → ℤ) (n b c m : ℕ) where
   -- the row over was fed: v is what was fed, x' and y' what stands in the areas
   pub row-fed : (t : Step) (v x' y' : ℕ → ℤ) → refused m l.coming b ≡ false → is_over m (moved m l.coming b) ≡ true → v ≡ windowed 0 m (row_over w n b c m)
       → y' ≡ row_over w n b c m → x' ≡ feed_store l.reader (feed_question l.reader n x m v) v x
-      → ((q : ℕ) → feed_reply l.reader (feed_question l.reader n x m v) ≡ answer.refused q → ⊥)
       → FedStep l b t (feed_reply l.reader (feed_question l.reader n x m v)) → Became w t x' y' (row_byte w n b c m)
   unfolding feed_byte
-  row-fed t v x' y' e f ev ey ex never g =
+  row-fed t v x' y' e f ev ey ex g =
       let number : feed_question l.reader n x m v ≡ fed_number w n b c m = ap (feed_question l.reader n x m) ev in
       let store : x' ≡ fed_store w n b c m = ex ∙ (λ i. feed_store l.reader (number i) (ev i) x) in
       subst (Became w t x' y') (sym (row_last e f ∙ ap (λ q. feed_byte w n b c m (feed_reply l.reader q)) (sym number)))
-      (go store g never)
+      (go store g)
     where
-      go : {a : answer.Reply Reader} → x' ≡ fed_store w n b c m → FedStep l b t a → ((q : ℕ) → a ≡ answer.refused q → ⊥)
-          → Became w t x' y' (feed_byte w n b c m a)
-      go store (passed r ea el) never = subst (Became w t x' y') (λ i. taken (world_of (el i) (store i) (ey i))) (took ea)
-      go store (ended r ea el) never = subst (Became w t x' y') (λ i. ends (world_of (el i) (store i) (ey i))) (over ea)
-      go store (none q) never = absurd (never q refl)
+      go : {a : answer.Reply Reader} → x' ≡ fed_store w n b c m → FedStep l b t a → Became w t x' y' (feed_byte w n b c m a)
+      go store (passed r ea el) = subst (Became w t x' y') (λ i. taken (world_of (el i) (store i) (ey i))) (took ea)
+      go store (ended r ea el) = subst (Became w t x' y') (λ i. ends (world_of (el i) (store i) (ey i))) (over ea)
 
   -- the same where the length of what was fed is m by an equation
   pub row-fed-by : (t : Step) (m' : ℕ) (v x' y' : ℕ → ℤ) → m' ≡ m → refused m l.coming b ≡ false → is_over m (moved m l.coming b) ≡ true
-      → v ≡ windowed 0 m (row_over w n b c m) → y' ≡ row_over w n b c m →
-      ((q : ℕ) → feed_reply l.reader (feed_question l.reader n x m v) ≡ answer.refused q → ⊥)
+      → v ≡ windowed 0 m (row_over w n b c m) → y' ≡ row_over w n b c m
       → x' ≡ feed_store l.reader (feed_question l.reader n x m' v) v x → FedStep l b t (feed_reply l.reader (feed_question l.reader n x m' v))
       → Became w t x' y' (row_byte w n b c m)
-  row-fed-by t m' v x' y' em e f ev ey never =
+  row-fed-by t m' v x' y' em e f ev ey =
       subst
       (λ u. x' ≡ feed_store l.reader (feed_question l.reader n x u v) v x → FedStep l b t (feed_reply l.reader (feed_question l.reader n x u v))
-      → Became w t x' y' (row_byte w n b c m)) (sym em) (λ ex g. row-fed t v x' y' e f ev ey ex never g)
+      → Became w t x' y' (row_byte w n b c m)) (sym em) (λ ex g. row-fed t v x' y' e f ev ey ex g)
 
   -- a byte that does not end the row
   pub row_on : (d : Due) (u : ℕ) (v : Coming) (y' : ℕ → ℤ) (k : Loader) (t : Step) → b < 256 → Sound l d → d.phase ≡ 1 → m ≡ d.count

@@ -1,11 +1,10 @@
--- A band row of n numbers, byte by byte as it comes in: what a byte makes of what came (`took_of`) and of the values (`put_on`), and where it is turned away
+-- A band row of n numbers, byte by byte as it comes in: what a byte makes of what came (`next_of`) and of the values (`put_on`), and where it is turned away
 -- (`refused`).
-use Rattle.std.specs.Prelude.{◌≡◌, Bool, true, false, not, [], ◌∷◌, ℕ, ◌+◌, ◌*◌, ◌-◌, ◌/◌, ◌%◌, ◌^◌, ◌≤◌, ◌<◌, min, ℤ, ltb, leb, eqb}
+use Rattle.std.specs.Prelude.{◌≡◌, Option, Some, None, Bool, true, false, not, [], ◌∷◌, ℕ, ◌+◌, ◌*◌, ◌-◌, ◌/◌, ◌%◌, ◌^◌, ◌≤◌, ◌<◌, min, ℤ, ltb, leb, eqb}
 use Rattle.numbers.specs.Signal.{pick, spliced}
 use Rattle.ground_file.specs.Groups.{width_of, code_of}
 use Rattle.ground_loader.specs.declared.rows.Coming.{Coming}
 use Rattle.ground_loader.specs.declared.rows.Seen.{Seen}
-use Rattle.ground_loader.specs.declared.rows.Took.{Took}
 use Rattle.ground_loader.specs.Numbers.{value_of, number_at, numbers_in, greatest}
 
 -- the values of k numbers of w bits each, from place d of a row on
@@ -98,8 +97,8 @@ unfoldable pub put_on : ℕ → Coming → ℕ → (ℕ → ℤ) → ℕ → ℤ
 put_on n c b x = pick (eqb c.phase 0) (group_put n c.done b x) (part_put n c (seen_of c b) x)
 
 -- a byte that is turned away is not taken
-unfoldable pub took_of : ℕ → Coming → ℕ → Took
-took_of n c b = pick (refused n c b) (record { answer = 22; coming = c }) (record { answer = 0; coming = moved n c b })
+unfoldable pub next_of : ℕ → Coming → ℕ → Option Coming
+next_of n c b = pick (refused n c b) None (Some (moved n c b))
 
 -- ---- the ranges of its numbers
 pub record InPart (n : ℕ) (c : Coming) : Type 0 where

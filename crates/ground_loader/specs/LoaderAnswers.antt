@@ -1,18 +1,18 @@
 -- The answers of a loader's calls in the terms of its definitions.
-use Rattle.std.specs.Prelude.{ℕ, eqb, ℤ}
+use Rattle.std.specs.Prelude.{ℕ, Option, Some, None, Result, Ok, Err, eqb, ℤ}
 use Rattle.numbers.specs.Signal.{pick}
 use Rattle.reader.specs.declared.Reader.{Reader}
 use Rattle.reader.specs.Answers as answer
 use Rattle.wavelet.specs.declared.shape.Shape.{Shape}
 use Rattle.ground_loader.specs.declared.loader.Loader.{Loader}
-use Rattle.ground_loader.specs.declared.loader.Begun.{Begun}
-use Rattle.ground_loader.specs.declared.loader.Begun.TheVariants as begun
+use Rattle.refusal.specs.declared.Refusal.{Refusal}
+use Rattle.refusal.specs.Numbers.{number}
 use Rattle.ground_loader.specs.declared.loader.LoaderWant.{LoaderWant}
 use Rattle.ground_loader.specs.declared.loader.LoaderWant.TheVariants as want
-use Rattle.ground_loader.specs.declared.loader.Loaded.{Loaded}
-use Rattle.ground_loader.specs.declared.loader.Loaded.TheVariants as loaded
-use Rattle.ground_loader.specs.declared.loader.LoaderDrawn.{LoaderDrawn}
-use Rattle.ground_loader.specs.declared.loader.LoaderDrawn.TheVariants as drawn
+use Rattle.ground_loader.specs.declared.loader.TakeError.{TakeError}
+use Rattle.ground_loader.specs.declared.loader.TakeError.TheVariants as taking
+use Rattle.ground_loader.specs.declared.loader.DrawError.{DrawError}
+use Rattle.ground_loader.specs.declared.loader.DrawError.TheVariants as drawing
 use Rattle.ground_loader.specs.Loader.{Want, bytes, draw_now, done, ended, want_of, Answer, passed, impossible, turned}
 use Rattle.ground_loader.specs.Loader.{loader_at, loader_fits, with_reader, fresh_loader}
 use Rattle.ground_loader.specs.Coming.{between}
@@ -29,27 +29,27 @@ pub data Handed : Type 0 where
   a_row : ℕ → Loader → Handed
   nothing : Handed
 
-abbrev pub of_begun : Begun → Reply Loader
-of_begun (begun.Ready l) = gives l
-of_begun (begun.Refused q) = refused q
+abbrev pub of_begun : Result Loader Refusal → Reply Loader
+of_begun (Ok l) = gives l
+of_begun (Err why) = refused (number why)
 
-abbrev pub of_want : LoaderWant → Reply Want
-of_want want.Bytes = gives bytes
-of_want want.Draw = gives draw_now
-of_want want.Done = gives done
-of_want want.Ended = gives ended
-of_want (want.Refused q) = refused q
+abbrev pub of_want : Result LoaderWant Refusal → Reply Want
+of_want (Ok want.Bytes) = gives bytes
+of_want (Ok want.Draw) = gives draw_now
+of_want (Ok want.Done) = gives done
+of_want (Ok want.Ended) = gives ended
+of_want (Err why) = refused (number why)
 
-abbrev pub of_loaded : Loaded → Answer
-of_loaded (loaded.Passed n l) = passed n l
-of_loaded (loaded.Impossible n l) = impossible n l
-of_loaded (loaded.Refused q) = turned q
+abbrev pub of_loaded : Result (ℕ × Loader) TakeError → Answer
+of_loaded (Ok t) = passed t.0 t.1
+of_loaded (Err (taking.Impossible n l)) = impossible n l
+of_loaded (Err (taking.Refused why)) = turned (number why)
 
-abbrev pub of_drawn : LoaderDrawn → Reply Handed
-of_drawn (drawn.Heights n l) = gives (a_row n l)
-of_drawn drawn.Nothing = gives nothing
-of_drawn (drawn.Impossible l) = ends l
-of_drawn (drawn.Refused q) = refused q
+abbrev pub of_drawn : Result (Option (ℕ × Loader)) DrawError → Reply Handed
+of_drawn (Ok (Some d)) = gives (a_row d.0 d.1)
+of_drawn (Ok None) = gives nothing
+of_drawn (Err (drawing.Impossible l)) = ends l
+of_drawn (Err (drawing.Refused why)) = refused (number why)
 
 -- ---- what each call answers; q is the number of the question that turned it away
 unfoldable pub set_up_reply : Shape → ℕ → ℕ → Reply Loader

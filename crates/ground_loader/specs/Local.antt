@@ -1,5 +1,5 @@
 -- What private functions cite; no public contract does.
-use Rattle.std.specs.Prelude.{◌≡◌, Bool, true, false, ℕ, ◌+◌, ◌/◌, ◌≤◌, ◌<◌, ℤ, leb, ltb, eqb}
+use Rattle.std.specs.Prelude.{◌≡◌, Result, Ok, Err, Bool, true, false, ℕ, ◌+◌, ◌/◌, ◌≤◌, ◌<◌, ℤ, leb, ltb, eqb}
 use Rattle.numbers.specs.Signal.{pick}
 use Rattle.reader.specs.declared.Reader.{Reader}
 use Rattle.reader.specs.Answers as answer
@@ -10,7 +10,9 @@ use Rattle.ground_file.specs.File.{prime}
 use Rattle.ground_loader.specs.declared.rows.Coming.{Coming}
 use Rattle.ground_loader.specs.declared.loader.Loader.{Loader}
 use Rattle.ground_loader.specs.declared.loader.Due.{Due}
-use Rattle.ground_loader.specs.declared.loader.Step.{Step}
+use Rattle.ground_loader.specs.declared.loader.Next.{Next}
+use Rattle.ground_loader.specs.declared.loader.Stop.{Stop}
+use Rattle.ground_loader.specs.declared.loader.Stop.TheVariants as stop
 use Rattle.ground_loader.specs.Numbers.{numbers_in, greatest}
 use Rattle.ground_loader.specs.Coming.{between, seen_bits, whole_of, Standing}
 use Rattle.ground_loader.specs.Loader.{World, world_of, loader_at, Byte, taken, away, ends, sum_on, reader_wants, row_needs, second_fits, header_byte}
@@ -36,6 +38,32 @@ due_after t (answer.row k c r m) = record { phase = 1; level = k; band = c; coun
 due_after t answer.draw_now = plain_due 3
 due_after t answer.done = pick (ltb t 4) (plain_due 2) (plain_due 4)
 due_after t answer.ended = plain_due 5
+
+-- ---- what became of a byte: 0 it was taken, 22 or 7 it was turned away, 14 it ended the loader; the loader then, and what it wants
+pub record Step : Type 0 where
+  pub answer : ℕ
+  pub loader : Loader
+  pub due : Due
+
+abbrev pub stop_number : Stop → ℕ
+stop_number stop.NoFile = 22
+stop_number stop.OutOfRange = 7
+stop_number (stop.Ended k) = 14
+
+abbrev pub stop_loader : Loader → Stop → Loader
+stop_loader l stop.NoFile = l
+stop_loader l stop.OutOfRange = l
+stop_loader l (stop.Ended k) = k
+
+abbrev pub stop_due : Due → Stop → Due
+stop_due d stop.NoFile = d
+stop_due d stop.OutOfRange = d
+stop_due d (stop.Ended k) = plain_due 5
+
+-- of the loader l, which wants d
+abbrev pub of_step : Loader → Due → Result Next Stop → Step
+of_step l d (Ok n) = record { answer = 0; loader = n.loader; due = n.due }
+of_step l d (Err s) = record { answer = stop_number s; loader = stop_loader l s; due = stop_due d s }
 
 unfoldable pub due_of : Loader → Due
 due_of l = pick l.reader.ended (plain_due 5) (pick (ltb l.header 24) (plain_due 0) (due_after l.tail (reader_wants l.reader)))
@@ -76,7 +104,6 @@ pub data Became (w : World) (s : Step) (x y : ℕ → ℤ) : Byte → Type 0 whe
 pub data FedStep (l : Loader) (b : ℕ) (s : Step) : answer.Reply Reader → Type 0 where
   passed : (r : Reader) → s.answer ≡ 0 → s.loader ≡ loader_at r l.step l.header (between 0) (sum_on l.sum b) l.tail → FedStep l b s (answer.gives r)
   ended : (r : Reader) → s.answer ≡ 14 → s.loader ≡ loader_at r l.step l.header (between 0) l.sum l.tail → FedStep l b s (answer.impossible r)
-  none : (q : ℕ) → FedStep l b s (answer.refused q)
 
 -- whatever stands in the areas: a byte of the header or of the checksum touches neither
 abbrev pub HeaderTaken : Loader → ℕ → Step → Type 0

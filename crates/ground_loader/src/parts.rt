@@ -27,14 +27,9 @@ pub fn largest(bits: u64, w: usize, k: usize, most: u64) -> u64
 {
     let mut rest = bits;
     let mut r = most;
-    let mut i = 0;
-    while i < k {
-        let x = lowest(rest, w);
-        rest = rest >> w;
-        i += 1;
-        if r < x {
-            r = x;
-        }
+    for _i in 0..k {
+        r = r.max(lowest(rest, w));
+        rest >>= w;
     }
     r
 }
@@ -46,11 +41,9 @@ pub fn store(bits: u64, w: usize, k: usize, row: &mut [i32], from: usize) -> u64
     ensures row_after { at row.new ≡ spliced from k (λ i. value_of (number_at w bits i)) (at row.old) }
 {
     let mut rest = bits;
-    let mut i = 0;
-    while i < k {
+    for i in 0..k {
         row[from + i] = value_of(lowest(rest, w));
-        rest = rest >> w;
-        i += 1;
+        rest >>= w;
     }
     rest
 }

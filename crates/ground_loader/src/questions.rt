@@ -1,16 +1,17 @@
 // The questions of a loader's calls. The module is private, as `widths` is.
 ghost use Rattle.std.specs.Prelude.{◌≡◌, true, ◌≤◌, leb, ltb, eqb};
 ghost use Rattle.numbers.specs.Signal.{pick, both};
+ghost use Rattle.refusal.specs.Numbers.{answer};
 ghost use Rattle.reader.specs.Answers.{of_wanted};
 ghost use Rattle.reader.specs.Reading.{counts_fit};
 ghost use Rattle.reader.specs.State.{needs};
 ghost use Rattle.reader.specs.Questions.{store_fits};
 ghost use Rattle.ground_loader.specs.Loader.{want_in, second_fits, part_fits, standing, is_none, coming_after, loader_fits, take_question, row_needs};
-ghost use Rattle.ground_loader.specs.Local.{is_given};
 
 use crate::loader::Loader;
 use crate::rows::Coming;
-use crate::{steps, sums, widths};
+use crate::{steps, sums};
+use ground_file::widths::width_of;
 use reader::{Reader, Wanted};
 use refusal::Refusal;
 use wavelet::limits;
@@ -39,7 +40,7 @@ fn part_fits(c: Coming, n: usize) -> bool
     if n < c.left {
         return false;
     }
-    let w = widths::width_of(c.code);
+    let w = width_of(c.code);
     if w <= c.bits {
         return false;
     }
@@ -96,19 +97,6 @@ fn coming_fits(c: Coming, header: usize, want: Result<Wanted, Refusal>) -> bool
     coming_for(c, want)
 }
 
-// Does the reader answer?
-fn answers(want: Result<Wanted, Refusal>) -> bool
-    ensures { result ≡ is_given (of_wanted want) }
-{
-    match want {
-        Ok(Wanted::Row { .. }) => true,
-        Ok(Wanted::Draw) => true,
-        Ok(Wanted::Done) => true,
-        Ok(Wanted::Ended) => true,
-        Err(_) => false,
-    }
-}
-
 fn admission_of(step: usize) -> usize
     ensures { result ≡ pick (eqb step 1) 0 1 }
 {
@@ -122,7 +110,7 @@ pub fn counts_fit(l: Loader) -> bool
     let s = l.reader;
     let want = s.want();
     let here = s.admission == admission_of(l.step);
-    answers(want)
+    want.is_ok()
         & ((s.stop == 0)
             & ((s.spare == 0)
                 & (limits::is_within(l.step, MOST_STEP)
@@ -143,21 +131,21 @@ fn areas_fit(s: Reader, n: usize, m: usize) -> bool
 }
 
 // Questions 1, 5, 9 and 8 of a taking call.
-pub fn take_question(l: Loader, n: usize, m: usize) -> u8
-    ensures { result ≡ take_question l n m }
+pub fn take_question(l: Loader, n: usize, m: usize) -> Result<(), Refusal>
+    ensures { answer result ≡ take_question l n m }
 {
     if !counts_fit(l) {
-        return 1;
+        return Err(Refusal::BadState);
     }
     let s = l.reader;
     if !areas_fit(s, n, m) {
-        return 5;
+        return Err(Refusal::AreaShort);
     }
     if s.ended {
-        return 9;
+        return Err(Refusal::IsOver);
     }
     if 3 <= steps::due_of(l).phase {
-        return 8;
+        return Err(Refusal::NotItsTurn);
     }
-    0
+    Ok(())
 }

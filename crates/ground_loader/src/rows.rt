@@ -5,13 +5,15 @@ ghost use Rattle.numbers.specs.Signal.{at};
 ghost use Rattle.numbers.specs.Tests.{every};
 ghost use Rattle.ground_loader.specs.Coming.{part_size, between, opened, second, second_put, grouped, group_put, group_refused};
 ghost use Rattle.ground_loader.specs.Coming.{seen_of, part_refused, stayed, deinterleaved, ends_first, part_stored, part_put};
-ghost use Rattle.ground_loader.specs.Coming.{moved, took_of, put_on, InPart, Standing};
+ghost use Rattle.ground_loader.specs.Coming.{moved, next_of, put_on, InPart, Standing};
 ghost use Rattle.ground_loader.specs.Loader.{is_over};
 ghost use Rattle.ground_loader.specs.Local.{brought_within};
 
 use crate::{parts, widths};
 use areas::ranges;
+use ground_file::widths::width_of;
 
+// Stays: `phase` is a number, since a caller's state array may hold any, and question 1 is asked of it.
 // What came of a row. `phase` is what the next byte belongs to: 0 a group's byte, 1 its first part, 2 its second. `done` numbers are stored. Of the part: its
 // code, that of the part after it, how many of its numbers are not stored, the bits that came of these and how many they are, the largest number stored.
 #[derive(Clone, Copy)]
@@ -32,12 +34,6 @@ pub struct Seen {
     pub bits: u64,
     pub whole: usize,
     pub most: u64,
-}
-
-#[derive(Clone, Copy)]
-pub struct Took {
-    pub answer: u8,
-    pub coming: Coming,
 }
 
 // Before a group's byte, or after the row's last.
@@ -159,7 +155,7 @@ fn see(c: Coming, n: usize, byte: u8) -> Seen
     requires { InPart n c }
     ensures { result ≡ seen_of c byte }
 {
-    let w = widths::width_of(c.code);
+    let w = width_of(c.code);
     let bits = joined(c.low, byte, c.bits);
     let whole = whole_of(c.bits + 8, w, c.left);
     Seen {
@@ -177,7 +173,7 @@ fn part_refused(c: Coming, n: usize, byte: u8, s: Seen) -> bool
     if s.whole < c.left {
         return false;
     }
-    if 0 < (s.bits >> (widths::width_of(c.code) * s.whole)) {
+    if 0 < (s.bits >> (width_of(c.code) * s.whole)) {
         return true;
     }
     !widths::is_smallest(c.code, s.most)
@@ -188,7 +184,7 @@ fn stay(c: Coming, n: usize, byte: u8, s: Seen) -> Coming
     requires { InPart n c × (s ≡ seen_of c byte) }
     ensures { result ≡ stayed c s }
 {
-    let used = widths::width_of(c.code) * s.whole;
+    let used = width_of(c.code) * s.whole;
     Coming {
         phase: c.phase,
         done: c.done + s.whole,
@@ -229,7 +225,7 @@ fn put_numbers(c: Coming, n: usize, byte: u8, s: Seen, row: &mut [i32])
     requires { InPart n c × (s ≡ seen_of c byte) × (n ≤ length row.old) }
     ensures { at row.new ≡ part_stored c s (at row.old) }
 {
-    parts::store(s.bits, widths::width_of(c.code), s.whole, row, c.done);
+    parts::store(s.bits, width_of(c.code), s.whole, row, c.done);
 }
 
 fn put_part(c: Coming, n: usize, byte: u8, s: Seen, row: &mut [i32])
@@ -245,44 +241,31 @@ fn put_part(c: Coming, n: usize, byte: u8, s: Seen, row: &mut [i32])
     }
 }
 
-fn group_next(c: Coming, n: usize, byte: u8) -> Took
+fn group_next(c: Coming, n: usize, byte: u8) -> Option<Coming>
     requires { (c.phase ≡ 0) × (c.done < n) }
-    ensures { result ≡ took_of n c byte }
+    ensures { result ≡ next_of n c byte }
 {
-    let done = c.done;
-    if group_refused(n, done, byte) {
-        return Took {
-            answer: 22,
-            coming: c,
-        };
+    if group_refused(n, c.done, byte) {
+        return None;
     }
-    Took {
-        answer: 0,
-        coming: group_of(n, done, byte),
-    }
+    Some(group_of(n, c.done, byte))
 }
 
-fn part_next(c: Coming, n: usize, byte: u8) -> Took
+fn part_next(c: Coming, n: usize, byte: u8) -> Option<Coming>
     requires { (0 < c.phase) × InPart n c }
-    ensures { result ≡ took_of n c byte }
+    ensures { result ≡ next_of n c byte }
 {
     let s = see(c, n, byte);
     if part_refused(c, n, byte, s) {
-        return Took {
-            answer: 22,
-            coming: c,
-        };
+        return None;
     }
-    Took {
-        answer: 0,
-        coming: part_of(c, n, byte, s),
-    }
+    Some(part_of(c, n, byte, s))
 }
 
-// What came with the next byte. 22 where no row has it there.
-pub fn next_of(c: Coming, n: usize, byte: u8) -> Took
+// What came with the next byte; nothing where no row has it there.
+pub fn next_of(c: Coming, n: usize, byte: u8) -> Option<Coming>
     requires { Standing n c }
-    ensures { result ≡ took_of n c byte }
+    ensures { result ≡ next_of n c byte }
 {
     if c.phase == 0 {
         return group_next(c, n, byte);
@@ -311,7 +294,7 @@ fn brings_within(c: Coming, n: usize, byte: u8, most: u64) -> bool
         return true;
     }
     let s = see(c, n, byte);
-    let x = parts::largest(s.bits, widths::width_of(c.code), s.whole, 0);
+    let x = parts::largest(s.bits, width_of(c.code), s.whole, 0);
     (x + 1) / 2 <= most
 }
 

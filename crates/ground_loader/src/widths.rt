@@ -2,24 +2,7 @@
 ghost use Rattle.std.specs.Prelude.{◌≡◌, [], ◌∷◌, ◌^◌, ◌≤◌, ◌<◌, eqb};
 ghost use Rattle.ground_file.specs.Groups.{width_of, code_of};
 
-// The width that a code chooses.
-pub fn width_of(code: usize) -> usize
-    ensures { result ≡ width_of code }
-{
-    if code <= 11 {
-        return code;
-    }
-    if code <= 12 {
-        return 13;
-    }
-    if code <= 13 {
-        return 16;
-    }
-    if code <= 14 {
-        return 20;
-    }
-    28
-}
+use ground_file::widths::width_of;
 
 // Is a code that of the smallest width which holds a number that its width holds? The width before it does not hold that.
 pub fn is_smallest(code: usize, most: u64) -> bool

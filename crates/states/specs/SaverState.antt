@@ -2,7 +2,7 @@
 use Rattle.std.specs.Prelude.{Bool, List, [], ◌∷◌, ℕ, ◌%◌, eqb, leb, get_or}
 use Rattle.numbers.specs.Signal.{pick, both}
 use Rattle.ground_file.specs.declared.saver.Saver.{Saver}
-use Rattle.ground_file.specs.declared.saver.Saved.{Saved}
+use Rattle.ground_file.specs.Saving.{Saved}
 use Rattle.states.specs.States.{zero_to}
 
 -- x and y have 16 bits in a shape, the filter 32

@@ -5,7 +5,7 @@ ghost use Rattle.states.specs.LoaderAnswers.{taken_number, loaded_words, taken_o
 ghost use Rattle.states.specs.LoaderState.{is_loader, loader_of, loader_words};
 
 use crate::array;
-use ground_loader::loader::{Loaded, Loader, LoaderDrawn};
+use ground_loader::loader::{DrawError, Loader, TakeError};
 use ground_loader::rows::Coming;
 use reader::Reader;
 
@@ -104,46 +104,54 @@ pub fn pack_loader(v: Loader, s: &mut [u64; 32])
 }
 
 // A taking call's answer in the caller's numbers, and how many bytes were taken.
-pub fn pack_loaded(answer: Loaded, s: &mut [u64; 32], taken: &mut usize) -> u32
+pub fn pack_loaded(
+    answer: Result<(usize, Loader), TakeError>,
+    s: &mut [u64; 32],
+    taken: &mut usize,
+) -> u32
     ensures value { result ≡ taken_number (of_loaded answer) }
     ensures s_after { s.new ≡ loaded_words (of_loaded answer) s.old }
     ensures taken_after { taken.new ≡ taken_of (of_loaded answer) taken.old }
 {
     match answer {
-        Loaded::Passed(n, v) => {
+        Ok((n, v)) => {
             pack_loader(v, s);
             *taken = n;
             0
         }
-        Loaded::Impossible(n, v) => {
+        Err(TakeError::Impossible(n, v)) => {
             pack_loader(v, s);
             *taken = n;
             14
         }
-        Loaded::Refused(no) => no as u32,
+        Err(TakeError::Refused(why)) => why.number() as u32,
     }
 }
 
 // A draw's answer, and how many heights were drawn.
-pub fn pack_loader_drawn(answer: LoaderDrawn, s: &mut [u64; 32], drawn: &mut usize) -> u32
+pub fn pack_loader_drawn(
+    answer: Result<Option<(usize, Loader)>, DrawError>,
+    s: &mut [u64; 32],
+    drawn: &mut usize,
+) -> u32
     ensures value { result ≡ drawn_number (of_drawn answer) }
     ensures s_after { s.new ≡ drawn_words (of_drawn answer) s.old }
     ensures drawn_after { drawn.new ≡ drawn_of (of_drawn answer) drawn.old }
 {
     match answer {
-        LoaderDrawn::Heights(n, v) => {
+        Ok(Some((n, v))) => {
             pack_loader(v, s);
             *drawn = n;
             0
         }
-        LoaderDrawn::Nothing => {
+        Ok(None) => {
             *drawn = 0;
             0
         }
-        LoaderDrawn::Impossible(v) => {
+        Err(DrawError::Impossible(v)) => {
             pack_loader(v, s);
             14
         }
-        LoaderDrawn::Refused(no) => no as u32,
+        Err(DrawError::Refused(why)) => why.number() as u32,
     }
 }

@@ -1,10 +1,14 @@
 // The state array of a saver: thirty-two numbers, unpacked, used by value, packed again.
 ghost use Rattle.std.specs.Prelude.{◌≡◌};
+ghost use Rattle.refusal.specs.Numbers.{answer};
+ghost use Rattle.ground_file.specs.declared.saver.Saver.{Saver};
+ghost use Rattle.ground_file.specs.Saving.{of_saved};
 ghost use Rattle.states.specs.SaverState.{is_saver, saver_of, saver_words, saved_words, written_of};
 
 use crate::array;
-use ground_file::saver::{Saved, Saver};
+use ground_file::saver::{Saver, Turn};
 use reader_order::Place;
+use refusal::Refusal;
 use wavelet::shape::Shape;
 
 // Is this the state array of a saver?
@@ -95,16 +99,18 @@ pub fn pack_saver(v: Saver, s: &mut [u64; 32])
     ];
 }
 
-// The answer of a saving call in the caller's numbers: the array and the bytes written, where it is 0.
-pub fn pack_saved(answer: Saved, s: &mut [u64; 32], written: &mut usize) -> u32
-    ensures value { result ≡ answer.answer }
-    ensures s_after { s.new ≡ saved_words answer s.old }
-    ensures written_after { written.new ≡ written_of answer written.old }
+// The outcome of a saving call in the caller's numbers: the array and the bytes written, where it was not turned away.
+pub fn pack_saved(outcome: Result<Turn, Refusal>, s: &mut [u64; 32], written: &mut usize) -> u32
+    ensures value { result ≡ answer outcome }
+    ensures s_after { (v : Saver) → s.new ≡ saved_words (of_saved v outcome) s.old }
+    ensures written_after { (v : Saver) → written.new ≡ written_of (of_saved v outcome) written.old }
 {
-    if answer.answer != 0 {
-        return answer.answer as u32;
+    match outcome {
+        Ok(turn) => {
+            pack_saver(turn.saver, s);
+            *written = turn.at;
+            0
+        }
+        Err(why) => why.number() as u32,
     }
-    pack_saver(answer.saver, s);
-    *written = answer.written;
-    0
 }

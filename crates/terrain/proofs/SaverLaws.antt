@@ -8,7 +8,11 @@ use lib.IntN.{ℤ}
 use Rattle.numbers.specs.Signal.{pick}
 use Rattle.calls.proofs.QuestionLaws.{not_yes}
 use Rattle.ground_file.specs.declared.saver.Saver.{Saver}
-use Rattle.ground_file.specs.declared.saver.Saved.{Saved}
+use Rattle.std.proofs.Common.{Result, Ok, Err}
+use Rattle.refusal.specs.declared.Refusal.{Refusal}
+use Rattle.refusal.specs.Numbers.{answer}
+use Rattle.ground_file.specs.declared.saver.Turn.{Turn}
+use Rattle.ground_file.specs.Saving.{Saved, of_saved}
 use Rattle.ground_file.specs.Saving.{Saves}
 use Rattle.states.specs.SaverState.{is_saver, saver_of, saved_words, written_of}
 use Rattle.terrain.specs.SaverCalls.{Saving}
@@ -16,6 +20,11 @@ use Rattle.terrain.proofs.CallLaws.{not-no}
 
 apart : (t : Bool) → t ≡ true → t ≡ false → ⊥
 apart t e f = let z : ◌≡◌ {A = ℕ} 1 0 = ap (λ b. pick b 1 0) (sym e ∙ f) in omega arith
+
+-- the number of an outcome
+pub saved-number : (s : Saver) (r : Result Turn Refusal) → answer r ≡ (of_saved s r).answer
+saved-number s (Ok t) = refl
+saved-number s (Err why) = refl
 
 -- b is what the code asked of the array
 module _ (p : List ℤ) (s o : List ℕ) (z : ℕ) (b : Bool) (told : b ≡ is_saver s) where

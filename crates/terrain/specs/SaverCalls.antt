@@ -1,6 +1,6 @@
 -- What a C saving call answers and leaves: what `ground_file` says of the call on the saver that the array holds, and 1 where it holds none.
 use Rattle.std.specs.Prelude.{◌≡◌, true, false, List, ℕ, ℤ}
-use Rattle.ground_file.specs.declared.saver.Saved.{Saved}
+use Rattle.ground_file.specs.Saving.{Saved}
 use Rattle.ground_file.specs.Saving.{Saves}
 use Rattle.states.specs.SaverState.{is_saver, saver_of, saved_words, written_of}
 

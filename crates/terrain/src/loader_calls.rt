@@ -9,7 +9,7 @@ ghost use Rattle.states.specs.LoaderAnswers.{taken_number, loaded_words, taken_o
 ghost use Rattle.terrain.specs.LoaderCalls.{number, loading, state_of, wanting, want_of, taking, taking_store, taking_row};
 ghost use Rattle.terrain.specs.LoaderCalls.{drawing, drawing_store, drawing_area};
 
-use ground_loader::loader::{Begun, Loader, LoaderWant};
+use ground_loader::loader::{Loader, LoaderWant};
 use states::loader_state;
 use wavelet::shape::Shape;
 
@@ -26,11 +26,11 @@ pub fn terrain_load_set_up(
         set_up_store shape.filter (columns shape) shape.levels (set_up_question shape step (length store.old)) (at store.old) }
 {
     match Loader::set_up(shape, step, store) {
-        Begun::Ready(l) => {
+        Ok(l) => {
             loader_state::pack_loader(l, state);
             0
         }
-        Begun::Refused(no) => no as u32,
+        Err(why) => why.number() as u32,
     }
 }
 
@@ -44,23 +44,23 @@ pub fn terrain_load_want(state: &[u64; 32], want: &mut u32) -> u32
     }
     let l = loader_state::unpack_loader(state);
     match l.want() {
-        LoaderWant::Bytes => {
+        Ok(LoaderWant::Bytes) => {
             *want = 0;
             0
         }
-        LoaderWant::Draw => {
+        Ok(LoaderWant::Draw) => {
             *want = 1;
             0
         }
-        LoaderWant::Done => {
+        Ok(LoaderWant::Done) => {
             *want = 2;
             0
         }
-        LoaderWant::Ended => {
+        Ok(LoaderWant::Ended) => {
             *want = 3;
             0
         }
-        LoaderWant::Refused(no) => no as u32,
+        Err(why) => why.number() as u32,
     }
 }
 

@@ -15,9 +15,8 @@ pub fn terrain_save_set_up(state: &mut [u64; 32], shape: Shape, step: usize) -> 
     ensures value { result ≡ set_up_number shape step }
     ensures state_after { state.new ≡ pick (eqb result 0) (saver_words (fresh shape step)) state.old }
 {
-    let no = saver::set_up_question(shape, step);
-    if no != 0 {
-        return no as u32;
+    if let Err(why) = saver::set_up_question(shape, step) {
+        return why.number() as u32;
     }
     saver_state::pack_saver(saver::begin(shape, step), state);
     0

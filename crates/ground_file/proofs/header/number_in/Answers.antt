@@ -7,9 +7,6 @@ use Rattle.ground_file.proofs.header.number_in.Goals as goal
 pub loop-i-init : goal.loop-i-init
 loop-i-init c = reading-start c.requires.0 c.requires.1 (omega arith)
 
-pub overflow_sub-i : goal.overflow_sub-i
-overflow_sub-i c = omega arith
-
 pub overflow_mul-r : goal.overflow_mul-r
 overflow_mul-r c = omega (arith, reading-room c.loop-i.invariant (omega arith))
 
@@ -26,9 +23,6 @@ overflow_cast-r c =
 pub overflow_add-r-in-loop-i : goal.overflow_add-r-in-loop-i
 overflow_add-r-in-loop-i c =
     record { fits = omega (arith, c.shared_slice_known-1.given (c.args.from + (c.loop-i.i - 1)), reading-room c.loop-i.invariant (omega arith)) }
-
-pub loop-i-smaller : goal.loop-i-smaller
-loop-i-smaller c = omega arith
 
 pub loop-i-preserved : goal.loop-i-preserved
 loop-i-preserved c =

@@ -13,11 +13,11 @@ returns-then-not-is_header c =
 
 pub returns-then-not-is_roundable : goal.returns-then-not-is_roundable
 returns-then-not-is_roundable c =
-    header-rounded c.args.bytes.now c.requires.0 (sym c.is_header.ensures ∙ not-false _ c.if-not-is_header.false-raw) c.args.shape c.args.step c.requires.1
+    header-rounded c.args.bytes.now c.requires.0 (sym c.is_header.ensures ∙ not-false _ c.if-not-is_header.false-raw) c.args.head.shape c.args.head.step c.requires.1
     c.requires.2 (sym c.is_roundable.ensures ∙ not-true _ c.if-not-is_roundable.true-raw)
 
 pub returns : goal.returns
 returns c =
     c.set_up_question.ensures
-    ∙ header-set-up c.args.bytes.now c.requires.0 (sym c.is_header.ensures ∙ not-false _ c.if-not-is_header.false-raw) c.args.shape c.args.step
+    ∙ header-set-up c.args.bytes.now c.requires.0 (sym c.is_header.ensures ∙ not-false _ c.if-not-is_header.false-raw) c.args.head.shape c.args.head.step
     c.requires.1 c.requires.2 (sym c.is_roundable.ensures ∙ not-false _ c.if-not-is_roundable.false-raw)

@@ -1,29 +1,26 @@
+use mathlib.Core.Path.{◌≡◌, refl, subst}
+use Prim.Native.Nat.{◌+◌, ◌/◌}
 use native.Mathlib.Omega.{arith}
+use Rattle.text.specs.Text.{Wrote}
+use Rattle.ground_file.specs.Groups.{bytes_of}
 use Rattle.text.proofs.TextLaws.{wrote-size}
 use Rattle.ground_file.proofs.Packing.{flush-start, flush-place, flush-next, flush-end}
-use Rattle.ground_file.proofs.Clauses.{wrote-low_value}
 use Rattle.ground_file.proofs.parts.flush.Goals as goal
 
-pub loop-count-init : goal.loop-count-init
-loop-count-init c = (flush-start _ _ _ _ (omega arith), omega arith)
+pub loop-place-init : goal.loop-place-init
+loop-place-init c = flush-start _ _ _ _ (omega arith)
 
-pub overflow_cast-out : goal.overflow_cast-out
-overflow_cast-out c = omega arith
+pub bounds-out-place : goal.bounds-out-place
+bounds-out-place c = flush-place c.loop-place.invariant (omega arith)
 
-pub bounds-out-at : goal.bounds-out-at
-bounds-out-at c = flush-place c.loop-count.invariant.0 (omega arith)
-
-pub overflow_add-at : goal.overflow_add-at
-overflow_add-at c = omega (arith, flush-place c.loop-count.invariant.0 (omega arith), wrote-size c.loop-count.invariant.0.wrote, c.loop-count.invariant.1)
-
-pub loop-count-smaller : goal.loop-count-smaller
-loop-count-smaller c = omega arith
-
-pub loop-count-preserved : goal.loop-count-preserved
-loop-count-preserved c = (flush-next c.loop-count.invariant.0 (omega arith), c.loop-count.invariant.1)
+pub loop-place-preserved : goal.loop-place-preserved
+loop-place-preserved c = flush-next c.loop-place.invariant (omega arith)
 
 pub shape_of-out : goal.shape_of-out
-shape_of-out c = wrote-size c.loop-count.invariant.0.wrote
+shape_of-out c = wrote-size c.loop-place.invariant.wrote
 
 pub returns : goal.returns
-returns c = wrote-low_value (flush-end c.loop-count.invariant.0 (omega arith))
+returns c =
+    let done : c.loop-place.place ≡ c.args.bits.at + c.args.bits.count / 8 = omega (arith, c.loop-place.auto.place-end) in
+    let e = flush-end c.loop-place.invariant done in
+    record { wrote = subst (λ p. Wrote (bytes_of (c.args.bits.count / 8) c.args.bits.low) c.args.bits.at p c.args.out.now c.loop-place.out) done e.0; low_value = (e.1, refl) }

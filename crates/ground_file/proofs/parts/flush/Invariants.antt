@@ -1,11 +1,7 @@
 -- `parts::flush` meets its contract: after each turn one byte more is written (`Flushed`). Assumes nothing.
-use Prim.Native.Nat.{◌^◌, ◌<◌}
-use lib.ListN.{length}
+use Prim.Native.Nat.{◌/◌}
 use Rattle.ground_file.proofs.Packing.{Flushed}
 use Rattle.ground_file.proofs.parts.flush.Given as goal
 
-abbrev pub invariant-loop-count : goal.invariant-loop-count
-invariant-loop-count l = Flushed l.initial.low l.initial.count l.initial.at l.initial.out l.out l.low l.count l.at × (length l.initial.out < 2 ^ 63)
-
-abbrev pub decreases-loop-count : goal.decreases-loop-count
-decreases-loop-count l = l.count
+abbrev pub invariant-loop-place : goal.invariant-loop-place
+invariant-loop-place l = Flushed l.initial.low (l.fn.bits.count / 8) l.fn.bits.at l.initial.out l.out l.low l.place

@@ -4,7 +4,7 @@ use mathlib.Core.List.{List}
 use Prim.Native.Nat.{ℕ, ◌+◌}
 use native.Mathlib.Omega.{arith}
 use lib.IntN.{ℤ}
-use lib.ListN.{take}
+use lib.ListN.{take, length-take}
 use Rattle.numbers.specs.Signal.{at}
 use Rattle.text.specs.Text.{Wrote}
 use Rattle.ground_file.specs.Groups.{group_of, holds}
@@ -24,8 +24,7 @@ fill-requires c =
 
 pub put-requires : goal.put-requires
 put-requires c = (
-  omega (arith, c.some-n.ensures),
-  omega (arith, c.some-n.ensures, c.fill.auto.numbers),
+  omega (arith, c.some-n.ensures, length-take c.some-n.result c.fill.new.numbers),
   ap (holds 28) c.fill.ensures ∙ listed-held _ _ (λ i. kept_small _ _),
   omega (arith, c.requires.0),
 )

@@ -17,4 +17,4 @@ returns-then-s-eq1 c =
 pub returns : goal.returns
 returns c =
     let a = c.args in
-    c.with.ensures ∙ on-sum a.s a.length a.sum c.if-s-eq0.false c.if-s-eq1.false
+    on-sum a.s a.length a.sum c.if-s-eq0.false c.if-s-eq1.false

@@ -7,7 +7,7 @@ use Rattle.ground_file.proofs.saver.past_group.Goals as goal
 pub returns-then-group-length : goal.returns-then-group-length
 returns-then-group-length c =
     let a = c.args in
-    c.with.ensures ∙ group-more a.s a.length a.sum c.if-group-length.true
+    group-more a.s a.length a.sum c.if-group-length.true
 
 pub returns : goal.returns
 returns c =

@@ -9,17 +9,17 @@ returns-then-not-counts_fit c =
     let a = c.args in
     save-one a.s a.n (sym c.counts_fit.ensures ∙ not-true _ c.if-not-counts_fit.true-raw)
 
-pub overflow_mul-shape : goal.overflow_mul-shape
-overflow_mul-shape c =
+pub overflow_mul-s : goal.overflow_mul-s
+overflow_mul-s c =
     let a = c.args in
     record { fits = area_small a.s (sym c.counts_fit.ensures ∙ not-false _ c.if-not-counts_fit.false-raw) }
 
-pub returns-then-n-shape : goal.returns-then-n-shape
-returns-then-n-shape c =
+pub returns-then-n-s : goal.returns-then-n-s
+returns-then-n-s c =
     let a = c.args in
-    save-five a.s a.n (sym c.counts_fit.ensures ∙ not-false _ c.if-not-counts_fit.false-raw) c.if-n-shape.true
+    save-five a.s a.n (sym c.counts_fit.ensures ∙ not-false _ c.if-not-counts_fit.false-raw) c.if-n-s.true
 
 pub returns : goal.returns
 returns c =
     let a = c.args in
-    save-none a.s a.n (sym c.counts_fit.ensures ∙ not-false _ c.if-not-counts_fit.false-raw) c.if-n-shape.false
+    save-none a.s a.n (sym c.counts_fit.ensures ∙ not-false _ c.if-not-counts_fit.false-raw) c.if-n-s.false

@@ -1,53 +1,34 @@
-use mathlib.Core.Path.{refl, sym, ◌∙◌}
+use mathlib.Core.Path.{sym}
 use native.Mathlib.Omega.{arith}
-use Rattle.ground_file.proofs.SaverLaws.{running-start, running-by, inside-by, less_by, goes-on, step_room, ran, answer-stop, answer-none}
+use Rattle.ground_file.proofs.SaverLaws.{running-start, running-by, less_by, ran-refused, ran-some, ran-over, stop-full, stop-over}
 use Rattle.ground_file.proofs.saver.run.Goals as goal
 
-pub stop_of-stop-requires : goal.stop_of-stop-requires
-stop_of-stop-requires c = c.requires
+pub loop-turn-init : goal.loop-turn-init
+loop-turn-init c = running-start _ _ _ c.requires
 
-pub loop-stop-init : goal.loop-stop-init
-loop-stop-init c = (running-start _ _ _ _ _ c.requires refl c.stop_of-stop.ensures, omega arith)
+pub loop-turn-smaller : goal.loop-turn-smaller
+loop-turn-smaller c =
+    let e = c.write_some-turn.ensures in
+    less_by _ _ _ _ _ _ c.loop-turn.invariant (omega arith) c.if-turn-lt3.true _ c.row_of-row.ensures _ (omega arith) e.saver.0 _ e.saver.1
 
-pub write_some-t-requires : goal.write_some-t-requires
-write_some-t-requires c =
-    let l = c.loop-stop in
-    let r = l.invariant.0 in
-    (r.inside, (goes-on _ _ _ _ (sym r.stops ∙ c.loop-stop-test.true)).1, (step_room _ _ _ _ _ _ _ _ r c.loop-stop-test.true).0)
+pub loop-turn-preserved : goal.loop-turn-preserved
+loop-turn-preserved c =
+    let e = c.write_some-turn.ensures in
+    running-by _ _ _ _ _ _ c.loop-turn.invariant (omega arith) c.if-turn-lt3.true _ c.row_of-row.ensures _ (omega arith) e.saver.0 _ e.saver.1
+    c.in_default.ensures _ e.area
 
-pub stop_of-stop-requires-in-loop-stop : goal.stop_of-stop-requires-in-loop-stop
-stop_of-stop-requires-in-loop-stop c =
-    let l = c.loop-stop in
-    let e = c.write_some-t.ensures in
-    inside-by _ _ _ _ _ _ _ _ l.invariant.0 c.loop-stop-test.true _ c.row_of.ensures _ l.invariant.1 e.saver.0
+pub returns-then-turn-eq0 : goal.returns-then-turn-eq0
+returns-then-turn-eq0 c =
+    ran-refused _ _ _ _ _ _ c.loop-turn.invariant (omega arith) c.if-turn-lt3.true _ c.row_of-row.ensures _ c.in-Err.ensures c.if-turn-eq0.true
 
-pub loop-stop-smaller : goal.loop-stop-smaller
-loop-stop-smaller c =
-    let l = c.loop-stop in
-    let e = c.write_some-t.ensures in
-    less_by _ _ _ _ _ _ _ _ l.invariant.0 c.loop-stop-test.true _ c.row_of.ensures _ l.invariant.1 e.saver.0 _ e.saver.1
+pub returns-else-turn-eq0 : goal.returns-else-turn-eq0
+returns-else-turn-eq0 c =
+    ran-some _ _ _ _ _ _ c.loop-turn.invariant (omega arith) c.if-turn-lt3.true _ c.row_of-row.ensures _ c.in-Err.ensures c.if-turn-eq0.false
 
-pub loop-stop-preserved : goal.loop-stop-preserved
-loop-stop-preserved c =
-    let l = c.loop-stop in
-    let e = c.write_some-t.ensures in (
-      running-by _ _ _ _ _ _ _ _ l.invariant.0 c.loop-stop-test.true _ c.row_of.ensures _ l.invariant.1 e.saver.0 _ e.saver.1 _ _ e.area
-          c.stop_of-stop-in-loop-stop.ensures,
-      l.invariant.1,
-    )
+pub returns-else-turn-lt3 : goal.returns-else-turn-lt3
+returns-else-turn-lt3 c =
+    ran-over _ _ _ _ _ _ c.loop-turn.invariant (stop-over _ _ _ _ (omega arith) c.if-turn-lt3.false)
 
-pub shape_of-out-then-at-stop : goal.shape_of-out-then-at-stop
-shape_of-out-then-at-stop c = c.loop-stop.invariant.0.size
-
-pub returns-then-at-stop : goal.returns-then-at-stop
-returns-then-at-stop c =
-    let l = c.loop-stop in
-    ran _ _ _ _ _ _ _ _ _ l.invariant.0 c.loop-stop-test.false (answer-stop _ _ c.if-at-stop.true)
-
-pub shape_of-out-else-at-stop : goal.shape_of-out-else-at-stop
-shape_of-out-else-at-stop c = c.loop-stop.invariant.0.size
-
-pub returns-else-at-stop : goal.returns-else-at-stop
-returns-else-at-stop c =
-    let l = c.loop-stop in
-    ran _ _ _ _ _ _ _ _ _ l.invariant.0 c.loop-stop-test.false (answer-none _ _ c.if-at-stop.false)
+pub returns-after-loop-turn : goal.returns-after-loop-turn
+returns-after-loop-turn c =
+    ran-over _ _ _ _ _ _ c.loop-turn.invariant (stop-full _ _ _ _ (omega arith))

@@ -1,11 +1,11 @@
--- `saver::run` meets its contract: turn by turn (`running-on`). Assumes nothing.
-use Prim.Native.Nat.{◌-◌, ◌<◌, ◌^◌}
+-- `saver::run` meets its contract: turn by turn (`running-by`). Assumes nothing.
+use Prim.Native.Nat.{◌-◌}
 use lib.ListN.{length}
 use Rattle.ground_file.proofs.SaverLaws.{Running}
 use Rattle.ground_file.proofs.saver.run.Given as goal
 
-abbrev pub invariant-loop-stop : goal.invariant-loop-stop
-invariant-loop-stop l = Running l.plane l.initial.saver l.initial.out l.room l.saver l.at l.stop l.out × (length l.plane < 2 ^ 61)
+abbrev pub invariant-loop-turn : goal.invariant-loop-turn
+invariant-loop-turn l = Running l.plane l.initial.turn.saver l.initial.out l.turn.saver l.turn.at l.out
 
-abbrev pub decreases-loop-stop : goal.decreases-loop-stop
-decreases-loop-stop l = l.room - l.at
+abbrev pub decreases-loop-turn : goal.decreases-loop-turn
+decreases-loop-turn l = length l.initial.out - l.turn.at

@@ -1,16 +1,16 @@
 -- `saver::save` meets its contract: 1 and 5, then the pieces. Assumes nothing.
-use mathlib.Core.Path.{refl, sym, ◌∙◌}
+use mathlib.Core.Path.{refl, sym}
+use Rattle.std.proofs.lemmas.Result.{err_from_is_err_and}
 use Rattle.ground_file.proofs.SaverAsks.{fits-inside, save-fits, saves-not, saves-ran}
 use Rattle.ground_file.proofs.saver.save.Goals as goal
 
-pub returns-then-no-ne0 : goal.returns-then-no-ne0
-returns-then-no-ne0 c =
-    saves-not _ _ _ _ _ c.question-no.ensures c.if-no-ne0.true refl
+pub returns-in_err-question : goal.returns-in_err-question
+returns-in_err-question c =
+    let p = err_from_is_err_and c.from_residual.result c.from_residual.ensures.1 in
+    rw (p.1, p.2) (saves-not _ _ _ _ c.in_err-question.ensures)
 
 pub run-requires : goal.run-requires
-run-requires c =
-    fits-inside _ (save-fits _ _ (sym c.question-no.ensures ∙ c.if-no-ne0.false)).0
+run-requires c = fits-inside _ (save-fits _ _ (sym c.in_ok-question.ensures)).0
 
 pub returns : goal.returns
-returns c =
-    saves-ran _ _ _ _ _ _ c.question-no.ensures c.if-no-ne0.false c.run.ensures
+returns c = saves-ran _ _ _ _ 0 _ c.in_ok-question.ensures refl c.run.ensures

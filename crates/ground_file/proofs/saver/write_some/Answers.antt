@@ -29,7 +29,7 @@ returns-then-from-m c =
     let a = c.args in
     record {
       saver = (
-        c.with.ensures ∙ partly-is a.s a.row.now _ _ _ a.at a.out.now _ _ c.put_piece-n.ensures c.start_of-from.ensures
+        partly-is a.s a.row.now _ _ _ a.at a.out.now _ _ c.put_piece-n.ensures c.start_of-from.ensures
             c.copy-m.ensures.value
             c.if-from-m.true,
         at-is a.s a.row.now _ _ _ a.at a.out.now _ _ c.put_piece-n.ensures c.start_of-from.ensures c.copy-m.ensures.value,

@@ -20,12 +20,6 @@ pub overflow_add-r : goal.overflow_add-r
 unfolding prime
 overflow_add-r c = omega (arith, c.loop-i.invariant.small, c.four.ensures.1)
 
-pub overflow_add-i : goal.overflow_add-i
-overflow_add-i c = let s = c.loop-i.invariant in omega (arith, s.there, s.short)
-
-pub loop-i-smaller : goal.loop-i-smaller
-loop-i-smaller c = omega arith
-
 pub loop-i-preserved : goal.loop-i-preserved
 unfolding prime
 loop-i-preserved c = fours-next c.loop-i.invariant (omega arith) _ c.four.ensures.0

@@ -1,35 +1,28 @@
-use mathlib.Core.Path.{refl}
+use mathlib.Core.Path.{refl, ap, ◌∙◌}
+use Prim.Native.Nat.{◌%◌}
 use native.Mathlib.Omega.{arith}
-use Rattle.ground_file.specs.File.{prime}
-use Rattle.ground_file.proofs.SumLaws.{ones-start, ones-next, ones-end}
+use lib.Seq.{take_all}
+use Rattle.ground_file.specs.File.{as_number, prime}
+use Rattle.ground_file.proofs.SumLaws.{begin-is, remains}
+use Rattle.ground_file.proofs.ValueLaws.{sum_more}
 use Rattle.ground_file.proofs.sums.sum_rest.Goals as goal
 
-pub loop-i-init : goal.loop-i-init
-loop-i-init c = ones-start c.requires.0 c.requires.1 c.requires.2
+pub loop-byte-init : goal.loop-byte-init
+loop-byte-init c = (c.requires, begin-is _ c.args.bytes.now c.requires)
 
 pub overflow_mul-r : goal.overflow_mul-r
 unfolding prime
-overflow_mul-r c = omega (arith, c.loop-i.invariant.small)
-
-pub bounds-bytes-i : goal.bounds-bytes-i
-bounds-bytes-i c = omega (arith, c.loop-i.invariant.there)
-
-pub overflow_cast-r : goal.overflow_cast-r
-overflow_cast-r c = record { fits = omega (arith, c.shared_slice_known-1.given c.loop-i.i) }
+overflow_mul-r c = omega (arith, c.loop-byte.invariant.0)
 
 pub overflow_add-r : goal.overflow_add-r
 unfolding prime
-overflow_add-r c = record { fits = omega (arith, c.shared_slice_known-1.given c.loop-i.i, c.loop-i.invariant.small) }
+overflow_add-r c = omega (arith, c.loop-byte.invariant.0)
 
-pub overflow_add-i : goal.overflow_add-i
-overflow_add-i c = omega arith
-
-pub loop-i-smaller : goal.loop-i-smaller
-loop-i-smaller c = omega arith
-
-pub loop-i-preserved : goal.loop-i-preserved
+pub loop-byte-preserved : goal.loop-byte-preserved
 unfolding prime
-loop-i-preserved c = ones-next c.loop-i.invariant (omega arith) _ refl
+loop-byte-preserved c =
+    let i = c.loop-byte.invariant in
+    (remains _, sum_more _ _ _ _ _ (omega arith) i.1 refl)
 
 pub returns : goal.returns
-returns c = ones-end c.loop-i.invariant (omega arith)
+returns c = c.loop-byte.invariant.1 ∙ ap (λ l. as_number c.args.sum l % prime) (take_all _ _ (omega arith))

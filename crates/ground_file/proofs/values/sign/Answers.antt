@@ -1,12 +1,10 @@
--- `values::sign` meets its contract. Assumes nothing.
-use mathlib.Core.Path.{sym, ap, ◌∙◌}
+-- `values::sign` meets its contract: 1 below 0. Assumes nothing.
+use mathlib.Core.Path.{ap, ◌∙◌}
 use lib.IntN.{pos}
 use lib.Signed.{lt_z}
-use Rattle.ground_file.proofs.ValueLaws.{read, sign_below, sign_above}
+use mir.Val.{bool_byte}
+use Rattle.ground_file.proofs.ValueLaws.{read, sign_from}
 use Rattle.ground_file.proofs.values.sign.Goals as goal
 
-pub returns-then-v-lt0 : goal.returns-then-v-lt0
-returns-then-v-lt0 c = sign_below c.args.v (sym (ap (λ x. lt_z x (pos 0)) (read _ c.ranges.v)) ∙ c.if-v-lt0.true)
-
-pub returns-else-v-lt0 : goal.returns-else-v-lt0
-returns-else-v-lt0 c = sign_above c.args.v (sym (ap (λ x. lt_z x (pos 0)) (read _ c.ranges.v)) ∙ c.if-v-lt0.false)
+pub returns : goal.returns
+returns c = c.from.ensures ∙ ap (λ z. bool_byte (lt_z z (pos 0))) (read _ c.ranges.v) ∙ sign_from c.args.v

@@ -27,12 +27,6 @@ bounds-row-from c = storing-place c.loop-i.invariant (omega arith)
 pub overflow_shr-rest : goal.overflow_shr-rest
 overflow_shr-rest c = omega (arith, c.loop-i.invariant.narrow)
 
-pub overflow_add-i : goal.overflow_add-i
-overflow_add-i c = let s = c.loop-i.invariant in omega (arith, s.room, s.short, s.some)
-
-pub loop-i-smaller : goal.loop-i-smaller
-loop-i-smaller c = omega arith
-
 pub loop-i-preserved : goal.loop-i-preserved
 loop-i-preserved c =
     storing-next c.loop-i.invariant (omega arith) _

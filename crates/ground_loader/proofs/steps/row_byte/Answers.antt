@@ -10,25 +10,25 @@ use Rattle.ground_loader.proofs.StepLaws.{row-refuses, row_on}
 use Rattle.ground_loader.proofs.Clauses.{became-onward}
 use Rattle.ground_loader.proofs.steps.row_byte.Goals as goal
 
-pub next_of-t-requires : goal.next_of-t-requires
-next_of-t-requires c = let p = c.requires in (p.0.comes p.1).standing
+pub next_of-requires : goal.next_of-requires
+next_of-requires c = let p = c.requires in (p.0.comes p.1).standing
 
-pub returns-then-t-ne0 : goal.returns-then-t-ne0
-returns-then-t-ne0 c =
+pub returns-in_default : goal.returns-in_default
+returns-in_default c =
     let d = c.args.d in
     became-onward (row-refuses c.args.l _ _ _ c.args.byte d.band d.count d _ c.requires.0
-    (took-away d.count c.args.l.coming c.args.byte (λ z. c.if-t-ne0.true (ap (λ v. v.answer) c.next_of-t.ensures ∙ z)))
-    c.refuse.ensures)
+    (took-away d.count c.args.l.coming c.args.byte (sym c.next_of.ensures ∙ c.in_default.is))
+    refl)
 
 pub last_byte-requires : goal.last_byte-requires
 last_byte-requires c =
     let n = c.args.d.count in
-    let on = took-on n c.args.l.coming c.args.byte (sym (ap (λ v. v.answer) c.next_of-t.ensures) ∙ c.if-t-ne0.false) in (
+    let on = took-on n c.args.l.coming c.args.byte c.in-Some.next (sym c.next_of.ensures ∙ c.in-Some.is) in (
       c.requires.0,
       c.requires.1,
       c.requires.2,
       on.0,
-      ap (is_over n) (sym (ap (λ v. v.coming) c.next_of-t.ensures ∙ on.1)) ∙ sym c.is_over.ensures ∙ c.if-is_over.true,
+      ap (is_over n) (sym on.1) ∙ sym c.is_over.ensures ∙ c.if-is_over.true,
     )
 
 pub returns-then-is_over : goal.returns-then-is_over
@@ -46,9 +46,9 @@ pub returns : goal.returns
 returns c =
     let d = c.args.d in
     let n = d.count in
-    let on = took-on n c.args.l.coming c.args.byte (sym (ap (λ v. v.answer) c.next_of-t.ensures) ∙ c.if-t-ne0.false) in
-    let coming = ap (λ v. v.coming) c.next_of-t.ensures ∙ on.1 in
+    let on = took-on n c.args.l.coming c.args.byte c.in-Some.next (sym c.next_of.ensures ∙ c.in-Some.is) in
+    let coming = on.1 in
     became-onward (row_on c.args.l _ _ _ c.args.byte d.band n d _ _ _ _ _ (omega (arith, c.ranges.byte.fits)) c.requires.0 c.requires.1 refl on.0
     (ap (is_over n) (sym coming) ∙ sym c.is_over.ensures ∙ c.if-is_over.false) c.sum_on.ensures
     coming c.put_byte.ensures
-    c.moved.ensures refl)
+    refl refl)

@@ -4,7 +4,7 @@ use native.Mathlib.Omega.{arith}
 use lib.ListN.{length}
 use Rattle.numbers.specs.Signal.{at}
 use Rattle.ground_loader.specs.Loader.{world_of}
-use Rattle.ground_loader.specs.Local.{Became}
+use Rattle.ground_loader.specs.Local.{of_step, Became}
 use Rattle.ground_loader.proofs.DueLaws.{byte-by}
 use Rattle.ground_loader.proofs.steps.take_byte.Goals as goal
 
@@ -19,7 +19,7 @@ returns-then-d-eq0 c =
     let n = length g.store.now in
     let e = c.header_byte.ensures in
     record {
-      became = subst (Became (world_of g.l x y) c.header_byte.result x y)
+      became = subst (Became (world_of g.l x y) (of_step g.l g.d c.header_byte.result) x y)
           (sym ((byte-by g.l g.d x y n g.byte c.requires.0.due).0 c.if-d-eq0.true)) (e.header_taken n x y);
       onward = e.onward;
     }
@@ -35,7 +35,7 @@ returns-then-d-eq1 c =
     let n = length g.store.now in
     let e = c.row_byte.ensures in
     record {
-      became = subst (Became (world_of g.l x y) c.row_byte.result _ _)
+      became = subst (Became (world_of g.l x y) (of_step g.l g.d c.row_byte.result) _ _)
           (sym ((byte-by g.l g.d x y n g.byte c.requires.0.due).1 c.if-d-eq1.true)) e.became;
       onward = e.onward;
     }
@@ -51,7 +51,7 @@ returns c =
     let n = length g.store.now in
     let e = c.tail_byte.ensures in
     record {
-      became = subst (Became (world_of g.l x y) c.tail_byte.result x y)
+      became = subst (Became (world_of g.l x y) (of_step g.l g.d c.tail_byte.result) x y)
           (sym ((byte-by g.l g.d x y n g.byte c.requires.0.due).2 (omega (arith, c.requires.0.bytes)))) (e.tail_taken n x y);
       onward = e.onward;
     }

@@ -1,62 +1,57 @@
-use mathlib.Core.Path.{refl, sym, ap, ◌∙◌}
+use mathlib.Core.Path.{◌≡◌, refl, sym, ap, ◌∙◌}
 use native.Mathlib.Omega.{arith}
-use Rattle.ground_loader.specs.Loader.{ran_answer}
-use Rattle.ground_loader.proofs.RunLaws.{running-start, turn-sound, turn-areas, turn_in, turn-zero, turn, less, one-le, running-end}
+use lib.ListN.{length}
+use Rattle.numbers.specs.Signal.{at}
+use Rattle.std.proofs.Common.{Ok}
+use Rattle.ground_loader.specs.Loader.{world_of, ran_answer}
+use Rattle.ground_loader.specs.Local.{of_step}
+use Rattle.ground_loader.proofs.RunLaws.{running-start, turn-sound, turn-areas, turn, goes-by, turn-stopped, run-over, stopping, told-passed}
 use Rattle.ground_loader.proofs.steps.take_run.Goals as goal
 
-pub loop-answer-init : goal.loop-answer-init
-loop-answer-init c =
-    (running-start _ _ _ _ _ _ _ c.due_of-due.ensures c.requires.0 c.requires.1, refl, refl, refl, omega arith)
+pub loop-at-init : goal.loop-at-init
+loop-at-init c = rw c.taken-next.ensures (running-start _ _ _ _ _ _ _ refl c.requires.0 c.requires.1)
 
-pub bounds-run-at : goal.bounds-run-at
-bounds-run-at c =
-    turn_in c.loop-answer.invariant.0
-    (sym c.goes_on.ensures ∙ c.loop-answer-test.true)
+pub take_byte-requires : goal.take_byte-requires
+take_byte-requires c =
+    let r = c.loop-at.invariant in
+    let goes = goes-by c.loop-at.next.due _ _ c.if-next-ge3.false (omega arith) in
+    let room = turn-areas r goes in
+    (turn-sound r goes, (omega (arith, room.0, c.loop-at.auto.store), omega (arith, room.1, c.loop-at.auto.row)))
 
-pub take_byte-s-requires : goal.take_byte-s-requires
-take_byte-s-requires c =
-    let i = c.loop-answer.invariant in
-    let goes = sym c.goes_on.ensures ∙ c.loop-answer-test.true in
-    let room = turn-areas i.0 goes in
-    (turn-sound i.0 goes, (omega (arith, room.0, i.1), omega (arith, room.1, i.2)))
+pub loop-at-preserved : goal.loop-at-preserved
+loop-at-preserved c =
+    let e = c.in-Ok.ensures in
+    turn c.loop-at.invariant (goes-by c.loop-at.next.due _ _ c.if-next-ge3.false (omega arith)) (of_step c.loop-at.next.loader c.loop-at.next.due (Ok c.in-Ok.on))
+    _ 1 _ _ _ refl c.loop-at.auto.store e.became e.onward refl
 
-pub overflow_add-at : goal.overflow_add-at
-overflow_add-at c =
-    let i = c.loop-answer.invariant in
-    omega (
-      arith,
-      turn_in i.0 (sym c.goes_on.ensures ∙ c.loop-answer-test.true),
-      i.4,
-      one-le
-          c.take_byte-s.result.answer c.one_if-at.result c.one_if-at.ensures,
-    )
+pub returns-then-next-ge3 : goal.returns-then-next-ge3
+returns-then-next-ge3 c =
+    let l = c.loop-at in
+    let end = run-over l.invariant (λ h g. omega (arith, h, c.if-next-ge3.true)) in
+    record {
+      result_value = told-passed 0 l.at l.next.loader (λ e. omega arith) (λ h. absurd (omega arith)) (at l.store) (at l.row) ∙ ap ran_answer (sym end);
+      store_after = ap (λ r. r.world.store) (sym end);
+      row_after = ap (λ r. r.world.row) (sym end);
+    }
 
-pub loop-answer-smaller : goal.loop-answer-smaller
-loop-answer-smaller c =
-    let i = c.loop-answer.invariant in
-    let goes = sym c.goes_on.ensures ∙ c.loop-answer-test.true in
-    less _ _ _ _ _ (turn_in i.0 goes) (turn-zero i.0 goes) c.one_if-at.ensures
-
-pub loop-answer-preserved : goal.loop-answer-preserved
-loop-answer-preserved c =
-    let i = c.loop-answer.invariant in
-    let goes = sym c.goes_on.ensures ∙ c.loop-answer-test.true in
-    let e = c.take_byte-s.ensures in (
-      turn i.0 goes _ _ _ _ _ _ refl i.1 e.became e.onward c.one_if-at.ensures,
-      c.take_byte-s.auto.store ∙ i.1,
-      c.take_byte-s.auto.row ∙ i.2,
-      refl,
-      i.4,
-    )
-
-pub shape_of-store : goal.shape_of-store
-shape_of-store c = c.loop-answer.invariant.1
-
-pub shape_of-row : goal.shape_of-row
-shape_of-row c = c.loop-answer.invariant.2
+pub returns-in-Err : goal.returns-in-Err
+returns-in-Err c =
+    let e = c.in-Err.ensures in
+    let end = turn-stopped c.loop-at.invariant (goes-by c.loop-at.next.due _ _ c.if-next-ge3.false (omega arith)) c.in-Err.stop _ _ _ _ refl c.loop-at.auto.store e.became
+    e.onward in
+    record {
+      result_value = c.stopped.ensures _ _ ∙ ap ran_answer (sym end);
+      store_after = ap (λ r. r.world.store) (sym end);
+      row_after = ap (λ r. r.world.row) (sym end);
+    }
 
 pub returns : goal.returns
 returns c =
-    let i = c.loop-answer.invariant in
-    let end = running-end i.0 (sym c.goes_on.ensures ∙ c.loop-answer-test.false) in
-    record { result_value = c.told.ensures _ _ ∙ ap ran_answer (sym end); store_after = ap (λ r. r.world.store) (sym end); row_after = ap (λ r. r.world.row) (sym end) }
+    let l = c.loop-at in
+    let all : l.at ≡ length c.args.run.now = omega (arith, l.auto.at-end) in
+    let end = run-over l.invariant (λ h g. omega (arith, g)) ∙ ap (λ k. stopping k 0 (world_of l.next.loader (at l.store) (at l.row))) all in
+    record {
+      result_value = told-passed 0 _ l.next.loader (λ e. omega arith) (λ h. absurd (omega arith)) (at l.store) (at l.row) ∙ ap ran_answer (sym end);
+      store_after = ap (λ r. r.world.store) (sym end);
+      row_after = ap (λ r. r.world.row) (sym end);
+    }

@@ -1,16 +1,11 @@
 -- `steps::take_run` meets its contract: turn by turn, what is left to do is the same. Assumes nothing.
-use mathlib.Core.Path.{◌≡◌}
-use Prim.Native.Nat.{◌<◌, ◌^◌}
 use lib.ListN.{length}
 use Rattle.numbers.specs.Signal.{at}
 use Rattle.ground_loader.specs.Loader.{world_of}
-use Rattle.ground_loader.proofs.RunLaws.{Running, left}
+use Rattle.ground_loader.proofs.RunLaws.{Running}
 use Rattle.ground_loader.proofs.steps.take_run.Given as goal
 
-abbrev pub invariant-loop-answer : goal.invariant-loop-answer
-invariant-loop-answer l =
-    Running (length l.initial.store) (length l.initial.row) l.run (world_of l.initial.loader (at l.initial.store) (at l.initial.row)) l.loader l.due l.at l.answer (at l.store) (at l.row) × (length l.store ≡ length l.initial.store)
-    × (length l.row ≡ length l.initial.row) × (l.n ≡ length l.run) × (length l.run < 2 ^ 63)
-
-abbrev pub decreases-loop-answer : goal.decreases-loop-answer
-decreases-loop-answer l = left l.n l.at l.answer
+abbrev pub invariant-loop-at : goal.invariant-loop-at
+invariant-loop-at l =
+    Running (length l.initial.store) (length l.initial.row) l.run (world_of l.fn.l (at l.initial.store) (at l.initial.row)) l.next.loader l.next.due
+    l.at 0 (at l.store) (at l.row)

@@ -4,4 +4,4 @@ use Rattle.ground_loader.specs.declared.loader.Due.{Due}
 use Rattle.ground_loader.proofs.steps.taken.Goals as goal
 
 pub returns : goal.returns
-returns c = ap (λ (d : Due). record { answer = 0; loader = c.args.l; due = d }) c.due_of.ensures
+returns c = ap (λ (d : Due). record { loader = c.args.l; due = d }) c.due_of.ensures

@@ -7,16 +7,16 @@ use Rattle.ground_loader.specs.LoaderAnswers.{Reply, of_begun}
 use Rattle.terrain.specs.LoaderCalls.{number, loading, state_of}
 use Rattle.terrain.proofs.loader_calls.terrain_load_set_up.Goals as goal
 
-pub returns-in-Ready : goal.returns-in-Ready
-returns-in-Ready c =
+pub returns-in-Ok : goal.returns-in-Ok
+returns-in-Ok c =
     let a = c.args in
     let e : loading a.shape a.step (length a.store.now) ≡ _ =
-    sym c.set_up.ensures.result_value ∙ ap of_begun c.in-Ready.is in
+    sym c.set_up.ensures.result_value ∙ ap of_begun c.in-Ok.is in
     record { value = sym (ap number e); state_after = c.pack_loader.ensures ∙ sym (ap (λ (q : Reply Loader). state_of q a.state.now) e); store_after = c.set_up.ensures.store_after }
 
-pub returns-in-Refused : goal.returns-in-Refused
-returns-in-Refused c =
+pub returns-in-Err : goal.returns-in-Err
+returns-in-Err c =
     let a = c.args in
     let e : loading a.shape a.step (length a.store.now) ≡ _ =
-    sym c.set_up.ensures.result_value ∙ ap of_begun c.in-Refused.is in
-    record { value = sym (ap number e); state_after = sym (ap (λ (q : Reply Loader). state_of q a.state.now) e); store_after = c.set_up.ensures.store_after }
+    sym c.set_up.ensures.result_value ∙ ap of_begun c.in-Err.is in
+    record { value = c.number.ensures ∙ sym (ap number e); state_after = sym (ap (λ (q : Reply Loader). state_of q a.state.now) e); store_after = c.set_up.ensures.store_after }
