@@ -32,11 +32,6 @@ pub clamped-most : (got : ℤ) (n : ℕ) → clamp_len got n ≤ n
 clamped-most (pos k) n = omega (arith, min-le_right k n)
 clamped-most (negsuc k) n = omega arith
 
--- a write of the bytes from place f on, which took k of them
-pub put-to : (z : ℤ) (f : ℕ) (l : List ℕ) (k : ℕ) → f ≤ length l → k ≡ clamp_len z (length (take (length l - f) (drop f l)))
-    → f + k ≡ f + clamp_len z (length l - f)
-put-to z f l k h e = ap (λ n. f + n) (e ∙ ap (clamp_len z) (length-take-le (length l - f) (drop f l) (omega (arith, length-drop f l))))
-
 pub put-most : (z : ℤ) (f n t : ℕ) → f ≤ n → t ≡ f + clamp_len z (n - f) → t ≤ n
 put-most z f n t h e = omega (arith, clamped-most z (n - f))
 

@@ -48,8 +48,9 @@ fn list_file(rt: HostRuntime, i: usize) -> bool {
 }
 
 fn main(rt: HostRuntime) {
-    let mut i = 1;
-    while i < 64 && list_file(rt, i) {
-        i += 1;
+    for i in 1..64 {
+        if !list_file(rt, i) {
+            return;
+        }
     }
 }

@@ -2,7 +2,7 @@
 use mathlib.Core.Path.{◌≡◌, refl, sym, ap, subst, ◌∙◌}
 use mathlib.Core.Bool.{Bool, true, false, not}
 use mathlib.Core.List.{List, [], ◌++◌}
-use Prim.Native.Nat.{ℕ, suc, ◌+◌, ◌-◌, ◌≤◌, ◌<◌}
+use Prim.Native.Nat.{ℕ, suc, ◌≤◌, ◌<◌}
 use native.Mathlib.Omega.{arith}
 use borrow.Author.Tests.{eqb-true, ltb-true, leb-true, le-leb}
 use lib.Dec.{eqb, ltb, leb}
@@ -20,7 +20,7 @@ use Rattle.descriptors.proofs.LeftLaws.{fills-within, used-within, used-left}
 use Rattle.rounds.specs.Machine.{Machine}
 use Rattle.rounds.specs.Rounds.{waits_at, over_at, waiting, over, failed, ended, ends}
 use Rattle.rounds.specs.Rounds.{going, started, outcome_of, Round, Rounds, begun, then, Ran}
-use Rattle.rounds.specs.Rounds.{most_rounds, before, after, Completed}
+use Rattle.rounds.specs.Rounds.{before, after, Completed}
 use Rattle.rounds.specs.declared.round.Outcome.{Outcome}
 
 -- ---- tests
@@ -115,58 +115,40 @@ pub rounds-idle : {S : Type 0} {M : Machine S} {A m : ℕ} {s s' : S} {u t c : L
 rounds-idle begun e = false-true refl e
 rounds-idle (then g h d) e = all-used d e
 
--- of which `turns` are left
+-- of which `turns` have been made
 pub record Looped {S : Type 0} (M : Machine S) (A : ℕ) (s s' : S) (c : List ℕ) (turns : ℕ) (r : Outcome) : Type 0 where
-  pub count : ℕ
   pub read : List ℕ
   pub written : List ℕ
-  pub rounds : Rounds M A s count read written s' c r
+  pub rounds : Rounds M A s turns read written s' c r
   pub within : Within c r.left
-  pub counted : count + turns ≡ most_rounds
 
 module _ {S : Type 0} where
-  pub looped-start : (M : Machine S) (A : ℕ) (s : S) (c : List ℕ) {r : Outcome} → r ≡ started → Looped M A s s c most_rounds r
+  pub looped-start : (M : Machine S) (A : ℕ) (s : S) (c : List ℕ) {r : Outcome} → r ≡ started → Looped M A s s c 0 r
   looped-start M A s c e =
-      subst (Looped M A s s c most_rounds) (sym e)
-      (record { count = 0; read = []; written = []; rounds = begun; within = record { start = omega arith; end = omega arith }; counted = refl })
+      subst (Looped M A s s c 0) (sym e) (record { read = []; written = []; rounds = begun; within = record { start = omega arith; end = omega arith } })
 
-  looped-then : {M : Machine S} {A : ℕ} {s s₁ s₂ : S} {c c' o o' : List ℕ} (turns : ℕ) {r₁ r₂ : Outcome} → Looped M A s s₁ c turns r₁
-      → Round M A s₁ r₁.left c c' o o' s₂ r₂ → 0 < turns → going (over M s₁) r₁ ≡ true → Looped M A s s₂ c' (turns - 1) r₂
-  looped-then {c' = c'} {o' = o'} turns {r₂ = r₂} g d h e =
+  -- the output area lent to the round is as long as it was
+  pub looped-then : {M : Machine S} {A A' : ℕ} {s s₁ s₂ : S} {c c' o o' : List ℕ} {turns n : ℕ} {r₁ r₂ : Outcome} → n ≡ suc turns → A' ≡ A → going (over M s₁) r₁ ≡ true
+      → Looped M A s s₁ c turns r₁ → Round M A' s₁ r₁.left c c' o o' s₂ r₂ → Looped M A s s₂ c' n r₂
+  looped-then {M} {A} {A'} {s} {s₁} {s₂} {c} {c'} {o} {o'} {turns} {n} {r₁} {r₂} k e w g d =
+      let x : Round M A s₁ r₁.left c c' o o' s₂ r₂ = subst (λ y. Round M y s₁ r₁.left c c' o o' s₂ r₂) e d in
       record {
-        count = suc g.count;
         read = g.read ++ take r₂.filled.read c';
         written = g.written ++ take r₂.written o';
-        rounds = then g.rounds e d;
-        within = round-within d;
-        counted = omega (arith, g.counted);
+        rounds = subst (λ m. Rounds M A s m (g.read ++ take r₂.filled.read c') (g.written ++ take r₂.written o') s₂ c' r₂) (sym k) (then g.rounds w x);
+        within = round-within x;
       }
-
-  -- the areas lent to the round are as long as they were
-  pub looped-on : {M M' : Machine S} {A A' : ℕ} {s s₁ s₂ : S} {c c' o o' : List ℕ} (turns : ℕ) {r₁ r₂ : Outcome} → M' ≡ M → A' ≡ A → 0 < turns
-      → going (over M s₁) r₁ ≡ true → Looped M A s s₁ c turns r₁ → Round M' A' s₁ r₁.left c c' o o' s₂ r₂ → Looped M A s s₂ c' (turns - 1) r₂
-  looped-on {M} {M'} {A} {A'} {s} {s₁} {s₂} {c} {c'} {o} {o'} turns {r₁} {r₂} em ea h e g d =
-      looped-then turns g
-      (subst (λ y. Round M y s₁ r₁.left c c' o o' s₂ r₂) ea (subst (λ y. Round y A' s₁ r₁.left c c' o o' s₂ r₂) em d)) h e
-
-  pub looped-stop : {M : Machine S} {A : ℕ} {s s' : S} {c : List ℕ} {turns : ℕ} {r : Outcome} → Looped M A s s' c turns r
-      → (going (over M s') r ≡ true → turns ≡ 0) → Ran M A s s' c r
-  looped-stop g h =
-      record { count = g.count; read = g.read; written = g.written; rounds = g.rounds; stopped = λ y. omega (arith, g.counted, h y) }
 
 -- ---- a whole run
 module _ {S : Type 0} {M : Machine S} {A : ℕ} {end : S → S} {s : S} where
-  pub run-before : {s₀ s' : S} {c : List ℕ} {r : Outcome} → s₀ ≡ s → Ran M A s₀ s' c r → ends r ≡ false → Completed M A end s s' r
-  run-before {s' = s'} {c = c} {r = r} e g h =
-      let k : Ran M A s s' c r = subst (λ y. Ran M A y s' c r) e g in record { read = k.read; written = k.written; run = before k h }
+  pub run-before : {s' : S} {c : List ℕ} {r : Outcome} → Ran M A s s' c r → ends r ≡ false → Completed M A end s s' r
+  run-before g h = record { read = g.read; written = g.written; run = before g h }
 
-  pub run-after : {s₀ s₁ s₂ s' : S} {c₁ c : List ℕ} {r₁ r : Outcome} {M' : Machine S} {A' : ℕ} → s₀ ≡ s → M' ≡ M → A' ≡ A
-      → Ran M A s₀ s₁ c₁ r₁ → ends r₁ ≡ true → s₂ ≡ end s₁ → Ran M' A' s₂ s' c r → Completed M A end s s' r
-  run-after {s₁ = s₁} {s₂} {s'} {c₁} {c} {r₁} {r} {M'} {A'} e em ea g h d k =
-      let p : Ran M A s s₁ c₁ r₁ = subst (λ y. Ran M A y s₁ c₁ r₁) e g in
-      let q : Ran M A (end s₁) s' c r =
-      subst (λ y. Ran M A y s' c r) d (subst (λ y. Ran M y s₂ s' c r) ea (subst (λ y. Ran y A' s₂ s' c r) em k)) in
-      record { read = p.read ++ q.read; written = p.written ++ q.written; run = after p h q }
+  pub run-after : {s₁ s₂ s' : S} {c₁ c : List ℕ} {r₁ r : Outcome} {A' : ℕ} → A' ≡ A → Ran M A s s₁ c₁ r₁ → ends r₁ ≡ true → s₂ ≡ end s₁
+      → Ran M A' s₂ s' c r → Completed M A end s s' r
+  run-after {s₁} {s₂} {s'} {c₁} {c} {r₁} {r} {A'} e g h d k =
+      let q : Ran M A (end s₁) s' c r = subst (λ y. Ran M A y s' c r) d (subst (λ y. Ran M y s₂ s' c r) e k) in
+      record { read = g.read ++ q.read; written = g.written ++ q.written; run = after g h q }
 
 -- what was written fits the area, and is sent
 pub sent_is : {t o o' : List ℕ} {b : ℕ} (q : Sent) → Wrote t 0 b o o' → q.whole ≡ pick (leb b (length o')) (eqb q.count b) false

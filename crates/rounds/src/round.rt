@@ -21,23 +21,19 @@ pub struct Outcome {
 }
 
 // Whether a program waits for input: nothing is being written, and neither a refusal nor the end of the input came.
+#[tactic(auto, unfolding(crate::specs::Rounds::waits_at))]
 pub fn waits(busy: usize, phase: usize) -> bool
     ensures { result ≡ waits_at busy phase }
 {
-    if busy == 0 {
-        return phase < 4;
-    }
-    false
+    busy == 0 && phase < 4
 }
 
 // Whether it is over: nothing is being written, and a refusal or the end of the input came.
+#[tactic(auto, unfolding(crate::specs::Rounds::over_at))]
 pub fn is_over(busy: usize, phase: usize) -> bool
     ensures { result ≡ over_at busy phase }
 {
-    if busy == 0 {
-        return 3 < phase;
-    }
-    false
+    busy == 0 && 3 < phase
 }
 
 // Before the first round: nothing is left, nothing has failed.
@@ -90,57 +86,41 @@ pub fn after(filled: Filled, used: usize, written: usize, idle: bool, sent: Sent
 }
 
 // Whether input or output has failed.
+#[tactic(auto, unfolding(crate::specs::Rounds::failed))]
 pub fn has_failed(outcome: Outcome) -> bool
     ensures { result ≡ failed outcome }
 {
-    let filled = outcome.filled;
-    let sent = outcome.sent;
-    if filled.failed {
-        return true;
-    }
-    !sent.whole
+    outcome.filled.failed || !outcome.sent.whole
 }
 
 // Whether the input has ended, and all of it is fed.
+#[tactic(auto, unfolding(crate::specs::Rounds::ended))]
 pub fn has_ended(outcome: Outcome) -> bool
     ensures { result ≡ ended outcome }
 {
-    let filled = outcome.filled;
-    if filled.ended {
-        return outcome.idle;
-    }
-    false
+    outcome.filled.ended && outcome.idle
 }
 
 // Whether the end of the input is to be passed on.
+#[tactic(auto, unfolding(crate::specs::Rounds::ends))]
 pub fn ends(outcome: Outcome) -> bool
     ensures { result ≡ ends outcome }
 {
-    if has_ended(outcome) {
-        return !has_failed(outcome);
-    }
-    false
+    has_ended(outcome) && !has_failed(outcome)
 }
 
 // Whether all was written that there is to write; `over`: the program is over.
+#[tactic(auto, unfolding(crate::specs::Rounds::whole))]
 pub fn is_whole(over: bool, outcome: Outcome) -> bool
     ensures { result ≡ whole over outcome }
 {
-    if has_failed(outcome) {
-        return false;
-    }
-    over
+    !has_failed(outcome) && over
 }
 
 // Whether there is another round.
+#[tactic(auto, unfolding(crate::specs::Rounds::going))]
 pub fn continues(over: bool, outcome: Outcome) -> bool
     ensures { result ≡ going over outcome }
 {
-    if has_failed(outcome) {
-        return false;
-    }
-    if has_ended(outcome) {
-        return false;
-    }
-    !over
+    !has_failed(outcome) && !has_ended(outcome) && !over
 }

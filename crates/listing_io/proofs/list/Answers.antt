@@ -1,6 +1,5 @@
 -- `listing_io::list`: there was a run, on areas as long as they have to be. Assumes nothing.
 use mathlib.Core.Path.{refl}
-use native.Mathlib.Omega.{arith}
 use Rattle.lifting.specs.Grid.{count}
 use Rattle.wavelet.specs.Limits.{max_levels}
 use Rattle.wavelet.specs.Levels.{next, side_at}
@@ -10,6 +9,9 @@ use Rattle.pgm.specs.Limits.{max_picture_width}
 use Rattle.listing_io.proofs.RunLaws.{listed-is}
 use Rattle.listing_io.proofs.list.Goals as goal
 
-pub returns : goal.returns
+pub invariant_of-lister : goal.invariant_of-lister
 unfolding max_levels max_picture_width filter_of store_length widths side_at next count
-returns g c = listed-is _ refl refl (omega arith) c.list_all-run.ensures c.is_over.ensures c.is_whole.ensures
+invariant_of-lister g c = record { lengths = (refl, refl) }
+
+pub returns : goal.returns
+returns g c = listed-is c.start.ensures c.run.ensures

@@ -1,5 +1,0 @@
-use native.Mathlib.Omega.{arith}
-use Rattle.list_files.proofs.main.Goals as goal
-
-pub loop-i-smaller : goal.loop-i-smaller
-loop-i-smaller c = omega arith
