@@ -2,21 +2,21 @@
 -- can come before or after (`column-swap`). So a pass that does several steps in each column is the steps, each over the whole row. Assumes nothing.
 use mathlib.Core.Path.{◌≡◌, refl, sym, ap, ◌∙◌, fun_ext}
 use mathlib.Core.List.{List}
-use mathlib.Core.Bool.{true, false≢true}
-use Prim.Native.Nat.{ℕ, ◌+◌, ◌-◌, ◌*◌, ◌≤◌, ◌<◌}
+use mathlib.Core.Bool.{true, false, false≢true}
+use Prim.Native.Nat.{ℕ, zero, suc, ◌+◌, ◌-◌, ◌*◌, ◌≤◌, ◌<◌}
 use native.Mathlib.Decide.{ℕ_discrete, dec_lt}
 use native.Mathlib.Omega.{arith}
 use lib.IntN.{ℤ, pos}
 use lib.ListN.{length, set, length-set}
 use lib.Seq.{get_or-set_same, get_or-set_other}
 use borrow.Author.Tests.{eq-eqb, ne_eqb}
-use Rattle.numbers.specs.Signal.{at, stored}
+use Rattle.numbers.specs.Signal.{at, stored, pick}
 use Rattle.numbers.specs.Word.{wrap32}
 use Rattle.numbers.proofs.Stores.{stored_at, stored-off, at_stored}
 use Rattle.numbers.proofs.Sweep.{both}
 use Rattle.lifting.specs.Line.{predicted, updated}
 use Rattle.lifting.specs.Rows.{row_fits, rows_fit, row_changed}
-use Rattle.lifting.specs.Pairs.{first, pair_fits, pair_lifted, pair_copied, changed_at, lifted_at}
+use Rattle.lifting.specs.Pairs.{first, pair_fits, pair_lifted, pair_copied, changed_at, lifted_at, copied_at, each_column}
 use Rattle.lifting.proofs.RowLaws.{row_within, row-place, RowIn, RowsIn, row_in, row-fits, rows-in}
 use Rattle.lifting.proofs.RowLaws.{rows-fit, row-at, row-before, row-past, row_other, row-order}
 
@@ -172,6 +172,34 @@ pub copied_none : (s h l r b : ℕ) (x : ℕ → ℤ) → pair_copied s 0 h l r 
 unfolding pair_copied
 copied_none s h l r b x = row-none _ s b h h _ ∙ lifted-none s h l r b x
 
+-- the columns one after the other, by any f, and so by these two
+pub each-none : (f : ℕ → ℕ → ℕ → ℕ → (ℕ → ℤ) → ℕ → ℤ) (s h l r b : ℕ) (x : ℕ → ℤ) → each_column f s 0 h l r b x ≡ x
+unfolding each_column
+each-none f s h l r b x = refl
+
+pub each-more : (f : ℕ → ℕ → ℕ → ℕ → (ℕ → ℤ) → ℕ → ℤ) (s h l r b i : ℕ) (x : ℕ → ℤ)
+    → each_column f s (i + 1) h l r b x ≡ f (h * s + i) (l * s + i) (r * s + i) (b * s + i) (each_column f s i h l r b x)
+unfolding each_column
+each-more f s h l r b i x = let e : i + 1 ≡ suc i = omega arith in rw e refl
+
+pub lifted-each : (s h l r b w : ℕ) (x : ℕ → ℤ) → w ≤ s → each_column lifted_at s w h l r b x ≡ pair_lifted s w h l r b x
+lifted-each s h l r b zero x le = each-none lifted_at s h l r b x ∙ sym (lifted-none s h l r b x)
+lifted-each s h l r b (suc w) x le =
+    let e : suc w ≡ w + 1 = omega arith in
+    rw e
+    (each-more lifted_at s h l r b w x
+    ∙ ap (lifted_at (h * s + w) (l * s + w) (r * s + w) (b * s + w)) (lifted-each s h l r b w x (omega arith))
+    ∙ sym (lifted-more s h l r b w x (omega arith)))
+
+pub copied-each : (s h l r b w : ℕ) (x : ℕ → ℤ) → w ≤ s → each_column copied_at s w h l r b x ≡ pair_copied s w h l r b x
+copied-each s h l r b zero x le = each-none copied_at s h l r b x ∙ sym (copied_none s h l r b x)
+copied-each s h l r b (suc w) x le =
+    let e : suc w ≡ w + 1 = omega arith in
+    rw e
+    (each-more copied_at s h l r b w x
+    ∙ ap (copied_at (h * s + w) (l * s + w) (r * s + w) (b * s + w)) (copied-each s h l r b w x (omega arith))
+    ∙ sym (copied_more s h l r b w x (omega arith)))
+
 -- ---- the loop: before turn i, m₀ being the list at the start and F what the pass makes of the first columns
 pub record PairIn (n s w h l r b : ℕ) : Type 0 where
   pub rows : RowsIn n s w h l r
@@ -191,6 +219,14 @@ pair-in n s w h l r b e =
 pub pair-fits : (n s w h l r b : ℕ) → (l ≡ h → ⊥) → w ≤ s → h * s + w ≤ n → l * s + w ≤ n → r * s + w ≤ n → b * s + w ≤ n → pair_fits n s w h l r b ≡ true
 unfolding pair_fits
 pair-fits n s w h l r b q wide a d e f = simp (ne_eqb l h q, rows-fit n s w h l r wide a d e, row-fits n s w b wide f)
+
+-- where the rows fit, they are as wide as the stride or less
+pub where-fit : (n s w h l r b : ℕ) (y z x : ℕ → ℤ) → (w ≤ s → y ≡ z) → pick (pair_fits n s w h l r b) y x ≡ pick (pair_fits n s w h l r b) z x
+where-fit n s w h l r b y z x e =
+    elim (pair_fits n s w h l r b) as (λ t. pair_fits n s w h l r b ≡ t → pick t y x ≡ pick t z x) [
+      | true ↦ λ fit. e (pair-in n s w h l r b fit).last.wide
+      | false ↦ λ fit. refl
+    ] refl
 
 pub pair-places : {n s w h l r b : ℕ} → PairIn n s w h l r b → (M i : ℕ) → M ≡ n → i < w
     → (h * s + i < M) × (l * s + i < M) × (r * s + i < M) × (b * s + i < M) × (l * s + i ≡ h * s + i → ⊥)

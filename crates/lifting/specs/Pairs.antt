@@ -1,6 +1,6 @@
 -- A pair of rows lifted along the columns: row h, a high row, predicted by rows l and r, the low rows on both sides of it, and then row l updated by row b,
 -- the high row before, and by row h. Rows are those of `Rows`: row t is the w numbers from place t * s on.
-use Rattle.std.specs.Prelude.{Bool, false, ℕ, ◌+◌, ◌*◌, ℤ, eqb}
+use Rattle.std.specs.Prelude.{Bool, false, ℕ, zero, suc, ◌+◌, ◌*◌, ℤ, eqb}
 use Rattle.numbers.specs.Signal.{pick, both, stored}
 use Rattle.numbers.specs.Tests.{every}
 use Rattle.numbers.specs.Word.{wrap32}
@@ -39,5 +39,14 @@ changed_at f t l r x = stored t (f (x t) (x l) (x r)) x
 abbrev pub lifted_at : ℕ → ℕ → ℕ → ℕ → (ℕ → ℤ) → ℕ → ℤ
 lifted_at h l r b x = changed_at (updated wrap32) l b h (changed_at (predicted wrap32) h l r x)
 
+-- and the high number copied to place b
+abbrev pub copied_at : ℕ → ℕ → ℕ → ℕ → (ℕ → ℤ) → ℕ → ℤ
+copied_at h l r b x = changed_at first b h h (lifted_at h l r b x)
+
 abbrev pub unlifted_at : ℕ → ℕ → ℕ → ℕ → (ℕ → ℤ) → ℕ → ℤ
 unlifted_at h l r b x = changed_at (unpredicted wrap32) h b l (changed_at (unupdated wrap32) l h r x)
+
+-- the first i columns, each at its places by f, the one after the other
+unfoldable pub each_column : (ℕ → ℕ → ℕ → ℕ → (ℕ → ℤ) → ℕ → ℤ) → ℕ → ℕ → ℕ → ℕ → ℕ → ℕ → (ℕ → ℤ) → ℕ → ℤ
+each_column f s zero h l r b x = x
+each_column f s (suc i) h l r b x = f (h * s + i) (l * s + i) (r * s + i) (b * s + i) (each_column f s i h l r b x)

@@ -10,7 +10,7 @@ ghost use Rattle.lifting.specs.Halves.{fronted};
 ghost use Rattle.lifting.specs.GridHalves.{unlifted_in_place, has_line_in, highs_laid};
 ghost use Rattle.lifting.specs.Passes.{highs_changed, lows_changed, lows_of};
 
-use crate::{place, sample};
+use crate::{place, sample, single};
 use refusal::Refusal;
 
 // Place p of `out` without its update by two places of a row.
@@ -90,7 +90,7 @@ fn unlift_single(row: &[i32], start: usize, out: &mut [i32]) -> Result<(), Refus
         (fronted (length row.now) (unlifted_in_place (side start (length row.now))
         (highs_laid (side start (length row.now)) (at row.now) (at out.old))) (at out.old)) (at out.old) }
 {
-    if place::single_high(row.len(), start) {
+    if single::is_single(row.len(), start) {
         out[0] = sample::half(row[0])?;
     }
     Ok(())

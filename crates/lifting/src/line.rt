@@ -10,7 +10,7 @@ ghost use Rattle.lifting.specs.GridHalves.{lifted_in_place, unlifted_in_place, h
 ghost use Rattle.lifting.specs.Passes.{evens_copied, even_back, rest_put};
 
 use crate::step::{Predict, Unpredict, Unupdate, Update};
-use crate::{passes, place, sample};
+use crate::{passes, place, sample, single};
 use refusal::Refusal;
 
 // ---- a line in halves, in place
@@ -20,7 +20,7 @@ fn lift_single(line: &mut [i32], start: usize)
     requires { length line.old < 2 }
     ensures { at line.new ≡ lifted_in_place (side start (length line.old)) (at line.old) }
 {
-    if place::single_high(line.len(), start) {
+    if single::is_single(line.len(), start) {
         line[0] = sample::double(line[0]);
     }
 }
@@ -32,7 +32,7 @@ fn unlift_single(line: &mut [i32], start: usize) -> Result<(), Refusal>
     ensures line_after { at line.new ≡ pick (has_line_in (side start (length line.old)) (at line.old))
         (unlifted_in_place (side start (length line.old)) (at line.old)) (at line.old) }
 {
-    if place::single_high(line.len(), start) {
+    if single::is_single(line.len(), start) {
         line[0] = sample::half(line[0])?;
     }
     Ok(())
@@ -186,7 +186,7 @@ fn put_single(coefficients: &[i32], start: usize, out: &mut [i32]) -> Result<(),
     ensures out_after { at out.new ≡ pick (has_line_in (side start (length coefficients.now)) (at coefficients.now))
         (backward_into (side start (length coefficients.now)) (at coefficients.now) (at out.old)) (at out.old) }
 {
-    if place::single_high(coefficients.len(), start) {
+    if single::is_single(coefficients.len(), start) {
         out[0] = sample::half(coefficients[0])?;
         return Ok(());
     }

@@ -3,11 +3,12 @@
 ghost use Rattle.std.specs.Prelude.{◌≡◌, ◌<◌, length, set};
 ghost use Rattle.numbers.specs.Signal.{at, both};
 ghost use Rattle.lifting.specs.Line.{lo};
-ghost use Rattle.lifting.specs.Pairs.{first, changed_at, lifted_at, unlifted_at};
+ghost use Rattle.lifting.specs.Pairs.{lifted_at, unlifted_at};
 ghost use Rattle.lifting.specs.Ranges.{within};
-ghost use Rattle.lifting.specs.Grid.{side, count, single_high};
+ghost use Rattle.lifting.specs.Grid.{side, count};
 ghost use Rattle.lifting.specs.Passes.{near};
 
+use crate::pairs::Pair;
 use crate::sample;
 use crate::step::Step;
 
@@ -19,47 +20,32 @@ pub fn step_at<S: Step>(area: &mut [i32], p: usize, a: usize, b: usize)
 }
 
 // A high number predicted by two low ones, the first of these updated by another high number and this one, which is answered: so a loop has it at hand.
-pub fn lift_at(area: &mut [i32], h: usize, l: usize, r: usize, b: usize) -> i32
-    requires { (h < length area.old) × (l < length area.old) × (r < length area.old) × (b < length area.old) × (l ≡ h → ⊥) }
-    ensures value { result ≡ at area.new h }
-    ensures area_after { at area.new ≡ lifted_at h l r b (at area.old) }
+pub fn lift_at(area: &mut [i32], p: Pair) -> i32
+    requires { (p.high < length area.old) × (p.low < length area.old) × (p.right < length area.old) × (p.before < length area.old) ×
+        (p.low ≡ p.high → ⊥) }
+    ensures value { result ≡ at area.new p.high }
+    ensures area_after { at area.new ≡ lifted_at p.high p.low p.right p.before (at area.old) }
 {
-    let x = area[l];
-    let d = sample::predict(area[h], x, area[r]);
-    area[h] = d;
-    area[l] = sample::update(x, area[b], d);
+    let x = area[p.low];
+    let d = sample::predict(area[p.high], x, area[p.right]);
+    area[p.high] = d;
+    area[p.low] = sample::update(x, area[p.before], d);
     d
-}
-
-// The same, and the high number takes the place of the other.
-pub fn lift_copy_at(area: &mut [i32], h: usize, l: usize, r: usize, b: usize)
-    requires { (h < length area.old) × (l < length area.old) × (r < length area.old) × (b < length area.old) × (l ≡ h → ⊥) }
-    ensures { at area.new ≡ changed_at first b h h (lifted_at h l r b (at area.old)) }
-{
-    let d = lift_at(area, h, l, r, b);
-    area[b] = d;
 }
 
 // The way back: a low number without its update by two high ones, the first of these without its prediction by another low number and this one. It answers
 // whether both lie from `least` to `most`.
-pub fn unlift_at(
-    area: &mut [i32],
-    h: usize,
-    l: usize,
-    r: usize,
-    b: usize,
-    least: i32,
-    most: i32,
-) -> bool
-    requires { (h < length area.old) × (l < length area.old) × (r < length area.old) × (b < length area.old) × (l ≡ h → ⊥) }
-    ensures value { result ≡ both (within least most (at area.new l)) (within least most (at area.new h)) }
-    ensures area_after { at area.new ≡ unlifted_at h l r b (at area.old) }
+pub fn unlift_at(area: &mut [i32], p: Pair, least: i32, most: i32) -> bool
+    requires { (p.high < length area.old) × (p.low < length area.old) × (p.right < length area.old) × (p.before < length area.old) ×
+        (p.low ≡ p.high → ⊥) }
+    ensures value { result ≡ both (within least most (at area.new p.low)) (within least most (at area.new p.high)) }
+    ensures area_after { at area.new ≡ unlifted_at p.high p.low p.right p.before (at area.old) }
 {
-    let d = area[h];
-    let s = sample::unupdate(area[l], d, area[r]);
-    area[l] = s;
-    let x = sample::unpredict(d, area[b], s);
-    area[h] = x;
+    let d = area[p.high];
+    let s = sample::unupdate(area[p.low], d, area[p.right]);
+    area[p.low] = s;
+    let x = sample::unpredict(d, area[p.before], s);
+    area[p.high] = x;
     sample::is_within(s, least, most) & sample::is_within(x, least, most)
 }
 
@@ -71,16 +57,6 @@ pub fn lows(n: usize, start: usize) -> usize
         return n - n / 2;
     }
     n / 2
-}
-
-// Whether n samples are an only one, at an odd coordinate.
-pub fn single_high(n: usize, start: usize) -> bool
-    ensures { result ≡ single_high (side start n) }
-{
-    if start % 2 == 1 {
-        return n == 1;
-    }
-    false
 }
 
 // The number of m that is nearest to k.

@@ -14,7 +14,7 @@ use crate::sample;
 pub fn is_single(h: usize, y: usize) -> bool
     ensures { result ≡ single_high (side y h) }
 {
-    if y % 2 == 1 { h == 1 } else { false }
+    y % 2 == 1 && h == 1
 }
 
 // Whether every number of a row is even.

@@ -12,16 +12,10 @@ unlift_lows-requires c =
     let b = highs-beside (side c.args.start (length c.args.row.now)) _ _ refl c.requires.0 c.lows-low.ensures in
     (b.0, b.1, b.2, b.3, b.4, c.requires.1)
 
-pub overflow_sub-b : goal.overflow_sub-b
-overflow_sub-b c = omega arith
-
 pub unlift_highs-requires : goal.unlift_highs-requires
 unlift_highs-requires c =
     let b = lows-beside (side c.args.start (length c.args.row.now)) _ _ refl c.requires.0 c.lows-low.ensures in
     (b.0, b.1, b.2, b.3, b.4, c.requires.1 ∙ sym c.unlift_lows.auto.out)
-
-pub shape_of-out : goal.shape_of-out
-shape_of-out c = c.unlift_highs.auto.out ∙ c.unlift_lows.auto.out
 
 pub returns : goal.returns
 returns c =

@@ -8,33 +8,6 @@ use Rattle.lifting.specs.Line.{unupdated}
 use Rattle.lifting.proofs.PlaceLaws.{bytes, step-read}
 use Rattle.lifting.proofs.halves.unupdate_by.Goals as goal
 
-pub offset_bounds-out-p : goal.offset_bounds-out-p
-offset_bounds-out-p c = bytes _ _ c.requires.0 c.well_formed.1.0.1
-
-pub slice_copy_out-unupdate : goal.slice_copy_out-unupdate
-slice_copy_out-unupdate c = c.requires.0
-
-pub offset_bounds-row-a : goal.offset_bounds-row-a
-offset_bounds-row-a c = bytes _ _ c.requires.1 c.well_formed.0.1
-
-pub bounds-row-a : goal.bounds-row-a
-bounds-row-a c = c.requires.1
-
-pub offset_bounds-row-b : goal.offset_bounds-row-b
-offset_bounds-row-b c = bytes _ _ c.requires.2 c.well_formed.0.1
-
-pub bounds-row-b : goal.bounds-row-b
-bounds-row-b c = c.requires.2
-
-pub offset_bounds-out-p-2 : goal.offset_bounds-out-p-2
-offset_bounds-out-p-2 c = bytes _ _ c.requires.0 c.well_formed.1.0.1
-
-pub bounds-out-p : goal.bounds-out-p
-bounds-out-p c = c.requires.0
-
-pub shape_of-out : goal.shape_of-out
-shape_of-out c = length-set c.args.out.now _ _
-
 pub returns : goal.returns
 returns c =
     let a = c.args in

@@ -6,24 +6,6 @@ use Rattle.lifting.specs.Line.{unupdated}
 use Rattle.lifting.proofs.PlaceLaws.{bytes, step-read}
 use Rattle.lifting.proofs.line.even_of.Goals as goal
 
-pub offset_bounds-coefficients-n : goal.offset_bounds-coefficients-n
-offset_bounds-coefficients-n c = bytes _ _ c.requires.0 c.well_formed.0.1
-
-pub bounds-coefficients-n : goal.bounds-coefficients-n
-bounds-coefficients-n c = c.requires.0
-
-pub offset_bounds-coefficients-a : goal.offset_bounds-coefficients-a
-offset_bounds-coefficients-a c = bytes _ _ c.requires.1 c.well_formed.0.1
-
-pub bounds-coefficients-a : goal.bounds-coefficients-a
-bounds-coefficients-a c = c.requires.1
-
-pub offset_bounds-coefficients-b : goal.offset_bounds-coefficients-b
-offset_bounds-coefficients-b c = bytes _ _ c.requires.2 c.well_formed.0.1
-
-pub bounds-coefficients-b : goal.bounds-coefficients-b
-bounds-coefficients-b c = c.requires.2
-
 pub returns : goal.returns
 returns c =
     let a = c.args in

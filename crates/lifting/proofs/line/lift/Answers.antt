@@ -9,14 +9,8 @@ use Rattle.lifting.proofs.line.lift.Goals as goal
 pub lift_single-requires : goal.lift_single-requires
 lift_single-requires c = c.if-n-lt2.true
 
-pub shape_of-line-then-n-lt2 : goal.shape_of-line-then-n-lt2
-shape_of-line-then-n-lt2 c = c.lift_single.auto.line
-
 pub returns-then-n-lt2 : goal.returns-then-n-lt2
 returns-then-n-lt2 c = c.lift_single.ensures
-
-pub overflow_sub-b : goal.overflow_sub-b
-overflow_sub-b c = omega arith
 
 pub change_highs-requires : goal.change_highs-requires
 change_highs-requires c =
@@ -27,9 +21,6 @@ pub change_lows-requires : goal.change_lows-requires
 change_lows-requires c =
     let a = c.args in
     highs-beside (side a.start (length a.line.now)) _ _ c.change_highs.auto.line c.if-n-lt2.false c.lows-low.ensures
-
-pub shape_of-line : goal.shape_of-line
-shape_of-line c = c.change_lows.auto.line ∙ c.change_highs.auto.line
 
 pub returns : goal.returns
 returns c =

@@ -9,23 +9,20 @@ use Rattle.lifting.proofs.SingleLaws.{single-high, lifted-single, lifted-none}
 use Rattle.lifting.proofs.line.lift_single.Goals as goal
 
 pub slice_copy_out-double : goal.slice_copy_out-double
-slice_copy_out-double c = let t = single-high _ (sym c.single_high.ensures ∙ c.if-single_high.true) in omega arith
+slice_copy_out-double c = let t = single-high _ (sym c.is_single.ensures ∙ c.if-is_single.true) in omega arith
 
 pub bounds-line-0 : goal.bounds-line-0
 bounds-line-0 c =
-    let t = single-high _ (sym c.single_high.ensures ∙ c.if-single_high.true) in
+    let t = single-high _ (sym c.is_single.ensures ∙ c.if-is_single.true) in
     omega arith
 
-pub shape_of-line : goal.shape_of-line
-shape_of-line c = length-set c.args.line.now 0 _
-
-pub returns-then-single_high : goal.returns-then-single_high
-returns-then-single_high c =
+pub returns-then-is_single : goal.returns-then-is_single
+returns-then-is_single c =
     let l = c.args.line.now in
     let S = side c.args.start (length l) in
     rw (read_back _ c.double.type_inv, c.double.ensures, read_back (at l 0) c.double-arg-1.given)
-    (lifted-single S (sym c.single_high.ensures ∙ c.if-single_high.true) l refl)
+    (lifted-single S (sym c.is_single.ensures ∙ c.if-is_single.true) l refl)
 
-pub returns-else-single_high : goal.returns-else-single_high
-returns-else-single_high c =
-    sym (lifted-none (side c.args.start (length c.args.line.now)) c.requires (sym c.single_high.ensures ∙ c.if-single_high.false) _)
+pub returns-else-is_single : goal.returns-else-is_single
+returns-else-is_single c =
+    sym (lifted-none (side c.args.start (length c.args.line.now)) c.requires (sym c.is_single.ensures ∙ c.if-is_single.false) _)

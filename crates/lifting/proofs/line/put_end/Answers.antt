@@ -48,9 +48,6 @@ bounds-out-q c =
     let p = low-place (side a.start (length a.coefficients.now)) a.n (omega arith) in
     omega arith
 
-pub shape_of-out-then-coefficients-p : goal.shape_of-out-then-coefficients-p
-shape_of-out-then-coefficients-p c = length-set c.args.out.now _ _
-
 pub returns-then-coefficients-p : goal.returns-then-coefficients-p
 returns-then-coefficients-p c =
     let l = c.args.coefficients.now in
@@ -70,9 +67,6 @@ put_pair-requires c =
     let both = counts S in
     let p = high-place S a.n (omega arith) in
     omega arith
-
-pub shape_of-out-then-low-n : goal.shape_of-out-then-low-n
-shape_of-out-then-low-n c = c.put_pair.auto.out
 
 pub returns-then-low-n : goal.returns-then-low-n
 returns-then-low-n c =
@@ -108,25 +102,6 @@ overflow_add-last c =
     let size = c.put_pair-2.auto.out in
     let p = low-place S (a.n + 1) (omega arith) in
     omega arith
-
-pub offset_bounds-out-q-2 : goal.offset_bounds-out-q-2
-offset_bounds-out-q-2 c =
-    let a = c.args in
-    let S = side a.start (length a.coefficients.now) in
-    let size = c.put_pair-2.auto.out in
-    let p = low-place S (a.n + 1) (omega arith) in
-    omega arith
-
-pub bounds-out-q-2 : goal.bounds-out-q-2
-bounds-out-q-2 c =
-    let a = c.args in
-    let S = side a.start (length a.coefficients.now) in
-    let size = c.put_pair-2.auto.out in
-    let p = low-place S (a.n + 1) (omega arith) in
-    omega arith
-
-pub shape_of-out : goal.shape_of-out
-shape_of-out c = length-set c.put_pair-2.new.out _ _ ∙ c.put_pair-2.auto.out
 
 pub returns : goal.returns
 returns c =

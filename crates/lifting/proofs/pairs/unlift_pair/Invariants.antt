@@ -13,5 +13,5 @@ F s h l r b k x = pair_unlifted s k h l r b x
 
 abbrev pub invariant-loop-i : goal.invariant-loop-i
 invariant-loop-i l =
-    Passed (F l.stride l.high l.low l.right l.before) l.stride l.width l.high l.low l.right l.before l.initial.area l.i l.area
-    × (l.ok ≡ pair_within l.least l.most l.stride l.i l.high l.low (at l.area))
+    Passed (F l.stride l.fn.pair.high l.fn.pair.low l.fn.pair.right l.fn.pair.before) l.stride l.width l.fn.pair.high l.fn.pair.low l.fn.pair.right l.fn.pair.before l.initial.area l.i l.area
+    × (l.ok ≡ pair_within l.least l.most l.stride l.i l.fn.pair.high l.fn.pair.low (at l.area))

@@ -3,9 +3,6 @@ use native.Mathlib.Omega.{arith}
 use Rattle.lifting.specs.Grid.{count}
 use Rattle.lifting.proofs.place.lows.Goals as goal
 
-pub overflow_sub-result : goal.overflow_sub-result
-overflow_sub-result c = omega arith
-
 pub returns-then-start-eq0 : goal.returns-then-start-eq0
 unfolding count
 returns-then-start-eq0 c = omega arith

@@ -3,14 +3,8 @@ use mathlib.Core.Path.{refl, sym, ◌∙◌}
 use borrow.Author.Tests.{not-true, not-false}
 use Rattle.lifting.proofs.single.halve_even.Goals as goal
 
-pub shape_of-row-then-not-all_even : goal.shape_of-row-then-not-all_even
-shape_of-row-then-not-all_even c = refl
-
 pub returns-then-not-all_even : goal.returns-then-not-all_even
 returns-then-not-all_even c = record { even = sym (not-true _ c.if-not-all_even.true-raw) ∙ c.all_even.ensures; row = refl }
-
-pub shape_of-row : goal.shape_of-row
-shape_of-row c = c.halve_all.auto.row
 
 pub returns : goal.returns
 returns c =
