@@ -10,6 +10,7 @@ ghost use Rattle.analysis.specs.Pairs.{is_pair, pair_columns, pair_made};
 
 use crate::{columns, near, slots};
 use level::moves;
+use lifting::pairs::Pair;
 use lifting::{line, pairs};
 use nine_seven::line as nine_seven_line;
 
@@ -47,9 +48,21 @@ fn pair_columns(store: &mut [i32], w: usize, n: usize, r: usize)
     let high = slots::slot_on(0, n, 1);
     let free = slots::slot_on(0, n, 3);
     if 0 < n {
-        let _ = pairs::lift_and_copy(store, w, w, high, low, r, free);
+        let rows = Pair {
+            high,
+            low,
+            right: r,
+            before: free,
+        };
+        let _ = pairs::lift_and_copy(store, w, w, rows);
     } else {
-        let _ = pairs::lift_pair(store, w, w, high, low, r, high);
+        let rows = Pair {
+            high,
+            low,
+            right: r,
+            before: high,
+        };
+        let _ = pairs::lift_pair(store, w, w, rows);
         moves::copy_row(store, w, high, free);
     }
 }

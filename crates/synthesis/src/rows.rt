@@ -17,6 +17,7 @@ ghost use Rattle.synthesis.specs.Work.{row_fits, single_made, even_done, most_ma
 use crate::{neighbours, range};
 use areas::{lines, ranges};
 use level::sets;
+use lifting::pairs::Pair;
 use lifting::{line, pairs, rows, single};
 use nine_seven::{line as nine_seven_line, rows as nine_seven_rows};
 use wavelet::sizes;
@@ -89,17 +90,13 @@ pub fn make_both(stretch: &mut [i32], k: usize, w: usize, h: usize, y: usize, n:
     let b = neighbours::row_before(h, y, 1, 2 * n - 1);
     let least = range::lowest_of(0, k);
     let most = filters::range_of(0, k);
-    refusal::code(pairs::unlift_pair(
-        stretch,
-        w,
-        w,
-        (2 * n - 1) % 4,
-        2 * n % 4,
-        r % 4,
-        b % 4,
-        least,
-        most,
-    )) == 0
+    let pair = Pair {
+        high: (2 * n - 1) % 4,
+        low: 2 * n % 4,
+        right: r % 4,
+        before: b % 4,
+    };
+    refusal::code(pairs::unlift_pair(stretch, w, w, pair, least, most)) == 0
 }
 
 // ---- whatever the filter

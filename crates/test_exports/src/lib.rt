@@ -17,6 +17,7 @@ ghost use Rattle.lifting.specs.GridHalves.{lifted_in_place, unlifted_in_place, h
 ghost use Rattle.lifting.specs.Rows.{rows_fit, rows_changed};
 ghost use Rattle.lifting.specs.Pairs.{pair_fits, pair_lifted, pair_copied};
 
+use lifting::pairs::Pair;
 use lifting::step::{Predict, Unpredict, Unupdate, Update};
 use lifting::{halves, line, pairs, rows};
 
@@ -97,7 +98,13 @@ pub extern "C" fn kernel_lift_pair(
     ensures area_after { at area.new ≡ pick (pair_fits (length area.old) stride width high low right before)
         (pair_lifted stride width high low right before (at area.old)) (at area.old) }
 {
-    refusal::code(pairs::lift_pair(area, stride, width, high, low, right, before)) as u32
+    let pair = Pair {
+        high,
+        low,
+        right,
+        before,
+    };
+    refusal::code(pairs::lift_pair(area, stride, width, pair)) as u32
 }
 
 #[unsafe(no_mangle)]
@@ -114,7 +121,13 @@ pub extern "C" fn kernel_lift_and_copy(
     ensures area_after { at area.new ≡ pick (pair_fits (length area.old) stride width high low right before)
         (pair_copied stride width high low right before (at area.old)) (at area.old) }
 {
-    refusal::code(pairs::lift_and_copy(area, stride, width, high, low, right, before)) as u32
+    let pair = Pair {
+        high,
+        low,
+        right,
+        before,
+    };
+    refusal::code(pairs::lift_and_copy(area, stride, width, pair)) as u32
 }
 
 #[unsafe(no_mangle)]

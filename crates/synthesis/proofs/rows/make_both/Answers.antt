@@ -10,33 +10,6 @@ use Rattle.synthesis.proofs.PairMade.{pair-call}
 use Rattle.synthesis.proofs.Clauses.{stretch_after-kept}
 use Rattle.synthesis.proofs.rows.make_both.Goals as goal
 
-pub overflow_mul-n : goal.overflow_mul-n
-overflow_mul-n c = omega arith
-
-pub row_after-r-requires : goal.row_after-r-requires
-row_after-r-requires c = omega arith
-
-pub overflow_mul-n-2 : goal.overflow_mul-n-2
-overflow_mul-n-2 c = omega arith
-
-pub overflow_sub-n : goal.overflow_sub-n
-overflow_sub-n c = omega arith
-
-pub row_before-b-requires : goal.row_before-b-requires
-row_before-b-requires c = omega arith
-
-pub overflow_mul-n-3 : goal.overflow_mul-n-3
-overflow_mul-n-3 c = omega arith
-
-pub overflow_sub-n-2 : goal.overflow_sub-n-2
-overflow_sub-n-2 c = omega arith
-
-pub overflow_mul-n-4 : goal.overflow_mul-n-4
-overflow_mul-n-4 c = omega arith
-
-pub shape_of-stretch : goal.shape_of-stretch
-shape_of-stretch c = c.unlift_pair.auto.area
-
 pub returns : goal.returns
 returns c =
     let a = c.args in
