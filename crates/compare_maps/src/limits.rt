@@ -54,13 +54,13 @@ fn size(t: Tally, width: usize, levels: usize, expected: u8) -> Tally {
     let mut plane = [0i32; 2100];
     let a = map_answer(width, levels, &mut plane, expected);
     let b = stream_answer(width, levels, expected);
-    let c = wavelet::view::band_row_question(
+    let c = refusal::code(wavelet::view::band_row_question(
         &plane,
         heights::shape_of(width, 1, levels),
         levels,
         0,
         0,
-    );
+    ));
     t.more(5, area::sum(differ(c, expected), area::sum(a, b)))
 }
 

@@ -15,27 +15,13 @@ pub fn max_levels() -> usize
     MAX_LEVELS
 }
 
-// The lesser of a level and the last.
-fn deepest(level: usize) -> usize
-    ensures { result ≡ min level max_levels }
-{
-    if level < MAX_LEVELS {
-        level
-    } else {
-        MAX_LEVELS
-    }
-}
-
 // The largest magnitude of a coefficient of a level, 65,535 × 6^level; past the last level, that of the last.
 pub fn range_of(level: usize) -> i32
     ensures { result ≡ pos (range nine_seven_filter (min level max_levels)) }
 {
-    let last = deepest(level);
     let mut most = limits::MAX_SAMPLE;
-    let mut k = 0;
-    while k < last {
+    for _ in 0..level.min(MAX_LEVELS) {
         most = 6 * most;
-        k += 1;
     }
     most
 }

@@ -10,8 +10,9 @@ pub fn one_pass(row: &[u16], out: &mut [f32])
     ensures { floats out.new ≡ passed row.now out.old }
 {
     let mut s = ends::open(row);
-    let mut p = 0;
-    while p + 4 < row.len() {
+    let turns = row.len().saturating_sub(3) / 2;
+    for k in 0..turns {
+        let p = 2 * k;
         let t = carry::turn(s, ends::height(row, p + 3), ends::height(row, p + 4));
         ends::store_pair(
             out,
@@ -20,8 +21,8 @@ pub fn one_pass(row: &[u16], out: &mut [f32])
             t.third,
         );
         s = t;
-        p += 2;
     }
+    let p = 2 * turns;
     let t = ends::turn_at(row, p, s);
     ends::store_pair(
         out,

@@ -61,7 +61,7 @@ fn seek_row(s: Shape, d: usize, from: Spot) -> Place
 fn shape_fits(s: Shape) -> bool
     ensures { result ≡ shape_fits s }
 {
-    limits::size_question(s.width, s.height, s.levels) == 0
+    limits::size_question(s.width, s.height, s.levels).is_ok()
 }
 
 // Are a place's numbers in their ranges?

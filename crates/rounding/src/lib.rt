@@ -18,7 +18,7 @@ use wavelet::limits;
 fn question(n: usize, width: usize, height: usize, levels: usize, step: usize) -> u8
     ensures { result ≡ round_question width height levels step n }
 {
-    let no = limits::size_question(width, height, levels);
+    let no = refusal::code(limits::size_question(width, height, levels));
     if no != 0 {
         return no;
     }

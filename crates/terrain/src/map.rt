@@ -11,7 +11,6 @@ ghost use Rattle.map_questions.specs.Calls.{forward_question, backward_question,
 
 use wavelet::shape::Shape;
 use wavelet::view;
-use wavelet::view::Span;
 
 // A map of heights to its plane, by the filter of its shape. The questions are 2, 3, 18, 4 and 5.
 pub fn terrain_map_forward(
@@ -64,11 +63,11 @@ pub fn terrain_band_row(
     ensures count_after { count.new ≡ pick (eqb result 0) (view_length (columns shape) level band) count.old }
 {
     match view::locate(len, shape, level, band, row) {
-        Span::At(first, length) => {
-            *start = first;
-            *count = length;
+        Ok(span) => {
+            *start = span.start;
+            *count = span.length;
             0
         }
-        Span::Refused(no) => no as u32,
+        Err(why) => why.number() as u32,
     }
 }

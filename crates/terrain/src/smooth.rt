@@ -7,5 +7,5 @@ pub fn terrain_profile(row: &[u16], out: &mut [f32]) -> u32
     ensures value { result ≡ profile_question (length row.now) (length out.old) }
     ensures out_after { floats out.new ≡ smoothed result row.now out.old }
 {
-    profile::smooth(row, out) as u32
+    refusal::code(profile::smooth(row, out)) as u32
 }

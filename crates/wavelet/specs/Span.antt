@@ -1,19 +1,20 @@
 -- Where a band row stands, as `locate` answers it: document 01's number and values for each case of the answer, and which of them it is.
-use Rattle.std.specs.Prelude.{false, ℕ, ltb, eqb}
+use Rattle.std.specs.Prelude.{false, ℕ, ltb, eqb, Result, Ok, Err}
 use Rattle.numbers.specs.Signal.{pick, both}
 use Rattle.lifting.specs.Grid.{Side}
 use Rattle.wavelet.specs.ViewCall.{named, band_row_exists, view_question, view_start, view_length}
+use Rattle.refusal.specs.declared.Refusal.{Refusal}
+use Rattle.refusal.specs.Numbers.{number}
 use Rattle.wavelet.specs.declared.view.Span.{Span}
-use Rattle.wavelet.specs.declared.view.Span.TheVariants as span
 
 -- the row's first place in the plane and its length, or the number of the question that turned the call away
 pub data Answer : Type 0 where
   gives : ℕ → ℕ → Answer
   refused : ℕ → Answer
 
-abbrev pub of_span : Span → Answer
-of_span (span.At start n) = gives start n
-of_span (span.Refused q) = refused q
+abbrev pub of_span : Result Span Refusal → Answer
+of_span (Ok s) = gives s.start s.length
+of_span (Err r) = refused (number r)
 
 -- row r of a band of some rows, each of n numbers
 unfoldable pub kept_span : ℕ → ℕ → ℕ → ℕ → Answer

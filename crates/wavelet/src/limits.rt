@@ -1,7 +1,10 @@
 // The limits of the whole map and of the view. A contract that names a constant follows an edit of it, so each is pinned to the definition's number.
 ghost use Rattle.std.specs.Prelude.{◌≡◌, pos};
 ghost use Rattle.wavelet.specs.Limits.{max_width, max_height, max_levels, max_sample};
+ghost use Rattle.refusal.specs.Numbers.{answer};
 ghost use Rattle.wavelet.specs.Questions.{within, size_question};
+
+use refusal::Refusal;
 
 pub const MAX_WIDTH: usize = 2049;
 
@@ -46,18 +49,18 @@ pub fn is_within(n: usize, most: usize) -> bool
     n <= most
 }
 
-// Questions 2, 3 and 4, in this order: 0, or the number of the first that says no.
-pub fn size_question(width: usize, height: usize, levels: usize) -> u8
-    ensures { result ≡ size_question width height levels }
+// Questions 2, 3 and 4, in this order.
+pub fn size_question(width: usize, height: usize, levels: usize) -> Result<(), Refusal>
+    ensures { answer result ≡ size_question width height levels }
 {
     if !is_within(width, MAX_WIDTH) {
-        return 2;
+        return Err(Refusal::BadWidth);
     }
     if !is_within(height, MAX_HEIGHT) {
-        return 3;
+        return Err(Refusal::BadHeight);
     }
     if !is_within(levels, MAX_LEVELS) {
-        return 4;
+        return Err(Refusal::BadLevels);
     }
-    0
+    Ok(())
 }

@@ -29,24 +29,16 @@ pub fn next_start(start: usize) -> usize
     start - start / 2
 }
 
-// The lesser of a number of halvings and 65. After 64 a side starts at 0 or 1 and has one coordinate or none; a single 1 is gone after another, and then the
-// side stays.
-fn turns(level: usize) -> usize
-    ensures { result ≡ min level 65 }
-{
-    if level < 65 { level } else { 65 }
-}
+// The most halvings that change a side. After 64 it starts at 0 or 1 and has one coordinate or none; a single 1 is gone after another, and then it stays.
+const MOST_TURNS: usize = 65;
 
 // Where level `level` starts, however long the side is.
 pub fn start_at(level: usize, start: usize) -> usize
     ensures { (n : ℕ) → result ≡ (side_at level (side start n)).start }
 {
     let mut from = start;
-    let last = turns(level);
-    let mut k = 0;
-    while k < last {
+    for _ in 0..level.min(MOST_TURNS) {
         from = next_start(from);
-        k += 1;
     }
     from
 }
@@ -57,37 +49,20 @@ pub fn size_at(level: usize, start: usize, n: usize) -> usize
 {
     let mut from = start;
     let mut length = n;
-    let last = turns(level);
-    let mut k = 0;
-    while k < last {
+    for _ in 0..level.min(MOST_TURNS) {
         length = low_count(from, length);
         from = next_start(from);
-        k += 1;
     }
     length
-}
-
-// The lesser of a level and the last.
-fn deepest(level: usize) -> usize
-    ensures { result ≡ min level max_levels }
-{
-    if level < limits::MAX_LEVELS {
-        level
-    } else {
-        limits::MAX_LEVELS
-    }
 }
 
 // The largest magnitude of a coefficient of a level, 65,535 × 4^level; past the last level, that of the last.
 pub fn range_of(level: usize) -> i32
     ensures { result ≡ pos (range five_three_filter (min level max_levels)) }
 {
-    let last = deepest(level);
     let mut most = limits::MAX_SAMPLE;
-    let mut k = 0;
-    while k < last {
+    for _ in 0..level.min(limits::MAX_LEVELS) {
         most = 4 * most;
-        k += 1;
     }
     most
 }

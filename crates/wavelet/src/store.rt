@@ -16,12 +16,10 @@ fn added(width: usize, x: usize, levels: usize) -> usize
     let mut sum = 0;
     let mut from = x;
     let mut length = width;
-    let mut k = 0;
-    while k < levels {
+    for _ in 0..levels {
         sum += length;
         length = sizes::low_count(from, length);
         from = sizes::next_start(from);
-        k += 1;
     }
     sum
 }

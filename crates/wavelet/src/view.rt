@@ -5,28 +5,30 @@ ghost use Rattle.wavelet.specs.Limits.{max_width, max_height, max_levels};
 ghost use Rattle.wavelet.specs.Levels.{side_at};
 ghost use Rattle.wavelet.specs.Shape.{columns, rows};
 ghost use Rattle.wavelet.specs.ViewCall.{view_question, view_row, view_place, address_of};
+ghost use Rattle.refusal.specs.Numbers.{answer};
 ghost use Rattle.wavelet.specs.Span.{of_span, kept_span, stretch_of, span_of};
 
 use crate::limits;
 use crate::shape::Shape;
+use refusal::Refusal;
 
-// Where a band row stands in its plane: start and length, or the number of the question that turned it away.
+// Where a band row stands in its plane.
 #[derive(Clone, Copy)]
-pub enum Span {
-    At(usize, usize),
-    Refused(u8),
+pub struct Span {
+    pub start: usize,
+    pub length: usize,
 }
 
 // A row of a band that has `rows` rows, each of `length` numbers.
-fn keep(row: usize, rows: usize, start: usize, length: usize) -> Span
+fn keep(row: usize, rows: usize, start: usize, length: usize) -> Result<Span, Refusal>
     ensures { of_span result ≡ kept_span row rows start length }
 {
     if 0 < length {
         if row < rows {
-            return Span::At(start, length);
+            return Ok(Span { start, length });
         }
     }
-    Span::Refused(6)
+    Err(Refusal::NoBandRow)
 }
 
 // How long level `level` of a side is, within the limits: both ends are halved up from level to level, each to ⌈end / 2^level⌉.
@@ -39,7 +41,7 @@ fn size_within(level: usize, start: usize, n: usize) -> usize
 }
 
 // Question 6, and the stretch: of a plane within the limits.
-fn stretch(shape: Shape, level: usize, band: usize, row: usize) -> Span
+fn stretch(shape: Shape, level: usize, band: usize, row: usize) -> Result<Span, Refusal>
     requires { (shape.width ≤ max_width) × (shape.height ≤ max_height) × (shape.levels ≤ max_levels) }
     ensures { of_span result ≡ stretch_of (columns shape) (rows shape) shape.levels level band row }
 {
@@ -49,10 +51,10 @@ fn stretch(shape: Shape, level: usize, band: usize, row: usize) -> Span
     let x = shape.x as usize;
     let y = shape.y as usize;
     if !limits::is_within(level, levels) {
-        return Span::Refused(6);
+        return Err(Refusal::NoBandRow);
     }
     if height <= row {
-        return Span::Refused(6);
+        return Err(Refusal::NoBandRow);
     }
     let low = size_within(level, x, width);
     let right = size_within(level - 1, x, width) - low;
@@ -61,39 +63,46 @@ fn stretch(shape: Shape, level: usize, band: usize, row: usize) -> Span
     match band {
         0 => {
             if level < levels {
-                return Span::Refused(6);
+                return Err(Refusal::NoBandRow);
             }
             keep(row, top, row * width, low)
         }
         1 => keep(row, top, row * width + low, right),
         2 => keep(row, bottom, (top + row) * width, low),
         3 => keep(row, bottom, (top + row) * width + low, right),
-        _ => Span::Refused(6),
+        _ => Err(Refusal::NoBandRow),
     }
 }
 
 // Where the named band row stands in a plane of `length` numbers. The questions are 2, 3, 4, 5 and 6.
-pub fn locate(length: usize, shape: Shape, level: usize, band: usize, row: usize) -> Span
+pub fn locate(
+    length: usize,
+    shape: Shape,
+    level: usize,
+    band: usize,
+    row: usize,
+) -> Result<Span, Refusal>
     ensures { of_span result ≡ span_of length (columns shape) (rows shape) shape.levels level band row }
 {
-    let no = limits::size_question(shape.width, shape.height, shape.levels);
-    if no != 0 {
-        return Span::Refused(no);
-    }
+    limits::size_question(shape.width, shape.height, shape.levels)?;
     if length < shape.width * shape.height {
-        return Span::Refused(5);
+        return Err(Refusal::AreaShort);
     }
     stretch(shape, level, band, row)
 }
 
-// The number of the question that turns the view of this band row away, or 0.
-pub fn band_row_question(plane: &[i32], shape: Shape, level: usize, band: usize, row: usize) -> u8
-    ensures { result ≡ view_question (length plane.now) (columns shape) (rows shape) shape.levels level band row }
+// Whether a question turns the view of this band row away.
+pub fn band_row_question(
+    plane: &[i32],
+    shape: Shape,
+    level: usize,
+    band: usize,
+    row: usize,
+) -> Result<(), Refusal>
+    ensures { answer result ≡ view_question (length plane.now) (columns shape) (rows shape) shape.levels level band row }
 {
-    match locate(plane.len(), shape, level, band, row) {
-        Span::At(_, _) => 0,
-        Span::Refused(no) => no,
-    }
+    locate(plane.len(), shape, level, band, row)?;
+    Ok(())
 }
 
 // The band row, or the empty stretch where a question turns the view away.
@@ -109,7 +118,7 @@ pub fn band_row<'a>(
         address_of plane.entry.ref_ptr (view_place (length plane.now) (columns shape) (rows shape) shape.levels level band row) }
 {
     match locate(plane.len(), shape, level, band, row) {
-        Span::At(start, count) => &plane[start..start + count],
-        Span::Refused(_) => &plane[0..0],
+        Ok(span) => &plane[span.start..span.start + span.length],
+        Err(_) => &plane[0..0],
     }
 }

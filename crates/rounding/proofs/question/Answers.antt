@@ -8,24 +8,25 @@ use Rattle.rounding.proofs.question.Goals as goal
 
 pub returns-then-no-ne0 : goal.returns-then-no-ne0
 returns-then-no-ne0 c =
-    c.size_question-no.ensures ∙ no_size _ _ _ _ _ (λ e. omega (arith, c.size_question-no.ensures, c.if-no-ne0.true))
+    let no = c.code-no.ensures ∙ c.size_question.ensures in
+    no ∙ no_size _ _ _ _ _ (λ e. omega (arith, no, c.if-no-ne0.true))
 
 pub returns-then-not-is_within : goal.returns-then-not-is_within
 unfolding max_step
 returns-then-not-is_within c =
-    no_step _ _ _ _ _ (sym c.size_question-no.ensures ∙ c.if-no-ne0.false) (sym c.is_within.ensures ∙ not-true _ c.if-not-is_within.true-raw)
+    no_step _ _ _ _ _ (sym (c.code-no.ensures ∙ c.size_question.ensures) ∙ c.if-no-ne0.false) (sym c.is_within.ensures ∙ not-true _ c.if-not-is_within.true-raw)
 
 pub overflow_mul-width : goal.overflow_mul-width
 overflow_mul-width c =
     let a = c.args in
-    record { fits = product-fits a.width a.height a.levels a.step a.n (sym c.size_question-no.ensures ∙ c.if-no-ne0.false) }
+    record { fits = product-fits a.width a.height a.levels a.step a.n (sym (c.code-no.ensures ∙ c.size_question.ensures) ∙ c.if-no-ne0.false) }
 
 pub returns-then-n-width : goal.returns-then-n-width
 unfolding max_step
 returns-then-n-width c =
-    no_room _ _ _ _ _ (sym c.size_question-no.ensures ∙ c.if-no-ne0.false) (sym c.is_within.ensures ∙ not-false _ c.if-not-is_within.false-raw) c.if-n-width.true
+    no_room _ _ _ _ _ (sym (c.code-no.ensures ∙ c.size_question.ensures) ∙ c.if-no-ne0.false) (sym c.is_within.ensures ∙ not-false _ c.if-not-is_within.false-raw) c.if-n-width.true
 
 pub returns : goal.returns
 unfolding max_step
 returns c =
-    none-no _ _ _ _ _ (sym c.size_question-no.ensures ∙ c.if-no-ne0.false) (sym c.is_within.ensures ∙ not-false _ c.if-not-is_within.false-raw) c.if-n-width.false
+    none-no _ _ _ _ _ (sym (c.code-no.ensures ∙ c.size_question.ensures) ∙ c.if-no-ne0.false) (sym c.is_within.ensures ∙ not-false _ c.if-not-is_within.false-raw) c.if-n-width.false

@@ -1,21 +1,11 @@
 -- `filters::range::range_of` meets its contract. The loop's invariant: `most` is the range of level k. Assumes nothing.
-use mathlib.Core.Path.{◌≡◌, refl, ap, ◌∙◌}
-use Prim.Native.Nat.{ℕ, suc, ◌-◌, ◌*◌, ◌^◌, ◌≤◌, ◌<◌, min}
-use native.Mathlib.Omega.{arith}
-use native.Mathlib.Numerals.{add-one}
-use lib.IntN.{ℤ, pos, ◌*ℤ◌}
-use mir.Syntax.{w32}
-use mir.Val.{SFits, to_z}
-use mir.ValLaws.{to_z-of_z}
-use Rattle.numbers.proofs.Integers.{each, lin}
-use Rattle.wavelet.specs.Limits.{max_sample, range}
+use mathlib.Core.Path.{◌≡◌}
+use Prim.Native.Nat.{◌≤◌}
+use lib.IntN.{pos}
+use Rattle.wavelet.specs.Limits.{range}
 use Rattle.filters.specs.Range.{max_levels}
 use Rattle.nine_seven.specs.NineSevenFilter.{nine_seven_filter}
-use Rattle.filters.proofs.RangeLaws.{levels-small, range-suc, range_small}
 use Rattle.filters.proofs.range.range_of.Given as goal
 
-abbrev pub invariant-loop-k : goal.invariant-loop-k
-invariant-loop-k l = (l.k ≤ l.last) × (l.last ≤ max_levels) × (l.most ≡ pos (range nine_seven_filter l.k))
-
-abbrev pub decreases-loop-k : goal.decreases-loop-k
-decreases-loop-k l = l.last - l.k
+abbrev pub invariant-loop : goal.invariant-loop
+invariant-loop l = (l.end ≤ max_levels) × (l.most ≡ pos (range nine_seven_filter l.counter))

@@ -1,6 +1,5 @@
 -- `close`: nothing is left, a pair or one sample. Assumes nothing.
 use mathlib.Core.Path.{sym}
-use borrow.Author.Rules.{rules}
 use lib.ListN.{length}
 use Rattle.profile.specs.Calls.{heights}
 use Rattle.profile.proofs.EndLaws.{closed-pair, closed-one}

@@ -1,6 +1,5 @@
 -- `next_first`: in the row, or mirrored. Assumes nothing.
 use mathlib.Core.Path.{refl, sym, ◌∙◌}
-use borrow.Author.Rules.{rules}
 use Rattle.profile.specs.Profile.{alpha}
 use Rattle.profile.proofs.PassLaws.{below, not-below}
 use Rattle.profile.proofs.OnePassLaws.{lifted-of}

@@ -1,6 +1,5 @@
 -- `next_second`: in the row, or mirrored. Assumes nothing.
 use mathlib.Core.Path.{sym, ◌∙◌}
-use borrow.Author.Rules.{rules}
 use Rattle.profile.proofs.PassLaws.{below, not-below}
 use Rattle.profile.proofs.ends.next_second.Goals as goal
 

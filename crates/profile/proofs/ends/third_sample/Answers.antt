@@ -1,6 +1,5 @@
 -- `third_sample`: in the row, or mirrored. Assumes nothing.
 use mathlib.Core.Path.{sym, ◌∙◌}
-use borrow.Author.Rules.{rules}
 use Rattle.profile.proofs.PassLaws.{below, not-below}
 use Rattle.profile.proofs.ends.third_sample.Goals as goal
 

@@ -1,5 +1,4 @@
 -- `turn_at`: the values of its calls, put together. Assumes nothing.
-use borrow.Author.Rules.{rules}
 use Rattle.profile.proofs.ends.turn_at.Goals as goal
 
 pub returns : goal.returns

@@ -1,5 +1,5 @@
 use mathlib.Core.Path.{◌≡◌, sym, ap, ap₂, ◌∙◌}
-use Prim.Native.Nat.{ℕ, ◌≤◌, ◌<◌, ◌+◌, ◌-◌, ◌^◌}
+use Prim.Native.Nat.{ℕ, ◌<◌, ◌+◌}
 use native.Mathlib.Omega.{arith}
 use native.Mathlib.Numerals.{add-one}
 use Rattle.lifting.specs.Grid.{Side, side}
@@ -29,8 +29,8 @@ turn width x levels sum from length k from' length' v b es el =
       shorter = omega (arith, size-le (k + 1) W, length-is (k + 1) width x from' length' next-is);
     }
 
-pub loop-k-init : goal.loop-k-init
-loop-k-init c =
+pub loop-init : goal.loop-init
+loop-init c =
     record {
       most = omega arith;
       narrow = omega (arith, width_small);
@@ -43,25 +43,19 @@ loop-k-init c =
 pub overflow_add-sum : goal.overflow_add-sum
 overflow_add-sum c =
     let a = c.args in
-    omega (arith, widths-le (side a.x a.width) c.loop-k.k)
+    omega (arith, widths-le (side a.x a.width) c.loop.counter)
 
-pub overflow_add-k : goal.overflow_add-k
-overflow_add-k c = omega arith
-
-pub loop-k-smaller : goal.loop-k-smaller
-loop-k-smaller c = omega arith
-
-pub loop-k-preserved : goal.loop-k-preserved
-loop-k-preserved c =
-    let l = c.loop-k in
+pub loop-preserved : goal.loop-preserved
+loop-preserved c =
+    let l = c.loop in
     let a = c.args in
-    turn a.width a.x a.levels l.sum l.from l.length l.k _ _ l.invariant c.loop-k-test.true
+    turn a.width a.x a.levels l.sum l.from l.length l.counter _ _ l.invariant c.loop-test.true
     (c.next_start-from.ensures l.length)
     (c.low_count-length.ensures ∙ sym (next-length (side l.from l.length)))
 
 pub returns : goal.returns
 returns c =
-    let l = c.loop-k in
+    let l = c.loop in
     let a = c.args in
-    let e : l.k ≡ a.levels = omega arith in
+    let e : l.counter ≡ a.levels = omega arith in
     l.invariant.total ∙ ap (widths (side a.x a.width)) e
