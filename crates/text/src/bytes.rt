@@ -6,17 +6,14 @@ ghost use Rattle.text.specs.Text.{Puts};
 pub fn least(a: usize, b: usize) -> usize
     ensures { result ≡ min a b }
 {
-    if a < b { a } else { b }
+    a.min(b)
 }
 
 // The least of what is left of a text after place `from` and of the room.
 pub fn some(length: usize, from: usize, room: usize) -> usize
     ensures { result ≡ min (length - from) room }
 {
-    if length < from {
-        return 0;
-    }
-    least(length - from, room)
+    length.saturating_sub(from).min(room)
 }
 
 // Do n bytes fit from place `at` on?
@@ -34,11 +31,7 @@ fn copy_some(text: &[u8], from: usize, out: &mut [u8], at: usize, n: usize)
     requires { (from + n ≤ length text.now) × (at + n ≤ length out.old) }
     ensures { out.new ≡ paste out.old at (drop from text.now) n }
 {
-    let mut i = 0;
-    while i < n {
-        out[at + i] = text[from + i];
-        i += 1;
-    }
+    out[at..at + n].copy_from_slice(&text[from..from + n]);
 }
 
 // The bytes of text from place `from` on to out from place `at` on, as many as there are and as there is room for; answers how many.

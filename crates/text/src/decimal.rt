@@ -70,11 +70,7 @@ pub fn put_number(n: usize, out: &mut [u8], at: usize) -> usize
 fn magnitude(v: i32) -> usize
     ensures { result ≡ nat_abs v }
 {
-    if v < 0 {
-        (0 - (v as i64)) as usize
-    } else {
-        v as usize
-    }
+    v.unsigned_abs() as usize
 }
 
 // The same with a minus before it.
