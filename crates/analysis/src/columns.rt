@@ -61,7 +61,7 @@ fn copy_low(store: &mut [i32], filter: usize, w: usize, n: usize)
     if filter == 0 {
         return;
     }
-    moves::copy_row(store, w, slots::slot_on(1, n, 0), slots::low_waits(1, n));
+    let _ = moves::copy_row(store, w, slots::slot_on(1, n, 0), slots::low_waits(1, n));
 }
 
 // ---- whatever the filter
@@ -106,7 +106,7 @@ fn copy_high(store: &mut [i32], filter: usize, w: usize, y: usize, m: usize, n: 
     ensures { at store.new ≡ high_copied (columns_of filter) w (side y m) n (at store.old) }
 {
     if near::has_high(y, m, n) {
-        moves::copy_row(
+        let _ = moves::copy_row(
             store,
             w,
             slots::slot_on(filter, n, 1),

@@ -1,9 +1,10 @@
 // A level's calls on the way forward, by the filter's number: 0 is the 5/3, any other the integer 9/7. The store begins with the level's stretch. Each call
-// that changes it answers 0, or 5 with nothing changed where the stretch, or the next level's after it, does not lie in the store. w is how many columns the
+// that changes it is refused, with nothing changed, where the stretch, or the next level's after it, does not lie in the store. w is how many columns the
 // level has; its columns start at coordinate x and its rows at coordinate y, of which only the parity counts.
 ghost use Rattle.std.specs.Prelude.{◌≡◌, ◌+◌, ◌<◌, length, ltb};
 ghost use Rattle.numbers.specs.Signal.{at, pick};
 ghost use Rattle.lifting.specs.Grid.{side};
+ghost use Rattle.refusal.specs.Numbers.{answer};
 ghost use Rattle.wavelet.specs.ViewCall.{named};
 ghost use Rattle.filters.specs.Filters.{filter_of};
 ghost use Rattle.level.specs.Heights.{height_at};
@@ -12,6 +13,7 @@ ghost use Rattle.analysis.specs.Forward.{kind_of, level_fits, next_fits, countab
 
 use crate::{sets, slots};
 use level::{heights, moves};
+use refusal::Refusal;
 use wavelet::sizes;
 
 // Whether the stretch of a level of w columns lies within n numbers, and whether the next level's does too: by division, so that no product can overflow.
@@ -27,10 +29,7 @@ fn level_fits(filter: usize, n: usize, w: usize) -> bool
 fn next_fits(filter: usize, n: usize, w: usize, x: usize) -> bool
     ensures { result ≡ next_fits filter n (side x w) }
 {
-    if level_fits(filter, n, w) {
-        return level_fits(filter, n, w + sizes::low_count(x, w));
-    }
-    false
+    level_fits(filter, n, w) && level_fits(filter, n, w + sizes::low_count(x, w))
 }
 
 // Where the row at q begins; 0 where the stretch has more numbers than can be counted.
@@ -54,8 +53,8 @@ pub fn put(
     run: &[u16],
     from: usize,
     n: usize,
-) -> u8
-    ensures value { result ≡ pick (heights_fit filter (length store.old) (side x w) column n (length run.now) from) 0 5 }
+) -> Result<(), Refusal>
+    ensures value { answer result ≡ pick (heights_fit filter (length store.old) (side x w) column n (length run.now) from) 0 5 }
     ensures store_after { at store.new ≡ pick (heights_fit filter (length store.old) (side x w) column n (length run.now) from)
         (heights_put filter (side x w) q column n (λ j. height_at run.now (from + j)) (at store.old)) (at store.old) }
 {
@@ -64,20 +63,20 @@ pub fn put(
         let e = a + w;
         return heights::put(&mut store[a..e], x, column, run, from, n);
     }
-    5
+    Err(Refusal::AreaShort)
 }
 
 // Set n is made, the row that completes it being there: a set is made of the rows at two coordinates, 2n and 2n + 1 past the last even one not after y.
-pub fn make(filter: usize, store: &mut [i32], w: usize, x: usize, y: usize, n: usize) -> u8
-    ensures value { result ≡ pick (level_fits filter (length store.old) (side x w)) 0 5 }
+pub fn make(filter: usize, store: &mut [i32], w: usize, x: usize, y: usize, n: usize) -> Result<(), Refusal>
+    ensures value { answer result ≡ pick (level_fits filter (length store.old) (side x w)) 0 5 }
     ensures store_after { at store.new ≡ pick (level_fits filter (length store.old) (side x w))
         ((kind_of filter).make (side x w) y n (at store.old)) (at store.old) }
 {
     if level_fits(filter, store.len(), w) {
         sets::make_next(store, filter, w, x, y, n);
-        return 0;
+        return Ok(());
     }
-    5
+    Err(Refusal::AreaShort)
 }
 
 // Set n of m rows is made, all of them being there and the sets before it being made. A set that they do not have makes nothing.
@@ -89,22 +88,22 @@ pub fn close(
     y: usize,
     m: usize,
     n: usize,
-) -> u8
-    ensures value { result ≡ pick (level_fits filter (length store.old) (side x w)) 0 5 }
+) -> Result<(), Refusal>
+    ensures value { answer result ≡ pick (level_fits filter (length store.old) (side x w)) 0 5 }
     ensures store_after { at store.new ≡ pick (level_fits filter (length store.old) (side x w))
         ((kind_of filter).close (side x w) (side y m) n (at store.old)) (at store.old) }
 {
     if level_fits(filter, store.len(), w) {
         sets::make_set(store, filter, w, x, y, m, n);
-        return 0;
+        return Ok(());
     }
-    5
+    Err(Refusal::AreaShort)
 }
 
 // The LL row of set n, lifted along the row, becomes row q of the next level, whose stretch is the one after: the row at coordinate q past the last even one
 // that is not after the next level's start.
-pub fn deliver(filter: usize, store: &mut [i32], w: usize, x: usize, n: usize, q: usize) -> u8
-    ensures value { result ≡ pick (next_fits filter (length store.old) (side x w)) 0 5 }
+pub fn deliver(filter: usize, store: &mut [i32], w: usize, x: usize, n: usize, q: usize) -> Result<(), Refusal>
+    ensures value { answer result ≡ pick (next_fits filter (length store.old) (side x w)) 0 5 }
     ensures store_after { at store.new ≡ pick (next_fits filter (length store.old) (side x w))
         (delivered filter (side x w) n q (at store.old)) (at store.old) }
 {
@@ -114,7 +113,7 @@ pub fn deliver(filter: usize, store: &mut [i32], w: usize, x: usize, n: usize, q
         let to = filters::rows_kept(filter) * w + slots::slot(filter, q) * v;
         return moves::deinterleave_row(store, from, to, sizes::next_start(x), v);
     }
-    5
+    Err(Refusal::AreaShort)
 }
 
 // Where the row of a band, told by its code, waits that set n has; 0 where the code names no band.

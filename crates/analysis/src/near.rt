@@ -23,10 +23,7 @@ pub fn has_high(y: usize, m: usize, n: usize) -> bool
 pub fn has_low(y: usize, m: usize, n: usize) -> bool
     ensures { result ≡ has_row (side y m) lo n }
 {
-    if y % 2 <= n {
-        return n - y % 2 < sizes::low_count(y, m);
-    }
-    false
+    y % 2 <= n && n - y % 2 < sizes::low_count(y, m)
 }
 
 // The slot of low row number k, and of high row number k.

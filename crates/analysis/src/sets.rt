@@ -63,7 +63,7 @@ fn pair_columns(store: &mut [i32], w: usize, n: usize, r: usize)
             before: high,
         };
         let _ = pairs::lift_pair(store, w, w, rows);
-        moves::copy_row(store, w, high, free);
+        let _ = moves::copy_row(store, w, high, free);
     }
 }
 
@@ -81,22 +81,14 @@ fn make_pair(store: &mut [i32], w: usize, x: usize, n: usize, r: usize)
 fn is_pair(filter: usize, y: usize, m: usize, n: usize) -> bool
     ensures { result ≡ is_pair filter (side y m) n }
 {
-    if filter == 0 {
-        if near::has_low(y, m, n) {
-            return near::has_high(y, m, n);
-        }
-    }
-    false
+    filter == 0 && (near::has_low(y, m, n) && near::has_high(y, m, n))
 }
 
 // and set n of the rows up to the one that completes it.
 fn is_next_pair(filter: usize, y: usize, n: usize) -> bool
     ensures { result ≡ is_pair filter (rows_to 1 y n) n }
 {
-    if filter == 0 {
-        return y % 2 <= n;
-    }
-    false
+    filter == 0 && y % 2 <= n
 }
 
 // ---- whatever the filter

@@ -16,11 +16,9 @@ fn separate(store: &mut [i32], from: usize, firsts: usize, seconds: usize, count
         × (firsts + count ≤ length store.old) × (seconds + count ≤ length store.old) }
     ensures { at store.new ≡ separated from firsts seconds count (at store.old) }
 {
-    let mut j = 0;
-    while j < count {
+    for j in 0..count {
         store[firsts + j] = store[from + 2 * j];
         store[seconds + j] = store[from + 2 * j + 1];
-        j += 1;
     }
 }
 
@@ -54,9 +52,7 @@ pub fn copy_row(store: &mut [i32], w: usize, from: usize, to: usize)
 {
     let t = to * w;
     let f = from * w;
-    let mut i = 0;
-    while i < w {
+    for i in 0..w {
         store[t + i] = store[f + i];
-        i += 1;
     }
 }

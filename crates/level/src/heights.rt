@@ -3,9 +3,11 @@
 ghost use Rattle.std.specs.Prelude.{◌≡◌, ◌+◌, ◌*◌, ◌^◌, ◌<◌, ◌≤◌, leb, length};
 ghost use Rattle.numbers.specs.Signal.{at, pick};
 ghost use Rattle.lifting.specs.Grid.{side};
+ghost use Rattle.refusal.specs.Numbers.{answer};
 ghost use Rattle.level.specs.Cells.{spot};
 ghost use Rattle.level.specs.Heights.{height_at, heights_put, heights_fit};
 
+use refusal::Refusal;
 use wavelet::sizes;
 
 // Where column c of a row of w stands.
@@ -28,11 +30,9 @@ fn fill_pairs(row: &mut [i32], x: usize, column: usize, run: &[u16], pairs: usiz
     let w = row.len();
     let first = cell(w, x, column);
     let second = cell(w, x, column + 1);
-    let mut j = 0;
-    while j < pairs {
+    for j in 0..pairs {
         row[first + j] = run[2 * j] as i32;
         row[second + j] = run[2 * j + 1] as i32;
-        j += 1;
     }
 }
 
@@ -57,32 +57,27 @@ fn fill(row: &mut [i32], x: usize, column: usize, run: &[u16])
 pub fn lies_in(a: usize, n: usize, all: usize) -> bool
     ensures { result ≡ leb (a + n) all }
 {
-    if n <= all {
-        return a <= all - n;
-    }
-    false
+    n <= all && a <= all - n
 }
 
+#[tactic(auto, unfolding(crate::specs::Heights::heights_fit))]
 fn heights_fit(w: usize, column: usize, n: usize, all: usize, from: usize) -> bool
     ensures { result ≡ heights_fit w column n all from }
 {
-    if lies_in(column, n, w) {
-        return lies_in(from, n, all);
-    }
-    false
+    lies_in(column, n, w) && lies_in(from, n, all)
 }
 
-// Heights `from` to `from + n` of a run are put into a row, from column `column` on. 5, and nothing is changed, where the row has not as many columns or the
-// run not as many heights.
-pub fn put(row: &mut [i32], x: usize, column: usize, run: &[u16], from: usize, n: usize) -> u8
-    ensures value { result ≡ pick (heights_fit (length row.old) column n (length run.now) from) 0 5 }
+// Heights `from` to `from + n` of a run are put into a row, from column `column` on. Refused, and nothing is changed, where the row has not as many columns
+// or the run not as many heights.
+pub fn put(row: &mut [i32], x: usize, column: usize, run: &[u16], from: usize, n: usize) -> Result<(), Refusal>
+    ensures value { answer result ≡ pick (heights_fit (length row.old) column n (length run.now) from) 0 5 }
     ensures row_after { at row.new ≡ pick (heights_fit (length row.old) column n (length run.now) from)
         (heights_put (side x (length row.old)) column n (λ j. height_at run.now (from + j)) (at row.old)) (at row.old) }
 {
     if heights_fit(row.len(), column, n, run.len(), from) {
         let end = from + n;
         fill(row, x, column, &run[from..end]);
-        return 0;
+        return Ok(());
     }
-    5
+    Err(Refusal::AreaShort)
 }

@@ -23,7 +23,7 @@ returns-then-level_fits c =
     let a = c.args in
     c.level_fits-then-level_fits.ensures a.x ∙ next-is a.filter a.n (side a.x a.w) _ a.x c.low_count.ensures
 
-pub returns : goal.returns
-returns c =
+pub returns-else-level_fits : goal.returns-else-level_fits
+returns-else-level_fits c =
     let a = c.args in
-    next-none a.filter a.n (side a.x a.w) (sym (c.level_fits.ensures a.x) ∙ c.if-level_fits.false)
+    c.if-level_fits.false ∙ next-none a.filter a.n (side a.x a.w) (sym (c.level_fits.ensures a.x) ∙ c.if-level_fits.false)

@@ -8,6 +8,3 @@ use Rattle.level.proofs.copies.copy_row.Given as goal
 
 abbrev pub invariant-loop-i : goal.invariant-loop-i
 invariant-loop-i l = Turned first l.w l.w l.to l.from l.from l.initial.store l.i l.store
-
-abbrev pub decreases-loop-i : goal.decreases-loop-i
-decreases-loop-i l = l.w - l.i

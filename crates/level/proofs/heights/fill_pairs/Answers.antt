@@ -9,19 +9,9 @@ use Rattle.level.specs.Heights.{height_at, heights_put}
 use Rattle.level.proofs.FillLaws.{height-fits, height-read, Put, put-none, put-pair, put-place}
 use Rattle.level.proofs.heights.fill_pairs.Goals as goal
 
-pub cell-first-requires : goal.cell-first-requires
-cell-first-requires c = omega arith
-
-pub overflow_add-column : goal.overflow_add-column
-overflow_add-column c = omega arith
-
-pub cell-second-requires : goal.cell-second-requires
-cell-second-requires c = omega arith
-
 pub loop-j-init : goal.loop-j-init
 loop-j-init c =
     let a = c.args in (
-      omega arith,
       omega arith,
       omega arith,
       omega arith,
@@ -29,15 +19,6 @@ loop-j-init c =
       c.cell-second.ensures,
       put-none (side a.x (length a.row.now)) a.column _ a.row.now (omega arith),
     )
-
-pub overflow_mul-row : goal.overflow_mul-row
-overflow_mul-row c = omega arith
-
-pub offset_bounds-run-j : goal.offset_bounds-run-j
-offset_bounds-run-j c = omega arith
-
-pub bounds-run-j : goal.bounds-run-j
-bounds-run-j c = omega arith
 
 pub overflow_cast-row : goal.overflow_cast-row
 overflow_cast-row c =
@@ -49,31 +30,19 @@ pub overflow_add-row : goal.overflow_add-row
 overflow_add-row c =
     let l = c.loop-j in
     let a = c.args in
-    omega (arith, put-place (side a.x (length a.row.now)) a.column l.j _ (omega arith) l.invariant.4)
+    omega (arith, put-place (side a.x (length a.row.now)) a.column l.j _ (omega arith) l.invariant.3)
 
 pub offset_bounds-row-first : goal.offset_bounds-row-first
 offset_bounds-row-first c =
     let l = c.loop-j in
     let a = c.args in
-    omega (arith, put-place (side a.x (length a.row.now)) a.column l.j _ (omega arith) l.invariant.4)
+    omega (arith, put-place (side a.x (length a.row.now)) a.column l.j _ (omega arith) l.invariant.3)
 
 pub bounds-row-first : goal.bounds-row-first
 bounds-row-first c =
     let l = c.loop-j in
     let a = c.args in
-    omega (arith, put-place (side a.x (length a.row.now)) a.column l.j _ (omega arith) l.invariant.4, l.invariant.6.room, l.invariant.6.size)
-
-pub overflow_mul-row-in-loop-j : goal.overflow_mul-row-in-loop-j
-overflow_mul-row-in-loop-j c = omega arith
-
-pub overflow_add-row-in-loop-j : goal.overflow_add-row-in-loop-j
-overflow_add-row-in-loop-j c = omega arith
-
-pub offset_bounds-run-j-in-loop-j : goal.offset_bounds-run-j-in-loop-j
-offset_bounds-run-j-in-loop-j c = omega arith
-
-pub bounds-run-j-in-loop-j : goal.bounds-run-j-in-loop-j
-bounds-run-j-in-loop-j c = omega arith
+    omega (arith, put-place (side a.x (length a.row.now)) a.column l.j _ (omega arith) l.invariant.3, l.invariant.5.room, l.invariant.5.size)
 
 pub overflow_cast-row-in-loop-j : goal.overflow_cast-row-in-loop-j
 overflow_cast-row-in-loop-j c =
@@ -85,27 +54,21 @@ pub overflow_add-second : goal.overflow_add-second
 overflow_add-second c =
     let l = c.loop-j in
     let a = c.args in
-    omega (arith, put-place (side a.x (length a.row.now)) (a.column + 1) l.j _ (omega arith) l.invariant.5)
+    omega (arith, put-place (side a.x (length a.row.now)) (a.column + 1) l.j _ (omega arith) l.invariant.4)
 
 pub offset_bounds-row-second : goal.offset_bounds-row-second
 offset_bounds-row-second c =
     let l = c.loop-j in
     let a = c.args in
-    omega (arith, put-place (side a.x (length a.row.now)) (a.column + 1) l.j _ (omega arith) l.invariant.5)
+    omega (arith, put-place (side a.x (length a.row.now)) (a.column + 1) l.j _ (omega arith) l.invariant.4)
 
 pub bounds-row-second : goal.bounds-row-second
 bounds-row-second c =
     let l = c.loop-j in
     let a = c.args in
-    let p = put-place (side a.x (length a.row.now)) (a.column + 1) l.j _ (omega arith) l.invariant.5 in
-    let r = l.invariant.6 in
+    let p = put-place (side a.x (length a.row.now)) (a.column + 1) l.j _ (omega arith) l.invariant.4 in
+    let r = l.invariant.5 in
     simp length-set (omega (arith, p, r.room, r.size))
-
-pub overflow_add-j : goal.overflow_add-j
-overflow_add-j c = omega arith
-
-pub loop-j-smaller : goal.loop-j-smaller
-loop-j-smaller c = omega arith
 
 pub loop-j-preserved : goal.loop-j-preserved
 loop-j-preserved c =
@@ -118,19 +81,18 @@ loop-j-preserved c =
       omega arith,
       omega arith,
       omega arith,
-      omega arith,
+      i.3,
       i.4,
-      i.5,
-      put-pair (side a.x (length a.row.now)) a.column _ a.row.now l.j _ _ _ _ _ i.6 (omega arith) i.4 i.5 v u,
+      put-pair (side a.x (length a.row.now)) a.column _ a.row.now l.j _ _ _ _ _ i.5 (omega arith) i.3 i.4 v u,
     )
 
 pub shape_of-row : goal.shape_of-row
-shape_of-row c = c.loop-j.invariant.6.size
+shape_of-row c = c.loop-j.invariant.5.size
 
 pub returns : goal.returns
 returns c =
     let l = c.loop-j in
     let a = c.args in
     let e : l.j ≡ a.pairs = omega arith in
-    l.invariant.6.value
+    l.invariant.5.value
     ∙ ap (λ (k : ℕ). heights_put (side a.x (length a.row.now)) a.column (2 * k) (height_at a.run.now) (at a.row.now)) e

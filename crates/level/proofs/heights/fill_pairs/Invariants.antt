@@ -13,9 +13,6 @@ use Rattle.level.proofs.heights.fill_pairs.Given as goal
 -- the bounds, the two places, and the heights put
 abbrev pub invariant-loop-j : goal.invariant-loop-j
 invariant-loop-j l =
-    (l.j ≤ l.pairs) × (length l.initial.row < 2 ^ 62) × (l.column + 2 * l.pairs ≤ length l.initial.row) × (2 * l.pairs ≤ length l.run)
+    (length l.initial.row < 2 ^ 62) × (l.column + 2 * l.pairs ≤ length l.initial.row) × (2 * l.pairs ≤ length l.run)
     × (l.first ≡ spot (side l.x (length l.initial.row)) l.column) × (l.second ≡ spot (side l.x (length l.initial.row)) (l.column + 1))
     × Put (side l.x (length l.initial.row)) l.column (2 * l.j) (height_at l.run) l.initial.row l.row
-
-abbrev pub decreases-loop-j : goal.decreases-loop-j
-decreases-loop-j l = l.pairs - l.j
