@@ -16,6 +16,9 @@ use Rattle.lifting.specs.Grid.{Side}
 use Rattle.filters.specs.Filters.{filter_of}
 use Rattle.filters.specs.Figures.{writer_store_by, streamable}
 use Rattle.filters.proofs.FigureLaws.{streams}
+use Rattle.refusal.specs.declared.Refusal.{Refusal}
+use Rattle.refusal.specs.Numbers.{number}
+use Rattle.refusal.proofs.Laws.{number-some}
 use Rattle.calls.specs.Lists.{gives, refused, unless, changed_unless}
 use Rattle.calls.proofs.QuestionLaws.{asked-yes, not_yes}
 use Rattle.writer.specs.declared.Writer.{Writer}
@@ -41,6 +44,9 @@ use Rattle.writer.proofs.QuestionLaws.{known-filter, Sound, sound, state-no, sta
 use Rattle.level.specs.Level.{Memory, rest}
 
 -- ---- by the number of the question
+pub number-past : (r : Refusal) → 0 < number r
+number-past r = let z = number-some r in omega (arith, z)
+
 pub unless-no : {A : Type 0} (q : ℕ) (a : A) → 0 < q → refused q ≡ unless q a
 unless-no zero a h = absurd (omega arith)
 unless-no (suc q) a h = refl

@@ -1,7 +1,7 @@
 -- Many rows at once: a run is a list of the calls that stand. While a band row waits, it is drawn into what is left of the output area, and its name is put
 -- after those of the rows before it; else heights are offered, up to the end of the row begun. The run ends where the next of these calls would be turned
 -- away, where the heights are used up and nothing waits, and where there is no room for a name.
-use Rattle.std.specs.Prelude.{Bool, not, List, [], ◌∷◌, ◌++◌, ℕ, zero, suc, ◌+◌, ◌-◌, ◌*◌, ◌/◌, eqb, ltb, length, take, drop}
+use Rattle.std.specs.Prelude.{Bool, not, List, [], ◌∷◌, ◌++◌, ℕ, zero, suc, ◌+◌, ◌-◌, ◌*◌, ◌/◌, eqb, ltb, length, take, drop, Result, Ok, Err}
 use Rattle.numbers.specs.Signal.{pick, both}
 use Rattle.wavelet.specs.Questions.{ask}
 use Rattle.calls.specs.Lists.{Reply, gives, refused, Area, unless}
@@ -9,7 +9,8 @@ use Rattle.level.specs.Level.{Memory, rest, join_at}
 use Rattle.writer.specs.declared.Writer.{Writer}
 use Rattle.writer.specs.declared.BandRow.{BandRow}
 use Rattle.writer.specs.declared.runs.Ran.{Ran}
-use Rattle.writer.specs.declared.runs.Ran.TheVariants as ran-as
+use Rattle.refusal.specs.declared.Refusal.{Refusal}
+use Rattle.refusal.specs.Numbers.{number}
 use Rattle.writer.specs.Questions.{either, in_ranges, long_enough, offer_question, draw_question}
 use Rattle.writer.specs.History.{Call, offer, draw, row, none, Event, offered, drew, finished, looked, World, event, next}
 
@@ -117,9 +118,9 @@ pub record Progress : Type 0 where
 abbrev pub progress : Run → Progress
 progress r = record { taken = r.taken; rows = r.rows; numbers = r.numbers; writer = r.world.writer }
 
-abbrev pub of_ran : Ran → Reply Progress
-of_ran (ran-as.Went d w) = gives (record { taken = d.taken; rows = d.rows; numbers = d.numbers; writer = w })
-of_ran (ran-as.Refused q) = refused q
+abbrev pub of_ran : Result Ran Refusal → Reply Progress
+of_ran (Ok r) = gives (record { taken = r.done.taken; rows = r.done.rows; numbers = r.done.numbers; writer = r.writer })
+of_ran (Err r) = refused (number r)
 
 -- what stands afterwards in the store, in the output area or in the area for names: a, as before, where a question turned the run away
 abbrev pub left_by : {A : Type 0} → (Run → A) → A → Reply Run → A

@@ -18,34 +18,19 @@ pub fn draw_and_close(s: Writer, from: Level, store: &mut [i32]) -> Writer
                 s.filter, store, s.levels, s.width, s.x, s.y, s.closed, s.rows,
             );
             return Writer {
-                width: s.width,
-                levels: s.levels,
-                x: s.x,
-                y: s.y,
-                rows: s.rows,
-                column: s.column,
-                finished: s.finished,
                 closed: q.closed,
                 level: q.wait.level,
                 left: q.wait.left,
                 offset: q.wait.offset,
-                filter: s.filter,
+                ..s
             };
         }
     }
     Writer {
-        width: s.width,
-        levels: s.levels,
-        x: s.x,
-        y: s.y,
-        rows: s.rows,
-        column: s.column,
-        finished: s.finished,
-        closed: s.closed,
         level: r.level,
         left: r.left,
         offset: r.offset,
-        filter: s.filter,
+        ..s
     }
 }
 

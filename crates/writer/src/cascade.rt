@@ -38,7 +38,7 @@ pub fn arrive(
         return waits::nothing();
     }
     let n = (y % 2 + m) / 2 - filters::look_ahead(filter);
-    forward::make(filter, store, w, x, y, n);
+    let _ = forward::make(filter, store, w, x, y, n);
     let i = counts::next_band(w, x, m + 1, y, n, counts::most(l - 1));
     if 0 < i {
         return Wait {
@@ -52,7 +52,7 @@ pub fn arrive(
     }
     let k = n - y % 2;
     let s = sizes::next_start(y);
-    forward::deliver(filter, store, w, x, n, s % 2 + k);
+    let _ = forward::deliver(filter, store, w, x, n, s % 2 + k);
     let a = stretch(filter, w, x);
     let r = arrive(
         filter,
@@ -84,7 +84,7 @@ pub fn pass_on(
     }
     let k = n - y % 2;
     let s = sizes::next_start(y);
-    forward::deliver(filter, store, w, x, n, s % 2 + k);
+    let _ = forward::deliver(filter, store, w, x, n, s % 2 + k);
     let a = stretch(filter, w, x);
     let r = arrive(
         filter,

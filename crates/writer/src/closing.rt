@@ -40,7 +40,7 @@ fn close_step(
     if !counts::is_left(y, m, n) {
         return waits::nothing();
     }
-    forward::close(filter, store, w, x, y, m, n);
+    let _ = forward::close(filter, store, w, x, y, m, n);
     let i = counts::next_band(w, x, m, y, n, counts::most(l));
     if 0 < i {
         return Wait {
@@ -69,16 +69,17 @@ fn close_level(
         (at store.new) }
 {
     let a = filters::look_ahead(filter);
-    let mut k = c;
-    while k < a {
+    for k in c..a {
         let o = close_step(filter, store, l, w, x, y, k, m);
-        k += 1;
         if 0 < o.level {
-            return Closure { closed: k, wait: o };
+            return Closure {
+                closed: k + 1,
+                wait: o,
+            };
         }
     }
     Closure {
-        closed: k,
+        closed: c.max(a),
         wait: waits::nothing(),
     }
 }

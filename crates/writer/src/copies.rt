@@ -8,10 +8,8 @@ pub fn hand_out(store: &[i32], start: usize, count: usize, out: &mut [i32])
     requires { (start + count ≤ length store.now) × (count ≤ length out.old) }
     ensures { at out.new ≡ fronted count (λ j. at store.now (start + j)) (at out.old) }
 {
-    let mut j = 0;
-    while j < count {
+    for j in 0..count {
         out[j] = store[start + j];
-        j += 1;
     }
 }
 
@@ -20,9 +18,7 @@ pub fn clear(store: &mut [i32], count: usize)
     requires { count ≤ length store.old }
     ensures { at store.new ≡ fronted count (λ _. pos 0) (at store.old) }
 {
-    let mut j = 0;
-    while j < count {
+    for j in 0..count {
         store[j] = 0;
-        j += 1;
     }
 }

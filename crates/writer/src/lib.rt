@@ -23,6 +23,7 @@ ghost use Rattle.writer.specs.Calls.{finish_store};
 ghost use Rattle.writer.specs.Holds.{SetUpHolds, OfferKeeps, DrawKeeps, FinishKeeps};
 
 use progress::levels;
+use refusal::Refusal;
 use wavelet::shape::Shape;
 
 // The counts of a writer; docs/STATE.md gives their ranges.
@@ -59,35 +60,18 @@ pub struct BandRow {
     pub length: usize,
 }
 
+// The heights that an offer took, and the writer then.
 #[derive(Clone, Copy)]
-pub enum SetUp {
-    Ready(Writer),
-    Refused(u8),
+pub struct Taken {
+    pub heights: usize,
+    pub writer: Writer,
 }
 
+// The band row that a draw handed out, and the writer then.
 #[derive(Clone, Copy)]
-pub enum Offered {
-    Taken(usize, Writer),
-    Refused(u8),
-}
-
-#[derive(Clone, Copy)]
-pub enum Drawn {
-    Row(BandRow, Writer),
-    Nothing,
-    Refused(u8),
-}
-
-#[derive(Clone, Copy)]
-pub enum Look {
-    Row(BandRow),
-    Refused(u8),
-}
-
-#[derive(Clone, Copy)]
-pub enum Finished {
-    Closed(Writer),
-    Refused(u8),
+pub struct Drawn {
+    pub row: BandRow,
+    pub writer: Writer,
 }
 
 impl Writer {
@@ -139,7 +123,7 @@ impl Writer {
     }
 
     // A fresh writer, and zeros in the part of the store that it needs. A writer need not know how many rows will come: it does not read the shape's height.
-    pub fn set_up(shape: Shape, store: &mut [i32]) -> SetUp
+    pub fn set_up(shape: Shape, store: &mut [i32]) -> Result<Writer, Refusal>
         ensures result_value { of_set_up result ≡ set_up_reply shape.filter (columns shape) shape.y shape.levels (length store.old) }
         ensures store_after { at store.new ≡ set_up_store shape.filter (columns shape) shape.levels (length store.old)
             (at store.old) }
@@ -147,13 +131,10 @@ impl Writer {
     {
         let filter = shape.filter as usize;
         let x = shape.x as usize;
-        let no = questions::set_up_question(filter, shape.width, x, shape.levels, store.len());
-        if 0 < no {
-            return SetUp::Refused(no);
-        }
+        questions::set_up_question(filter, shape.width, x, shape.levels, store.len())?;
         let n = filters::writer_store_length(filter, shape.width, x, shape.levels);
-        let _ = copies::clear(store, n);
-        SetUp::Ready(Writer {
+        copies::clear(store, n);
+        Ok(Writer {
             width: shape.width,
             levels: shape.levels,
             x,
@@ -171,18 +152,18 @@ impl Writer {
 
     // Heights taken until a band row waits, the row limit is reached or the run is used up, and how many; while band rows wait, those that the spare row
     // has room for.
-    pub fn offer(self, store: &mut [i32], run: &[u16]) -> Offered
+    pub fn offer(self, store: &mut [i32], run: &[u16]) -> Result<Taken, Refusal>
         ensures result_value { of_offered result ≡ offer_reply self (length store.old) run.now (at store.old) }
         ensures store_after { at store.new ≡ offer_store self (length store.old) run.now (at store.old) }
         ensures offer_keeps { OfferKeeps self run.now (at store.old) (of_offered result) (at store.new) }
     {
-        let no = questions::offer_question(self, store.len(), run.len());
-        if 0 < no {
-            return Offered::Refused(no);
-        }
+        questions::offer_question(self, store.len(), run.len())?;
         if 0 < self.level {
             let held = spare::room(self, run.len());
-            return Offered::Taken(held, spare::hold(self, store, run, held));
+            return Ok(Taken {
+                heights: held,
+                writer: spare::hold(self, store, run, held),
+            });
         }
         let mut s = self;
         let mut taken = 0;
@@ -192,11 +173,14 @@ impl Writer {
             taken += n;
             n = offers::next(s, run.len() - taken);
         }
-        Offered::Taken(taken, s)
+        Ok(Taken {
+            heights: taken,
+            writer: s,
+        })
     }
 
-    // The row that waits, its values at the front of `out`, or Nothing. Once nothing waits, the heights of the spare row go on.
-    pub fn draw(self, store: &mut [i32], out: &mut [i32]) -> Drawn
+    // The row that waits, its values at the front of `out`, or None. Once nothing waits, the heights of the spare row go on.
+    pub fn draw(self, store: &mut [i32], out: &mut [i32]) -> Result<Option<Drawn>, Refusal>
         ensures result_value { of_drawn result ≡ draw_reply self (length store.old) (length out.old) (at store.old) }
         ensures store_after { at store.new ≡ draw_store self (length store.old) (length out.old) (at store.old) }
         ensures out_after { at out.new ≡ draw_area self (length store.old) (length out.old) (at store.old)
@@ -204,12 +188,9 @@ impl Writer {
         ensures draw_keeps { DrawKeeps self (at store.old) (of_drawn result) (at store.new) (at out.new) }
     {
         let fits = questions::in_ranges(self);
-        let no = questions::state_question(self, fits, store.len());
-        if 0 < no {
-            return Drawn::Refused(no);
-        }
+        questions::state_question(self, fits, store.len())?;
         if self.level == 0 {
-            return Drawn::Nothing;
+            return Ok(None);
         }
         let q = levels::level_of(
             self.filter,
@@ -222,27 +203,27 @@ impl Writer {
         );
         let spot = draws::waiting(self, q);
         if out.len() < spot.length {
-            return Drawn::Refused(12);
+            return Err(Refusal::OutShort);
         }
         copies::hand_out(store, spot.start, spot.length, out);
         let next = after::draw_and_move(self, q, store);
-        Drawn::Row(
-            BandRow {
+        Ok(Some(Drawn {
+            row: BandRow {
                 level: spot.level,
                 band: spot.band,
                 row: spot.row,
                 length: spot.length,
             },
-            next,
-        )
+            writer: next,
+        }))
     }
 
-    // The row that the next draw hands out; its level is 0 where nothing waits.
-    pub fn waits(self) -> Look
+    // The row that the next draw hands out; None where nothing waits.
+    pub fn waits(self) -> Result<Option<BandRow>, Refusal>
         ensures { of_look result ≡ waits_reply self }
     {
         if !questions::in_ranges(self) {
-            return Look::Refused(1);
+            return Err(Refusal::BadState);
         }
         if 0 < self.level {
             let q = levels::level_of(
@@ -254,26 +235,18 @@ impl Writer {
                 self.level,
                 self.rows,
             );
-            return Look::Row(draws::looked(self, q));
+            return Ok(Some(draws::looked(self, q)));
         }
-        Look::Row(BandRow {
-            level: 0,
-            band: 0,
-            row: 0,
-            length: 0,
-        })
+        Ok(None)
     }
 
     // No more rows: the levels close in turn, until a row waits.
-    pub fn finish(self, store: &mut [i32]) -> Finished
+    pub fn finish(self, store: &mut [i32]) -> Result<Writer, Refusal>
         ensures result_value { of_finished result ≡ finish_reply self (length store.old) (at store.old) }
         ensures store_after { at store.new ≡ finish_store self (length store.old) (at store.old) }
         ensures finish_keeps { FinishKeeps self (at store.old) (of_finished result) (at store.new) }
     {
-        let no = questions::finish_question(self, store.len());
-        if 0 < no {
-            return Finished::Refused(no);
-        }
+        questions::finish_question(self, store.len())?;
         let r = closing::flush(
             self.filter,
             store,
@@ -284,19 +257,13 @@ impl Writer {
             0,
             self.rows,
         );
-        Finished::Closed(Writer {
-            width: self.width,
-            levels: self.levels,
-            x: self.x,
-            y: self.y,
-            rows: self.rows,
-            column: self.column,
+        Ok(Writer {
             finished: true,
             closed: r.closed,
             level: r.wait.level,
             left: r.wait.left,
             offset: r.wait.offset,
-            filter: self.filter,
+            ..self
         })
     }
 }

@@ -47,34 +47,18 @@ pub fn reach(s: Writer, store: &mut [i32], column: usize) -> Writer
 {
     if column < s.width {
         return Writer {
-            width: s.width,
-            levels: s.levels,
-            x: s.x,
-            y: s.y,
-            rows: s.rows,
             column,
-            finished: s.finished,
-            closed: s.closed,
-            level: s.level,
-            left: s.left,
-            offset: s.offset,
-            filter: s.filter,
+            ..s
         };
     }
     let r = cascade::arrive(s.filter, store, s.levels, s.width, s.x, s.y, s.rows);
     Writer {
-        width: s.width,
-        levels: s.levels,
-        x: s.x,
-        y: s.y,
         rows: s.rows + 1,
         column: 0,
-        finished: s.finished,
-        closed: s.closed,
         level: r.level,
         left: r.left,
         offset: r.offset,
-        filter: s.filter,
+        ..s
     }
 }
 
@@ -84,6 +68,6 @@ pub fn put_heights(s: Writer, store: &mut [i32], run: &[u16], from: usize, n: us
     ensures { HeightsTaken s run.now from n (at store.old) result (at store.new) (length store.old) }
 {
     let q = s.y % 2 + s.rows;
-    forward::put(s.filter, store, s.width, s.x, q, s.column, run, from, n);
+    let _ = forward::put(s.filter, store, s.width, s.x, q, s.column, run, from, n);
     reach(s, store, s.column + n)
 }

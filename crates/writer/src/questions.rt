@@ -1,9 +1,10 @@
-// The gate questions of the writer's calls, in order: 0, or the number of the first that says no.
+// The gate questions of the writer's calls, in order: the first that says no.
 ghost use Rattle.std.specs.Prelude.{◌≡◌, ◌^◌, ◌<◌, ◌≤◌, leb, eqb};
 ghost use Rattle.numbers.specs.Signal.{both};
 ghost use Rattle.lifting.specs.Grid.{side};
 ghost use Rattle.wavelet.specs.Limits.{max_height};
 ghost use Rattle.filters.specs.Figures.{streamable};
+ghost use Rattle.refusal.specs.Numbers.{answer};
 ghost use Rattle.progress.specs.Counts.{most_left, start_of};
 ghost use Rattle.writer.specs.Taking.{columns_of};
 ghost use Rattle.writer.specs.Questions.{on_grid, most_column, in_ranges, rows_taken, known, set_up_question, offer_question, finish_question};
@@ -11,6 +12,7 @@ ghost use Rattle.writer.specs.FirstQuestions.{state_question, open_question};
 
 use crate::{Writer, cascade};
 use progress::counts;
+use refusal::Refusal;
 use wavelet::{limits, sizes};
 
 // Does the stretch of level v begin at place o? The stretches before it are taken off: added up first, they would cost the short calls more.
@@ -117,33 +119,33 @@ pub fn in_ranges(s: Writer) -> bool
 }
 
 // Questions 1 and 5, n being the length of the store. The first is asked before: two small functions are put into each call, one of both would not be.
-pub fn state_question(s: Writer, fits: bool, n: usize) -> u8
+pub fn state_question(s: Writer, fits: bool, n: usize) -> Result<(), Refusal>
     requires { fits ≡ in_ranges s }
-    ensures { result ≡ state_question s n }
+    ensures { answer result ≡ state_question s n }
 {
     if !fits {
-        return 1;
+        return Err(Refusal::BadState);
     }
     if filters::holds_any(s.filter, s.width, counts::minus(n, s.width)) {
-        return 0;
+        return Ok(());
     }
     if n < filters::writer_store_length(s.filter, s.width, s.x, s.levels) {
-        return 5;
+        return Err(Refusal::AreaShort);
     }
-    0
+    Ok(())
 }
 
 // Questions 9 and 8.
-fn open_question(s: Writer) -> u8
-    ensures { result ≡ open_question s }
+fn open_question(s: Writer) -> Result<(), Refusal>
+    ensures { answer result ≡ open_question s }
 {
     if s.finished {
-        return 9;
+        return Err(Refusal::IsOver);
     }
     if 0 < s.level {
-        return 8;
+        return Err(Refusal::NotItsTurn);
     }
-    0
+    Ok(())
 }
 
 // Question 18 of a set-up.
@@ -154,22 +156,28 @@ fn is_filter(filter: usize) -> bool
 }
 
 // Of columns from x on.
-pub fn set_up_question(filter: usize, width: usize, x: usize, levels: usize, n: usize) -> u8
-    ensures { result ≡ set_up_question filter (side x width) levels n }
+pub fn set_up_question(
+    filter: usize,
+    width: usize,
+    x: usize,
+    levels: usize,
+    n: usize,
+) -> Result<(), Refusal>
+    ensures { answer result ≡ set_up_question filter (side x width) levels n }
 {
     if !limits::is_within(width, Writer::MAX_WIDTH) {
-        return 2;
+        return Err(Refusal::BadWidth);
     }
     if !is_filter(filter) {
-        return 18;
+        return Err(Refusal::BadFilter);
     }
     if !limits::is_within(levels, Writer::most_levels(filter)) {
-        return 4;
+        return Err(Refusal::BadLevels);
     }
     if n < filters::writer_store_length(filter, width, x, levels) {
-        return 5;
+        return Err(Refusal::AreaShort);
     }
-    0
+    Ok(())
 }
 
 // Whether the rows complete are as many as can be, that of the spare row among them.
@@ -184,42 +192,28 @@ fn is_full(s: Writer) -> bool
 }
 
 // An offer of k heights.
-pub fn offer_question(s: Writer, n: usize, k: usize) -> u8
-    ensures { result ≡ offer_question s n k }
+pub fn offer_question(s: Writer, n: usize, k: usize) -> Result<(), Refusal>
+    ensures { answer result ≡ offer_question s n k }
 {
     let fits = in_ranges(s);
-    let no = state_question(s, fits, n);
-    if 0 < no {
-        return no;
-    }
+    state_question(s, fits, n)?;
     if s.finished {
-        return 9;
+        return Err(Refusal::IsOver);
     }
-    if 0 < k {
-        if is_full(s) {
-            return 10;
-        }
+    if 0 < k && is_full(s) {
+        return Err(Refusal::RowsFull);
     }
-    0
+    Ok(())
 }
 
-pub fn finish_question(s: Writer, n: usize) -> u8
-    ensures { result ≡ finish_question s n }
+pub fn finish_question(s: Writer, n: usize) -> Result<(), Refusal>
+    ensures { answer result ≡ finish_question s n }
 {
     let fits = in_ranges(s);
-    let no = state_question(s, fits, n);
-    if 0 < no {
-        return no;
+    state_question(s, fits, n)?;
+    open_question(s)?;
+    if s.rows == 0 || 0 < s.column {
+        return Err(Refusal::RowOpen);
     }
-    let refused = open_question(s);
-    if 0 < refused {
-        return refused;
-    }
-    if s.rows == 0 {
-        return 11;
-    }
-    if 0 < s.column {
-        return 11;
-    }
-    0
+    Ok(())
 }

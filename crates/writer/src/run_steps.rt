@@ -46,34 +46,19 @@ fn draw_and_close(s: Writer, from: Level, store: &mut [i32]) -> Writer
                 s.filter, store, s.levels, s.width, s.x, s.y, s.closed, s.rows,
             );
             return Writer {
-                width: s.width,
-                levels: s.levels,
-                x: s.x,
-                y: s.y,
-                rows: s.rows,
-                column: s.column,
-                finished: s.finished,
                 closed: q.closed,
                 level: q.wait.level,
                 left: q.wait.left,
                 offset: q.wait.offset,
-                filter: s.filter,
+                ..s
             };
         }
     }
     Writer {
-        width: s.width,
-        levels: s.levels,
-        x: s.x,
-        y: s.y,
-        rows: s.rows,
-        column: s.column,
-        finished: s.finished,
-        closed: s.closed,
         level: r.level,
         left: r.left,
         offset: r.offset,
-        filter: s.filter,
+        ..s
     }
 }
 
@@ -97,6 +82,6 @@ pub fn put_heights(s: Writer, store: &mut [i32], run: &[u16], from: usize, n: us
     ensures { HeightsTaken s run.now from n (at store.old) result (at store.new) (length store.old) }
 {
     let q = s.y % 2 + s.rows;
-    forward::put(s.filter, store, s.width, s.x, q, s.column, run, from, n);
+    let _ = forward::put(s.filter, store, s.width, s.x, q, s.column, run, from, n);
     offers::reach(s, store, s.column + n)
 }

@@ -4,6 +4,7 @@ ghost use Rattle.std.specs.Prelude.{◌≡◌, true, false, ◌∷◌, ◌+◌, 
 ghost use Rattle.numbers.specs.Signal.{at, pick, both};
 ghost use Rattle.lifting.specs.Halves.{fronted};
 ghost use Rattle.level.specs.Level.{rest, join_at};
+ghost use Rattle.refusal.specs.Numbers.{answer};
 ghost use Rattle.writer.specs.FirstQuestions.{state_question};
 ghost use Rattle.writer.specs.Steps.{Reached};
 ghost use Rattle.calls.specs.Lists.{seen};
@@ -14,6 +15,7 @@ use crate::draws::PlacedRow;
 use crate::{Writer, copies, draws, offers, questions, run_steps};
 use progress::levels::Level;
 use progress::{counts, levels};
+use refusal::Refusal;
 
 // The heights taken, the rows put and the numbers that these have.
 #[derive(Clone, Copy)]
@@ -23,10 +25,11 @@ pub struct Counts {
     pub numbers: usize,
 }
 
+// What a run did, and the writer then.
 #[derive(Clone, Copy)]
-pub enum Ran {
-    Went(Counts, Writer),
-    Refused(u8),
+pub struct Ran {
+    pub done: Counts,
+    pub writer: Writer,
 }
 
 // A run on its way, and whether it goes on.
@@ -49,18 +52,8 @@ fn with_left(s: Writer, left: usize) -> Writer
     ensures { result ≡ with_left s left }
 {
     Writer {
-        width: s.width,
-        levels: s.levels,
-        x: s.x,
-        y: s.y,
-        rows: s.rows,
-        column: s.column,
-        finished: s.finished,
-        closed: s.closed,
-        level: s.level,
         left,
-        offset: s.offset,
-        filter: s.filter,
+        ..s
     }
 }
 
@@ -242,42 +235,45 @@ fn go(s: Writer, store: &mut [i32], heights: &[u16], out: &mut [i32], names: &mu
 }
 
 // Questions 1, 5 and 9, the last where there are heights.
-fn run_question(s: Writer, n: usize, k: usize) -> u8
-    ensures { result ≡ run_question s n k }
+fn run_question(s: Writer, n: usize, k: usize) -> Result<(), Refusal>
+    ensures { answer result ≡ run_question s n k }
 {
     let fits = questions::in_ranges(s);
-    let no = questions::state_question(s, fits, n);
-    if 0 < no {
-        return no;
+    questions::state_question(s, fits, n)?;
+    if 0 < k && s.finished {
+        return Err(Refusal::IsOver);
     }
-    if k == 0 {
-        return 0;
-    }
-    if s.finished { 9 } else { 0 }
+    Ok(())
 }
 
 // No height is taken and no row is put.
 fn nothing_done(done: Counts) -> bool
     ensures { result ≡ eqb (done.taken + done.rows) 0 }
 {
-    if 0 < done.taken {
-        return false;
-    }
-    done.rows == 0
+    done.taken == 0 && done.rows == 0
 }
 
 // Where nothing was done: 12 where a row waits, 10 where there are heights.
-fn idle(level: usize, k: usize) -> u8
-    ensures { result ≡ idle level k }
+fn idle(level: usize, k: usize) -> Result<(), Refusal>
+    ensures { answer result ≡ idle level k }
 {
     if 0 < level {
-        return 12;
+        return Err(Refusal::OutShort);
     }
-    if 0 < k { 10 } else { 0 }
+    if 0 < k {
+        return Err(Refusal::RowsFull);
+    }
+    Ok(())
 }
 
 // Heights taken and band rows put, with their names, until the heights are used up, no row more can come or the next row has no room.
-pub fn run(s: Writer, store: &mut [i32], heights: &[u16], out: &mut [i32], names: &mut [u64]) -> Ran
+pub fn run(
+    s: Writer,
+    store: &mut [i32],
+    heights: &[u16],
+    out: &mut [i32],
+    names: &mut [u64],
+) -> Result<Ran, Refusal>
     ensures result_value { of_ran result ≡ seen progress (run_reply s (length store.old) heights.now (length out.old)
         (at store.old) (at out.old) names.old) }
     ensures store_after { at store.new ≡ left_by (λ p. p.world.store) (at store.old) (run_reply s (length store.old)
@@ -287,18 +283,13 @@ pub fn run(s: Writer, store: &mut [i32], heights: &[u16], out: &mut [i32], names
     ensures names_after { names.new ≡ left_by (λ p. p.names) names.old (run_reply s (length store.old)
         heights.now (length out.old) (at store.old) (at out.old) names.old) }
 {
-    let no = run_question(s, store.len(), heights.len());
-    if 0 < no {
-        return Ran::Refused(no);
-    }
+    run_question(s, store.len(), heights.len())?;
     let t = go(s, store, heights, out, names);
-    let done = t.done;
-    let w = t.writer;
-    if nothing_done(done) {
-        let none = idle(s.level, heights.len());
-        if 0 < none {
-            return Ran::Refused(none);
-        }
+    if nothing_done(t.done) {
+        idle(s.level, heights.len())?;
     }
-    Ran::Went(done, w)
+    Ok(Ran {
+        done: t.done,
+        writer: t.writer,
+    })
 }

@@ -30,10 +30,8 @@ fn copy(store: &mut [i32], to: usize, run: &[u16], n: usize)
     requires { (to + n ≤ length store.old) × (n ≤ length run.now) }
     ensures { at store.new ≡ spliced to n (height_at run.now) (at store.old) }
 {
-    let mut j = 0;
-    while j < n {
+    for j in 0..n {
         store[to + j] = run[j] as i32;
-        j += 1;
     }
 }
 
@@ -46,18 +44,8 @@ pub fn hold(s: Writer, store: &mut [i32], run: &[u16], n: usize) -> Writer
     let a = filters::store_length(s.filter, s.width, s.x, s.levels);
     copy(store, a + s.column, run, n);
     Writer {
-        width: s.width,
-        levels: s.levels,
-        x: s.x,
-        y: s.y,
-        rows: s.rows,
         column: s.column + n,
-        finished: s.finished,
-        closed: s.closed,
-        level: s.level,
-        left: s.left,
-        offset: s.offset,
-        filter: s.filter,
+        ..s
     }
 }
 
@@ -67,11 +55,9 @@ fn separate(store: &mut [i32], from: usize, firsts: usize, seconds: usize, count
     requires { (firsts + count ≤ from) × (seconds + count ≤ from) × (from + 2 * count ≤ length store.old) }
     ensures { at store.new ≡ separated from firsts seconds count (at store.old) }
 {
-    let mut j = 0;
-    while j < count {
+    for j in 0..count {
         store[firsts + j] = store[from + 2 * j];
         store[seconds + j] = store[from + 2 * j + 1];
-        j += 1;
     }
 }
 

@@ -1,6 +1,6 @@
 -- `closing::close_level` meets its contract. The loop's invariant: what the steps from step k on come to is what all of them do. Assumes nothing.
 use mathlib.Core.Path.{◌≡◌, refl, ◌∙◌}
-use Prim.Native.Nat.{◌-◌}
+use Prim.Native.Nat.{◌-◌, ◌≤◌, max}
 use native.Mathlib.Omega.{arith}
 use lib.ListN.{length}
 use Rattle.numbers.specs.Signal.{at}
@@ -11,7 +11,4 @@ use Rattle.writer.proofs.closing.close_level.Given as goal
 
 abbrev pub invariant-loop-k : goal.invariant-loop-k
 invariant-loop-k l =
-    (length l.store ≡ length l.initial.store) × (l.a ≡ (filter_of l.filter).ahead) × (from l.filter l.l (side l.x l.w) l.y l.m l.k (at l.store) ≡ from l.filter l.l (side l.x l.w) l.y l.m l.c (at l.initial.store))
-
-abbrev pub decreases-loop-k : goal.decreases-loop-k
-decreases-loop-k l = l.a - l.k
+    (length l.store ≡ length l.initial.store) × (l.a ≡ (filter_of l.filter).ahead) × (from l.filter l.l (side l.x l.w) l.y l.m l.k (at l.store) ≡ from l.filter l.l (side l.x l.w) l.y l.m l.c (at l.initial.store)) × (l.k ≤ max l.c l.a)

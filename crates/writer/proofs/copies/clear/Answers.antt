@@ -8,17 +8,8 @@ use Rattle.writer.proofs.copies.clear.Goals as goal
 pub loop-j-init : goal.loop-j-init
 loop-j-init c = front-start _ _ _ (omega arith)
 
-pub offset_bounds-store-j : goal.offset_bounds-store-j
-offset_bounds-store-j c = omega arith
-
 pub slice_set_of-store : goal.slice_set_of-store
 slice_set_of-store c = omega (arith, c.loop-j.invariant.swept.size)
-
-pub overflow_add-j : goal.overflow_add-j
-overflow_add-j c = omega arith
-
-pub loop-j-smaller : goal.loop-j-smaller
-loop-j-smaller c = omega arith
 
 pub loop-j-preserved : goal.loop-j-preserved
 loop-j-preserved c = front-turn _ _ _ _ _ _ c.loop-j.invariant (omega arith) refl

@@ -8,6 +8,3 @@ use Rattle.writer.proofs.copies.clear.Given as goal
 
 abbrev pub invariant-loop-j : goal.invariant-loop-j
 invariant-loop-j l = Fronting l.count (λ _. pos 0) l.initial.store l.j l.store
-
-abbrev pub decreases-loop-j : goal.decreases-loop-j
-decreases-loop-j l = l.count - l.j

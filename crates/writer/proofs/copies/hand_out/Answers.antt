@@ -9,26 +9,8 @@ use Rattle.writer.proofs.copies.hand_out.Goals as goal
 pub loop-j-init : goal.loop-j-init
 loop-j-init c = (omega arith, front-start _ _ _ (omega arith))
 
-pub overflow_add-out : goal.overflow_add-out
-overflow_add-out c = omega arith
-
-pub offset_bounds-store-start : goal.offset_bounds-store-start
-offset_bounds-store-start c = omega arith
-
-pub bounds-store-start : goal.bounds-store-start
-bounds-store-start c = omega arith
-
-pub offset_bounds-out-j : goal.offset_bounds-out-j
-offset_bounds-out-j c = omega arith
-
 pub bounds-out-j : goal.bounds-out-j
 bounds-out-j c = omega (arith, c.loop-j.invariant.1.swept.size)
-
-pub overflow_add-j : goal.overflow_add-j
-overflow_add-j c = omega arith
-
-pub loop-j-smaller : goal.loop-j-smaller
-loop-j-smaller c = omega arith
 
 pub loop-j-preserved : goal.loop-j-preserved
 loop-j-preserved c =

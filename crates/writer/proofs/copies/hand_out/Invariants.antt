@@ -9,6 +9,3 @@ use Rattle.writer.proofs.copies.hand_out.Given as goal
 
 abbrev pub invariant-loop-j : goal.invariant-loop-j
 invariant-loop-j l = (l.start + l.count ≤ length l.store) × Fronting l.count (λ i. at l.store (l.start + i)) l.initial.out l.j l.out
-
-abbrev pub decreases-loop-j : goal.decreases-loop-j
-decreases-loop-j l = l.count - l.j

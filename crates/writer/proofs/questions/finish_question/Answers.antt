@@ -1,23 +1,31 @@
 -- `questions::finish_question` meets its contract: the questions in the definition's order. Assumes nothing.
-use mathlib.Core.Path.{◌∙◌}
-use native.Mathlib.Omega.{arith}
+use Rattle.std.proofs.Common.{◌∙◌, sym, arith}
+use Rattle.std.proofs.lemmas.Result.{err_from_is_err_and}
+use Rattle.refusal.proofs.Laws.{number-some}
 use Rattle.writer.proofs.QuestionLaws.{finish-state, finish-open, finish-none, finish-begun, finish-passes}
 use Rattle.writer.proofs.questions.finish_question.Goals as goal
+use Rattle.writer.proofs.questions.finish_question.Goals.{then-s-eq0-via-then-s-eq0, then-s-eq0-via-else-s-eq0+then-s-gt0}
 
-pub state_question-no-requires : goal.state_question-no-requires
-state_question-no-requires c = c.in_ranges-fits.ensures
+pub returns-in_err-state_question : goal.returns-in_err-state_question
+returns-in_err-state_question c =
+    let p = err_from_is_err_and c.from_residual.result c.from_residual.ensures.1 in
+    let e = c.in_err-state_question.ensures in
+    rw (p.1, p.2) (e ∙ finish-state _ _ (λ z. number-some _ (e ∙ z)))
 
-pub returns-then-no-gt0 : goal.returns-then-no-gt0
-returns-then-no-gt0 c = c.state_question-no.ensures ∙ finish-state _ _ (λ z. omega arith)
-
-pub returns-then-refused-gt0 : goal.returns-then-refused-gt0
-returns-then-refused-gt0 c = c.open_question-refused.ensures ∙ finish-open _ _ (omega arith) (λ z. omega arith)
+pub returns-in_err-open_question : goal.returns-in_err-open_question
+returns-in_err-open_question c =
+    let p = err_from_is_err_and c.from_residual-in_err-open_question.result c.from_residual-in_err-open_question.ensures.1 in
+    let e = c.in_err-open_question.ensures in
+    rw (p.1, p.2) (e ∙ finish-open _ _ (sym c.in_ok-state_question.ensures) (λ z. number-some _ (e ∙ z)))
 
 pub returns-then-s-eq0 : goal.returns-then-s-eq0
-returns-then-s-eq0 c = finish-none _ _ (omega arith) (omega arith) (omega arith)
-
-pub returns-then-s-gt0 : goal.returns-then-s-gt0
-returns-then-s-gt0 c = finish-begun _ _ (omega arith) (omega arith) (omega arith) (omega arith)
+returns-then-s-eq0 c =
+    let h = sym c.in_ok-state_question.ensures in
+    let g = sym c.in_ok-open_question.ensures in
+    elim c.then-s-eq0.branch [
+      then-s-eq0-via-then-s-eq0 w ↦ finish-none _ _ h g w.if-s-eq0.true
+    | then-s-eq0-via-else-s-eq0+then-s-gt0 w ↦ finish-begun _ _ h g (omega arith) w.if-s-gt0.true
+    ]
 
 pub returns : goal.returns
-returns c = finish-passes _ _ (omega arith) (omega arith) (omega arith) (omega arith)
+returns c = finish-passes _ _ (sym c.in_ok-state_question.ensures) (sym c.in_ok-open_question.ensures) (omega arith) (omega arith)

@@ -28,5 +28,5 @@ returns-then-level-gt0 c = waits _ _ (omega arith)
 pub returns-then-k-gt0 : goal.returns-then-k-gt0
 returns-then-k-gt0 c = heights _ _ (omega arith) (omega arith)
 
-pub returns-else-k-gt0 : goal.returns-else-k-gt0
-returns-else-k-gt0 c = neither _ _ (omega arith) (omega arith)
+pub returns : goal.returns
+returns c = neither _ _ (omega arith) (omega arith)

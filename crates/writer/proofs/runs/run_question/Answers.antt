@@ -10,8 +10,11 @@ use Rattle.writer.specs.declared.Writer.{Writer}
 use Rattle.writer.specs.Questions.{either}
 use Rattle.writer.specs.FirstQuestions.{state_question}
 use Rattle.writer.specs.Runs.{run_question}
+use Rattle.std.proofs.lemmas.Result.{err_from_is_err_and}
+use Rattle.refusal.proofs.Laws.{number-some}
 use Rattle.writer.proofs.QuestionLaws.{state-no, state-yes}
 use Rattle.writer.proofs.runs.run_question.Goals as goal
+use Rattle.writer.proofs.runs.run_question.Goals.{else-k-gt0-via-else-k-gt0, else-k-gt0-via-then-k-gt0+else-s}
 
 module _ (s : Writer) (n k : ℕ) where
   turned : (state_question s n ≡ 0 → ⊥) → state_question s n ≡ run_question s n k
@@ -31,17 +34,19 @@ module _ (s : Writer) (n k : ℕ) where
   unfinished : state_question s n ≡ 0 → 0 < k → s.finished ≡ false → 0 ≡ run_question s n k
   unfinished h g e = sym (last h ∙ simp (ne_eqb k 0 (omega arith), e))
 
-pub state_question-no-requires : goal.state_question-no-requires
-state_question-no-requires c = c.in_ranges-fits.ensures
-
-pub returns-then-no-gt0 : goal.returns-then-no-gt0
-returns-then-no-gt0 c = c.state_question-no.ensures ∙ turned _ _ _ (λ z. omega arith)
-
-pub returns-then-k-eq0 : goal.returns-then-k-eq0
-returns-then-k-eq0 c = empty _ _ _ (omega arith) (omega arith)
+pub returns-in_err-state_question : goal.returns-in_err-state_question
+returns-in_err-state_question c =
+    let p = err_from_is_err_and c.from_residual.result c.from_residual.ensures.1 in
+    let e = c.in_err-state_question.ensures in
+    rw (p.1, p.2) (e ∙ turned _ _ _ (λ z. number-some _ (e ∙ z)))
 
 pub returns-then-s : goal.returns-then-s
-returns-then-s c = over _ _ _ (omega arith) (omega arith) c.if-s.true
+returns-then-s c = over _ _ _ (sym c.in_ok-state_question.ensures) (omega arith) c.if-s.true
 
-pub returns-else-s : goal.returns-else-s
-returns-else-s c = unfinished _ _ _ (omega arith) (omega arith) c.if-s.false
+pub returns : goal.returns
+returns c =
+    let h = sym c.in_ok-state_question.ensures in
+    elim c.else-k-gt0.branch [
+      else-k-gt0-via-else-k-gt0 w ↦ empty _ _ _ h (omega arith)
+    | else-k-gt0-via-then-k-gt0+else-s w ↦ unfinished _ _ _ h (omega arith) w.if-s.false
+    ]

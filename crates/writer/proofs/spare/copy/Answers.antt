@@ -9,29 +9,11 @@ use Rattle.writer.proofs.spare.copy.Goals as goal
 pub loop-j-init : goal.loop-j-init
 loop-j-init c = (omega arith, copy_start _ _ _ _ (omega arith))
 
-pub offset_bounds-run-j : goal.offset_bounds-run-j
-offset_bounds-run-j c = omega arith
-
-pub bounds-run-j : goal.bounds-run-j
-bounds-run-j c = omega arith
-
 pub overflow_cast-store : goal.overflow_cast-store
 overflow_cast-store c = height-fits _ (omega (arith, c.shared_slice_known-1.given c.loop-j.j))
 
-pub overflow_add-to : goal.overflow_add-to
-overflow_add-to c = omega arith
-
-pub offset_bounds-store-to : goal.offset_bounds-store-to
-offset_bounds-store-to c = omega arith
-
 pub bounds-store-to : goal.bounds-store-to
 bounds-store-to c = let i = c.loop-j.invariant.1 in omega (arith, i.swept.size, i.room)
-
-pub overflow_add-j : goal.overflow_add-j
-overflow_add-j c = omega arith
-
-pub loop-j-smaller : goal.loop-j-smaller
-loop-j-smaller c = omega arith
 
 pub loop-j-preserved : goal.loop-j-preserved
 loop-j-preserved c =

@@ -9,6 +9,3 @@ use Rattle.writer.proofs.spare.copy.Given as goal
 
 abbrev pub invariant-loop-j : goal.invariant-loop-j
 invariant-loop-j l = (l.n ≤ length l.run) × Copying l.to l.n (height_at l.run) l.initial.store l.j l.store
-
-abbrev pub decreases-loop-j : goal.decreases-loop-j
-decreases-loop-j l = l.n - l.j

@@ -10,6 +10,3 @@ use Rattle.writer.proofs.spare.separate.Given as goal
 
 abbrev pub invariant-loop-j : goal.invariant-loop-j
 invariant-loop-j l = Pairs l.from l.firsts l.seconds l.count l.initial.store l.j l.store
-
-abbrev pub decreases-loop-j : goal.decreases-loop-j
-decreases-loop-j l = l.count - l.j
