@@ -7,8 +7,8 @@ use writer::Writer;
 
 fn writer_answer(width: usize, levels: usize, store: &mut [i32]) -> u8 {
     match Writer::set_up(heights::shape_of(width, 1, levels), store) {
-        writer::SetUp::Ready(_) => 0,
-        writer::SetUp::Refused(no) => no,
+        Ok(_) => 0,
+        Err(why) => why.number(),
     }
 }
 

@@ -4,7 +4,7 @@ ghost use Rattle.std.specs.Prelude.{◌≤◌};
 use reference::tally::Tally;
 use reference::{area, heights, order, t800};
 use wavelet::shape::Shape;
-use writer::{BandRow, Drawn, Finished, Offered, SetUp, Writer};
+use writer::{BandRow, Drawn, Taken, Writer};
 
 // Ways to cut.
 const CUTS: usize = 7;
@@ -127,15 +127,15 @@ fn gives(no: u8, count: usize, writer: Writer) -> Answer {
 
 fn offered(w: Writer, store: &mut [i32], run: &[u16]) -> Answer {
     match w.offer(store, run) {
-        Offered::Taken(n, next) => gives(0, n, next),
-        Offered::Refused(no) => gives(no, 0, w),
+        Ok(Taken { heights, writer }) => gives(0, heights, writer),
+        Err(why) => gives(why.number(), 0, w),
     }
 }
 
 fn finished(w: Writer, store: &mut [i32]) -> Answer {
     match w.finish(store) {
-        Finished::Closed(next) => gives(0, 0, next),
-        Finished::Refused(no) => gives(no, 0, w),
+        Ok(next) => gives(0, 0, next),
+        Err(why) => gives(why.number(), 0, w),
     }
 }
 
@@ -161,9 +161,9 @@ fn drew_row(answer: Answer, row: BandRow) -> Drew {
 
 fn drawn(w: Writer, store: &mut [i32], out: &mut [i32]) -> Drew {
     match w.draw(store, out) {
-        Drawn::Row(row, next) => drew_row(gives(0, 0, next), row),
-        Drawn::Nothing => drew_row(gives(NOTHING, 0, w), no_row()),
-        Drawn::Refused(no) => drew_row(gives(no, 0, w), no_row()),
+        Ok(Some(Drawn { row, writer })) => drew_row(gives(0, 0, writer), row),
+        Ok(None) => drew_row(gives(NOTHING, 0, w), no_row()),
+        Err(why) => drew_row(gives(why.number(), 0, w), no_row()),
     }
 }
 
@@ -395,7 +395,7 @@ fn write(
     out: &mut [i32],
 ) -> Tally {
     match Writer::set_up(s, store) {
-        SetUp::Ready(writer) => {
+        Ok(writer) => {
             let start = Turn {
                 writer,
                 shape: s,
@@ -413,7 +413,7 @@ fn write(
             let a = area::differ(end.numbers, map.len() as u64);
             t.more(end.numbers, area::sum(end.differences, a))
         }
-        SetUp::Refused(_) => t.failed(),
+        Err(_) => t.failed(),
     }
 }
 

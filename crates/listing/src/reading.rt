@@ -10,7 +10,6 @@ use crate::states;
 use pgm::input::Input;
 use pgm::runs;
 use text::bytes;
-use writer::Offered;
 
 #[derive(Clone, Copy)]
 pub struct Read {
@@ -60,11 +59,11 @@ fn read_run(
         return read_byte(listing, piece, used, store, row);
     }
     match writer.offer(store, &run[..n]) {
-        Offered::Taken(taken, next) => Read {
-            listing: states::draw(input.took(taken), next, store, row),
-            used: used + runs::size(largest) * taken,
+        Ok(taken) => Read {
+            listing: states::draw(input.took(taken.heights), taken.writer, store, row),
+            used: used + runs::size(largest) * taken.heights,
         },
-        Offered::Refused(_) => read_byte(listing, piece, used, store, row),
+        Err(_) => read_byte(listing, piece, used, store, row),
     }
 }
 

@@ -10,7 +10,7 @@ use crate::listing::Listing;
 use pgm::input::{Input, Step};
 use wavelet::limits;
 use wavelet::shape::Shape;
-use writer::{Drawn, Finished, Offered, SetUp, Writer};
+use writer::Writer;
 
 // A refusal, whatever its number: no more is read.
 pub fn refuse(input: Input, writer: Writer, number: u8) -> Listing
@@ -30,17 +30,22 @@ pub fn draw(input: Input, writer: Writer, store: &mut [i32], row: &mut [i32]) ->
         (at row.old)) result (at store.new) (at row.new) }
 {
     match writer.draw(store, row) {
-        Drawn::Row(r, next) => Listing {
+        Ok(Some(drawn)) => Listing {
             input,
-            writer: next,
-            line: Line::band_row(r.level, r.band, r.row, r.length),
+            writer: drawn.writer,
+            line: Line::band_row(
+                drawn.row.level,
+                drawn.row.band,
+                drawn.row.row,
+                drawn.row.length,
+            ),
         },
-        Drawn::Nothing => Listing {
+        Ok(None) => Listing {
             input,
             writer,
             line: Line::none(),
         },
-        Drawn::Refused(q) => refuse(input, writer, q),
+        Err(why) => refuse(input, writer, why.number()),
     }
 }
 
@@ -61,12 +66,12 @@ fn begin(input: Input, writer: Writer, width: usize, height: usize, store: &mut 
         filter: 0,
     };
     match Writer::set_up(shape, store) {
-        SetUp::Ready(fresh) => Listing {
+        Ok(fresh) => Listing {
             input,
             writer: fresh,
             line: Line::size(width, height, levels),
         },
-        SetUp::Refused(q) => refuse(input, writer, q),
+        Err(why) => refuse(input, writer, why.number()),
     }
 }
 
@@ -77,8 +82,8 @@ fn offer(input: Input, writer: Writer, height: u16, store: &mut [i32], row: &mut
 {
     let run = [height; 1];
     match writer.offer(store, &run) {
-        Offered::Taken(_, next) => draw(input, next, store, row),
-        Offered::Refused(q) => refuse(input, writer, q),
+        Ok(taken) => draw(input, taken.writer, store, row),
+        Err(why) => refuse(input, writer, why.number()),
     }
 }
 
@@ -88,8 +93,8 @@ pub fn finish(input: Input, writer: Writer, store: &mut [i32], row: &mut [i32]) 
         (at row.old)) result (at store.new) (at row.new) }
 {
     match writer.finish(store) {
-        Finished::Closed(next) => draw(input, next, store, row),
-        Finished::Refused(q) => refuse(input, writer, q),
+        Ok(next) => draw(input, next, store, row),
+        Err(why) => refuse(input, writer, why.number()),
     }
 }
 

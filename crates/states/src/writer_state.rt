@@ -6,8 +6,9 @@ ghost use Rattle.states.specs.WriterState.{is_writer, writer_of, writer_words};
 ghost use Rattle.states.specs.WriterAnswers.{number, took_words, taken_of, handed_words, row_of, ran_words, counts_of};
 
 use crate::array;
+use refusal::Refusal;
 use writer::runs::Ran;
-use writer::{Drawn, Offered, Writer};
+use writer::{Drawn, Taken, Writer};
 
 // Is this the state array of a writer?
 pub fn is_writer(s: &[u64; 16]) -> bool
@@ -68,64 +69,76 @@ pub fn pack_writer(w: Writer, s: &mut [u64; 16])
 }
 
 // An offer's answer in the caller's numbers: those words that an offer changes, since the others stand there already, and the heights taken.
-pub fn pack_offered(answer: Offered, s: &mut [u64; 16], taken: &mut usize) -> u32
+pub fn pack_offered(
+    answer: Result<Taken, Refusal>,
+    s: &mut [u64; 16],
+    taken: &mut usize,
+) -> u32
     ensures value { result ≡ number (of_offered answer) }
     ensures s_after { (s.new ≡ took_words (of_offered answer) s.old) × (length s.old ≡ 16) }
     ensures taken_after { taken.new ≡ taken_of (of_offered answer) taken.old }
 {
     array::sized(*s);
     match answer {
-        Offered::Taken(n, w) => {
-            s[3] = w.rows as u64;
-            s[4] = w.column as u64;
-            s[7] = w.level as u64;
-            s[8] = w.left as u64;
-            s[9] = w.offset as u64;
-            *taken = n;
+        Ok(Taken { heights, writer }) => {
+            s[3] = writer.rows as u64;
+            s[4] = writer.column as u64;
+            s[7] = writer.level as u64;
+            s[8] = writer.left as u64;
+            s[9] = writer.offset as u64;
+            *taken = heights;
             0
         }
-        Offered::Refused(no) => no as u32,
+        Err(why) => u32::from(why.number()),
     }
 }
 
 // A draw's answer: those words that a draw changes, and the band row drawn.
-pub fn pack_drawn(answer: Drawn, s: &mut [u64; 16], row: &mut [u64; 4]) -> u32
+pub fn pack_drawn(
+    answer: Result<Option<Drawn>, Refusal>,
+    s: &mut [u64; 16],
+    row: &mut [u64; 4],
+) -> u32
     ensures value { result ≡ number (of_drawn answer) }
     ensures s_after { (s.new ≡ handed_words (of_drawn answer) s.old) × (length s.old ≡ 16) }
     ensures row_after { row.new ≡ row_of (of_drawn answer) row.old }
 {
     array::sized(*s);
     match answer {
-        Drawn::Row(r, w) => {
-            s[3] = w.rows as u64;
-            s[4] = w.column as u64;
-            s[6] = w.closed as u64;
-            s[7] = w.level as u64;
-            s[8] = w.left as u64;
-            s[9] = w.offset as u64;
+        Ok(Some(Drawn { row: r, writer })) => {
+            s[3] = writer.rows as u64;
+            s[4] = writer.column as u64;
+            s[6] = writer.closed as u64;
+            s[7] = writer.level as u64;
+            s[8] = writer.left as u64;
+            s[9] = writer.offset as u64;
             *row = [r.level as u64, r.band as u64, r.row as u64, r.length as u64];
             0
         }
-        Drawn::Nothing => {
+        Ok(None) => {
             *row = [0, 0, 0, 0];
             0
         }
-        Drawn::Refused(no) => no as u32,
+        Err(why) => u32::from(why.number()),
     }
 }
 
 // A run's answer: the whole array, and the counts.
-pub fn pack_ran(answer: Ran, s: &mut [u64; 16], counts: &mut [u64; 3]) -> u32
+pub fn pack_ran(
+    answer: Result<Ran, Refusal>,
+    s: &mut [u64; 16],
+    counts: &mut [u64; 3],
+) -> u32
     ensures value { result ≡ number (of_ran answer) }
     ensures s_after { s.new ≡ ran_words (of_ran answer) s.old }
     ensures counts_after { counts.new ≡ counts_of (of_ran answer) counts.old }
 {
     match answer {
-        Ran::Went(done, w) => {
-            pack_writer(w, s);
+        Ok(Ran { done, writer }) => {
+            pack_writer(writer, s);
             *counts = [done.taken as u64, done.rows as u64, done.numbers as u64];
             0
         }
-        Ran::Refused(no) => no as u32,
+        Err(why) => u32::from(why.number()),
     }
 }

@@ -4,15 +4,17 @@ ghost use Rattle.numbers.specs.Signal.{at, pick};
 ghost use Rattle.wavelet.specs.Shape.{columns};
 ghost use Rattle.filters.specs.Figures.{store_by, writer_store_by, streamable};
 ghost use Rattle.calls.specs.Lists.{seen};
+ghost use Rattle.writer.specs.Answers.{of_set_up, of_look};
 ghost use Rattle.writer.specs.Calls.{set_up_reply, set_up_store};
 ghost use Rattle.writer.specs.Runs.{progress, left_by};
 ghost use Rattle.states.specs.WriterAnswers.{number, taken_of, row_of, ran_words, counts_of};
 ghost use Rattle.terrain.specs.WriterCalls.{state_of, offered, offered_store, state_took, drawn, drawn_store, drawn_area, state_handed};
 ghost use Rattle.terrain.specs.WriterCalls.{waiting, look_of, finished, finished_store, ran};
 
+use refusal::Refusal;
 use states::writer_state;
 use wavelet::shape::Shape;
-use writer::{Finished, Look, SetUp, Writer, runs};
+use writer::{BandRow, Writer, runs};
 
 // The numbers that the line store of a writer needs, more than a reader's; 0 where set-up would give 2, 18 or 4. The height does not count.
 pub fn terrain_store_length(shape: Shape) -> usize
@@ -39,6 +41,38 @@ pub fn terrain_reader_store_length(shape: Shape) -> usize
     )
 }
 
+// A call's answer that is the writer then, in the caller's numbers.
+fn pack_next(answer: Result<Writer, Refusal>, state: &mut [u64; 16]) -> u32
+    ensures value { result ≡ number (of_set_up answer) }
+    ensures state_after { state.new ≡ state_of (of_set_up answer) state.old }
+{
+    match answer {
+        Ok(writer) => {
+            writer_state::pack_writer(writer, state);
+            0
+        }
+        Err(why) => u32::from(why.number()),
+    }
+}
+
+// A look's answer: the row that waits, all zeros where none does.
+fn pack_look(answer: Result<Option<BandRow>, Refusal>, row: &mut [u64; 4]) -> u32
+    ensures value { result ≡ number (of_look answer) }
+    ensures row_after { row.new ≡ look_of (of_look answer) row.old }
+{
+    match answer {
+        Ok(Some(r)) => {
+            *row = [r.level as u64, r.band as u64, r.row as u64, r.length as u64];
+            0
+        }
+        Ok(None) => {
+            *row = [0, 0, 0, 0];
+            0
+        }
+        Err(why) => u32::from(why.number()),
+    }
+}
+
 // A fresh writer. The questions are 2, 18, 4 and 5. The height is not read.
 pub fn terrain_writer_set_up(state: &mut [u64; 16], shape: Shape, store: &mut [i32]) -> u32
     ensures value { result ≡ number (set_up_reply shape.filter (columns shape) shape.y shape.levels (length store.old)) }
@@ -47,13 +81,7 @@ pub fn terrain_writer_set_up(state: &mut [u64; 16], shape: Shape, store: &mut [i
     ensures store_after { at store.new ≡
         set_up_store shape.filter (columns shape) shape.levels (length store.old) (at store.old) }
 {
-    match Writer::set_up(shape, store) {
-        SetUp::Ready(w) => {
-            writer_state::pack_writer(w, state);
-            0
-        }
-        SetUp::Refused(no) => no as u32,
-    }
+    pack_next(Writer::set_up(shape, store), state)
 }
 
 // Heights offered. The questions are 1, 5, 9 and 10.
@@ -110,13 +138,7 @@ pub fn terrain_writer_waits(state: &[u64; 16], row: &mut [u64; 4]) -> u32
         return 1;
     }
     let w = writer_state::unpack_writer(state);
-    match w.waits() {
-        Look::Row(r) => {
-            *row = [r.level as u64, r.band as u64, r.row as u64, r.length as u64];
-            0
-        }
-        Look::Refused(no) => no as u32,
-    }
+    pack_look(w.waits(), row)
 }
 
 // The map finished. The questions are 1, 5, 9, 8 and 11.
@@ -130,13 +152,7 @@ pub fn terrain_writer_finish(state: &mut [u64; 16], store: &mut [i32]) -> u32
         return 1;
     }
     let w = writer_state::unpack_writer(state);
-    match w.finish(store) {
-        Finished::Closed(next) => {
-            writer_state::pack_writer(next, state);
-            0
-        }
-        Finished::Refused(no) => no as u32,
-    }
+    pack_next(w.finish(store), state)
 }
 
 // Many rows at once. The questions are 1, 5, 9, 12 and 10, the last two where nothing could be done.

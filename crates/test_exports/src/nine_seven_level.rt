@@ -31,7 +31,7 @@ pub extern "C" fn nine_seven_level_put(
     ensures store_after { at store.new ≡ pick (heights_fit 1 (length store.old) (side x w) column n (length run.now) from)
         (heights_put 1 (side x w) q column n (λ j. height_at run.now (from + j)) (at store.old)) (at store.old) }
 {
-    forward::put(1, store, w, x, q, column, run, from, n) as u32
+    u32::from(refusal::code(forward::put(1, store, w, x, q, column, run, from, n)))
 }
 
 #[unsafe(no_mangle)]
@@ -46,7 +46,7 @@ pub extern "C" fn nine_seven_level_make(
     ensures store_after { at store.new ≡ pick (level_fits 1 (length store.old) (side x w))
         ((kind_of 1).make (side x w) y n (at store.old)) (at store.old) }
 {
-    forward::make(1, store, w, x, y, n) as u32
+    u32::from(refusal::code(forward::make(1, store, w, x, y, n)))
 }
 
 #[unsafe(no_mangle)]
@@ -62,7 +62,7 @@ pub extern "C" fn nine_seven_level_close(
     ensures store_after { at store.new ≡ pick (level_fits 1 (length store.old) (side x w))
         ((kind_of 1).close (side x w) (side y m) n (at store.old)) (at store.old) }
 {
-    forward::close(1, store, w, x, y, m, n) as u32
+    u32::from(refusal::code(forward::close(1, store, w, x, y, m, n)))
 }
 
 #[unsafe(no_mangle)]
@@ -77,5 +77,5 @@ pub extern "C" fn nine_seven_level_deliver(
     ensures store_after { at store.new ≡ pick (next_fits 1 (length store.old) (side x w))
         (delivered 1 (side x w) n q (at store.old)) (at store.old) }
 {
-    forward::deliver(1, store, w, x, n, q) as u32
+    u32::from(refusal::code(forward::deliver(1, store, w, x, n, q)))
 }

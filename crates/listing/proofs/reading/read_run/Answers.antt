@@ -45,7 +45,7 @@ overflow_mul-result c =
     let run =
     run-read s a.piece.now a.run.now c.read-n.new.run a.used c.least-most.result c.read-n.result c.least-most.ensures c.if-n-eq0.false
     c.requires.4 c.read-n.ensures.value c.read-n.ensures.run_after in
-    let reply = sym (ap of_offered c.in-Taken.is) ∙ c.offer.ensures.result_value in
+    let reply = sym (ap of_offered c.in-Ok.is) ∙ c.offer.ensures.result_value in
     rw c.size.ensures (omega (arith, taken-room (length a.store.now) (length a.row.now) s _ _ _ _ _ run reply))
 
 pub overflow_add-result : goal.overflow_add-result
@@ -55,45 +55,45 @@ overflow_add-result c =
     let run =
     run-read s a.piece.now a.run.now c.read-n.new.run a.used c.least-most.result c.read-n.result c.least-most.ensures c.if-n-eq0.false
     c.requires.4 c.read-n.ensures.value c.read-n.ensures.run_after in
-    let reply = sym (ap of_offered c.in-Taken.is) ∙ c.offer.ensures.result_value in
+    let reply = sym (ap of_offered c.in-Ok.is) ∙ c.offer.ensures.result_value in
     rw c.size.ensures (omega (arith, taken-room (length a.store.now) (length a.row.now) s _ _ _ _ _ run reply))
 
-pub shape_of-store-in-Taken : goal.shape_of-store-in-Taken
-shape_of-store-in-Taken c =
+pub shape_of-store-in-Ok : goal.shape_of-store-in-Ok
+shape_of-store-in-Ok c =
     c.draw.auto.store ∙ c.offer.auto.store
 
-pub shape_of-row-in-Taken : goal.shape_of-row-in-Taken
-shape_of-row-in-Taken c = c.draw.auto.row
+pub shape_of-row-in-Ok : goal.shape_of-row-in-Ok
+shape_of-row-in-Ok c = c.draw.auto.row
 
-pub shape_of-run-in-Taken : goal.shape_of-run-in-Taken
-shape_of-run-in-Taken c =
+pub shape_of-run-in-Ok : goal.shape_of-run-in-Ok
+shape_of-run-in-Ok c =
     back-size c.args.run.now c.read-n.new.run c.least-most.result c.read-n.result
     (omega (arith, c.least-most.ensures)) c.read-n.auto.run
 
-pub returns-in-Taken : goal.returns-in-Taken
-returns-in-Taken c =
+pub returns-in-Ok : goal.returns-in-Ok
+returns-in-Ok c =
     let a = c.args in
     let s = state_of a.listing (at a.store.now) (at a.row.now) in
     let run =
     run-read s a.piece.now a.run.now c.read-n.new.run a.used c.least-most.result c.read-n.result c.least-most.ensures c.if-n-eq0.false
     c.requires.4 c.read-n.ensures.value c.read-n.ensures.run_after in
-    let reply = sym (ap of_offered c.in-Taken.is) ∙ c.offer.ensures.result_value in
+    let reply = sym (ap of_offered c.in-Ok.is) ∙ c.offer.ensures.result_value in
     rw c.size.ensures (heights-on (length a.store.now) (length a.row.now) s _ _ _ _ _ run reply _ _ _ _ c.requires.0 c.requires.1 c.requires.2
     c.requires.6 c.offer.auto.store c.took.ensures c.offer.ensures.store_after c.draw.ensures)
 
-pub shape_of-store-in-Refused : goal.shape_of-store-in-Refused
-shape_of-store-in-Refused c =
-    c.read_byte-in-Refused.auto.store ∙ c.offer.auto.store
+pub shape_of-store-in-Err : goal.shape_of-store-in-Err
+shape_of-store-in-Err c =
+    c.read_byte-in-Err.auto.store ∙ c.offer.auto.store
 
-pub shape_of-row-in-Refused : goal.shape_of-row-in-Refused
-shape_of-row-in-Refused c = c.read_byte-in-Refused.auto.row
+pub shape_of-row-in-Err : goal.shape_of-row-in-Err
+shape_of-row-in-Err c = c.read_byte-in-Err.auto.row
 
-pub shape_of-run-in-Refused : goal.shape_of-run-in-Refused
-shape_of-run-in-Refused c =
+pub shape_of-run-in-Err : goal.shape_of-run-in-Err
+shape_of-run-in-Err c =
     back-size c.args.run.now c.read-n.new.run c.least-most.result c.read-n.result
     (omega (arith, c.least-most.ensures)) c.read-n.auto.run
 
-pub returns-in-Refused : goal.returns-in-Refused
-returns-in-Refused c =
-    still-there c.offer.auto.store (c.offer.ensures.store_after ∙ offer-kept _ _ _ _ _ (sym (ap of_offered c.in-Refused.is) ∙ c.offer.ensures.result_value))
-    c.read_byte-in-Refused.ensures
+pub returns-in-Err : goal.returns-in-Err
+returns-in-Err c =
+    still-there c.offer.auto.store (c.offer.ensures.store_after ∙ offer-kept _ _ _ _ _ (sym (ap of_offered c.in-Err.is) ∙ c.offer.ensures.result_value))
+    c.read_byte-in-Err.ensures

@@ -20,33 +20,19 @@ returns-then-not-is_writer c =
     turned (is_writer a.state.now) c.is_writer.result c.is_writer.ensures _ _ c.if-not-is_writer.true-raw in
     record { value = sym (ap number e); state_after = sym (ap (λ (q : Reply Writer). state_of q a.state.now) e); store_after = sym (turned (is_writer a.state.now) c.is_writer.result c.is_writer.ensures _ (at a.store.now) c.if-not-is_writer.true-raw) }
 
-pub returns-in-Closed : goal.returns-in-Closed
-returns-in-Closed c =
-    let a = c.args in
-    let e =
-    went (is_writer a.state.now) c.is_writer.result c.is_writer.ensures (λ (w : Writer). finish_reply w (length a.store.now) (at a.store.now))
-    (writer_of a.state.now) c.unpack_writer-w.result (refused 1) _ c.if-not-is_writer.false-raw c.unpack_writer-w.ensures
-    c.finish.ensures.result_value
-    ∙ ap of_finished c.in-Closed.is in
-    record {
-      value = sym (ap number e);
-      state_after = c.pack_writer.ensures ∙ sym (ap (λ (q : Reply Writer). state_of q a.state.now) e);
-      store_after = sym (went (is_writer a.state.now) c.is_writer.result c.is_writer.ensures
-          (λ (w : Writer). finish_store w (length a.store.now) (at a.store.now)) (writer_of a.state.now) c.unpack_writer-w.result
-          (at a.store.now) _ c.if-not-is_writer.false-raw c.unpack_writer-w.ensures c.finish.ensures.store_after);
-    }
+pub shape_of-store : goal.shape_of-store
+shape_of-store c = c.finish.auto.store
 
-pub returns-in-Refused : goal.returns-in-Refused
-returns-in-Refused c =
+pub returns : goal.returns
+returns c =
     let a = c.args in
     let e =
     went (is_writer a.state.now) c.is_writer.result c.is_writer.ensures (λ (w : Writer). finish_reply w (length a.store.now) (at a.store.now))
     (writer_of a.state.now) c.unpack_writer-w.result (refused 1) _ c.if-not-is_writer.false-raw c.unpack_writer-w.ensures
-    c.finish.ensures.result_value
-    ∙ ap of_finished c.in-Refused.is in
+    c.finish.ensures.result_value in
     record {
-      value = sym (ap number e);
-      state_after = sym (ap (λ (q : Reply Writer). state_of q a.state.now) e);
+      value = c.pack_next.ensures.value ∙ sym (ap number e);
+      state_after = c.pack_next.ensures.state_after ∙ sym (ap (λ (q : Reply Writer). state_of q a.state.now) e);
       store_after = sym (went (is_writer a.state.now) c.is_writer.result c.is_writer.ensures
           (λ (w : Writer). finish_store w (length a.store.now) (at a.store.now)) (writer_of a.state.now) c.unpack_writer-w.result
           (at a.store.now) _ c.if-not-is_writer.false-raw c.unpack_writer-w.ensures c.finish.ensures.store_after);

@@ -11,16 +11,15 @@ use Rattle.states.specs.WriterAnswers.{number}
 use Rattle.terrain.specs.WriterCalls.{state_of}
 use Rattle.terrain.proofs.writer_calls.terrain_writer_set_up.Goals as goal
 
-pub returns-in-Ready : goal.returns-in-Ready
-returns-in-Ready c =
-    let a = c.args in
-    let e : set_up_reply a.shape.filter (columns a.shape) a.shape.y a.shape.levels (length a.store.now) ≡ _ =
-    sym c.set_up.ensures.result_value ∙ ap of_set_up c.in-Ready.is in
-    record { value = sym (ap number e); state_after = c.pack_writer.ensures ∙ sym (ap (λ (q : Reply Writer). state_of q a.state.now) e); store_after = c.set_up.ensures.store_after }
+pub shape_of-store : goal.shape_of-store
+shape_of-store c = c.set_up.auto.store
 
-pub returns-in-Refused : goal.returns-in-Refused
-returns-in-Refused c =
+pub returns : goal.returns
+returns c =
     let a = c.args in
-    let e : set_up_reply a.shape.filter (columns a.shape) a.shape.y a.shape.levels (length a.store.now) ≡ _ =
-    sym c.set_up.ensures.result_value ∙ ap of_set_up c.in-Refused.is in
-    record { value = sym (ap number e); state_after = sym (ap (λ (q : Reply Writer). state_of q a.state.now) e); store_after = c.set_up.ensures.store_after }
+    let e = c.set_up.ensures.result_value in
+    record {
+      value = c.pack_next.ensures.value ∙ ap number e;
+      state_after = c.pack_next.ensures.state_after ∙ ap (λ (q : Reply Writer). state_of q a.state.now) e;
+      store_after = c.set_up.ensures.store_after;
+    }

@@ -17,20 +17,13 @@ returns-then-not-is_writer c =
     let e : waiting a.state.now ≡ refused 1 = turned (is_writer a.state.now) c.is_writer.result c.is_writer.ensures _ _ c.if-not-is_writer.true-raw in
     record { value = sym (ap number e); row_after = sym (ap (λ (q : Reply BandRow). look_of q a.row.now) e) }
 
-pub returns-in-Row : goal.returns-in-Row
-returns-in-Row c =
+pub returns : goal.returns
+returns c =
     let a = c.args in
     let e =
     went (is_writer a.state.now) c.is_writer.result c.is_writer.ensures waits_reply (writer_of a.state.now) c.unpack_writer-w.result
-    (refused 1) _ c.if-not-is_writer.false-raw c.unpack_writer-w.ensures c.waits.ensures
-    ∙ ap of_look c.in-Row.is in
-    record { value = sym (ap number e); row_after = sym (ap (λ (q : Reply BandRow). look_of q a.row.now) e) }
-
-pub returns-in-Refused : goal.returns-in-Refused
-returns-in-Refused c =
-    let a = c.args in
-    let e =
-    went (is_writer a.state.now) c.is_writer.result c.is_writer.ensures waits_reply (writer_of a.state.now) c.unpack_writer-w.result
-    (refused 1) _ c.if-not-is_writer.false-raw c.unpack_writer-w.ensures c.waits.ensures
-    ∙ ap of_look c.in-Refused.is in
-    record { value = sym (ap number e); row_after = sym (ap (λ (q : Reply BandRow). look_of q a.row.now) e) }
+    (refused 1) _ c.if-not-is_writer.false-raw c.unpack_writer-w.ensures c.waits.ensures in
+    record {
+      value = c.pack_look.ensures.value ∙ sym (ap number e);
+      row_after = c.pack_look.ensures.row_after ∙ sym (ap (λ (q : Reply BandRow). look_of q a.row.now) e);
+    }
