@@ -12,6 +12,7 @@ ghost use Rattle.analysis.specs.Sets.{has_row, waits_at, row_copied, high_made, 
 use crate::{near, slots};
 use level::moves;
 use lifting::rows;
+use lifting::step::{Predict, Unpredict, Update};
 use nine_seven::rows as nine_seven_rows;
 
 // ---- the filter's own steps
@@ -24,7 +25,7 @@ fn predict_row(store: &mut [i32], filter: usize, w: usize, y: usize, m: usize, n
     if filter == 0 {
         let high = slots::slot_on(0, n, 1);
         let by = near::beside_high(0, y, m, n);
-        rows::predict_row(store, w, w, high, by.left, by.right);
+        let _ = rows::change_row::<Predict>(store, w, w, high, by.left, by.right);
         return;
     }
     let high = slots::slot_on(1, n, 1);
@@ -44,7 +45,7 @@ fn update_row(store: &mut [i32], filter: usize, w: usize, y: usize, m: usize, n:
     if filter == 0 {
         let t = slots::low_waits(0, n);
         let by = near::beside_low(0, y, m, n);
-        rows::update_row(store, w, w, t, by.left, by.right);
+        let _ = rows::change_row::<Update>(store, w, w, t, by.left, by.right);
         return;
     }
     let t = slots::low_waits(1, n);
@@ -72,7 +73,7 @@ fn double_row(store: &mut [i32], filter: usize, w: usize, y: usize, m: usize, n:
     ensures { at store.new ≡ high_of filter w (side y m) (2 * n + 1) (at store.old) }
 {
     let high = slots::slot_on(filter, n, 1);
-    rows::unpredict_row(store, w, w, high, high, high);
+    let _ = rows::change_row::<Unpredict>(store, w, w, high, high, high);
 }
 
 // The high row of set n, if it has one,

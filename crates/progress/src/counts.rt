@@ -40,10 +40,7 @@ pub fn made(filter: usize, c: usize, y: usize, m: usize) -> usize
 pub fn is_left(y: usize, m: usize, n: usize) -> bool
     ensures { result ≡ both (nat_lt 0 m) (nat_le n (last_set (side y m))) }
 {
-    if m == 0 {
-        return false;
-    }
-    n <= (y % 2 + (m - 1)) / 2
+    0 < m && n <= (y % 2 + (m - 1)) / 2
 }
 
 // Whether row m completes a set of the first of l levels.
@@ -63,10 +60,7 @@ pub fn makes_set(filter: usize, l: usize, y: usize, m: usize) -> bool
 pub fn gives_row(l: usize, y: usize, n: usize) -> bool
     ensures { result ≡ both (nat_lt 0 l) (nat_le (y % 2) n) }
 {
-    if l == 0 {
-        return false;
-    }
-    y % 2 <= n
+    0 < l && y % 2 <= n
 }
 
 // How many bands are handed out of a set of a level with l levels below it.
@@ -160,12 +154,10 @@ pub fn next_band(w: usize, x: usize, m: usize, y: usize, n: usize, i: usize) -> 
     if all_have(w, m, y, n) {
         return i;
     }
-    let mut k = i;
-    while k > 0 {
-        if has_row(w, x, m, y, n, k - 1) {
-            return k;
+    for k in (0..i).rev() {
+        if has_row(w, x, m, y, n, k) {
+            return k + 1;
         }
-        k -= 1;
     }
     0
 }

@@ -27,15 +27,13 @@ pub fn level_of(filter: usize, w: usize, x: usize, y: usize, c: usize, v: usize,
     let mut rows = m;
     let mut row = y;
     let mut closed = c;
-    let mut k = v;
     let a = filters::look_ahead(filter);
-    while 1 < k {
+    for _above in 1..v {
         rows = counts::minus(counts::made(filter, closed, row, rows), row % 2);
         row = sizes::next_start(row);
         closed = counts::minus(closed, a);
         width = sizes::low_count(column, width);
         column = sizes::next_start(column);
-        k -= 1;
     }
     Level {
         width,

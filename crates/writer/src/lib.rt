@@ -8,7 +8,6 @@ mod copies;
 mod draws;
 mod offers;
 mod questions;
-mod run_steps;
 pub mod runs;
 mod spare;
 

@@ -62,7 +62,8 @@ pub fn reach(s: Writer, store: &mut [i32], column: usize) -> Writer
     }
 }
 
-// A stretch of n heights of a run, from height `from` on; where it completes the row, what that makes.
+// A stretch of n heights of a run, from height `from` on; where it completes the row, what that makes. Inlined in an offer and in a run alike.
+#[inline(always)]
 pub fn put_heights(s: Writer, store: &mut [i32], run: &[u16], from: usize, n: usize) -> Writer
     requires { Taker s (length store.old) × (s.rows < max_height) × (s.column + n ≤ s.width) × (from + n ≤ length run.now) }
     ensures { HeightsTaken s run.now from n (at store.old) result (at store.new) (length store.old) }

@@ -23,8 +23,7 @@ fn begins(filter: usize, w: usize, x: usize, v: usize, o: usize) -> bool
     let mut width = w;
     let mut column = x;
     let mut rest = o;
-    let mut k = v;
-    while 1 < k {
+    for _above in 1..v {
         let a = cascade::stretch(filter, width, column);
         if rest < a {
             return false;
@@ -32,7 +31,6 @@ fn begins(filter: usize, w: usize, x: usize, v: usize, o: usize) -> bool
         rest -= a;
         width = sizes::low_count(column, width);
         column = sizes::next_start(column);
-        k -= 1;
     }
     rest == 0
 }

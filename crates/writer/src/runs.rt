@@ -12,7 +12,7 @@ ghost use Rattle.writer.specs.Runs.{named, begin, run_question, idle, run_reply,
 ghost use Rattle.writer.specs.RunSteps.{with_left, row_at, run_at, one_more, Ready, Draws, Turned, SetDrawn, Over};
 
 use crate::draws::PlacedRow;
-use crate::{Writer, copies, draws, offers, questions, run_steps};
+use crate::{Writer, after, copies, draws, offers, questions};
 use progress::levels::Level;
 use progress::{counts, levels};
 use refusal::Refusal;
@@ -154,7 +154,7 @@ fn draw_set(s: Writer, store: &mut [i32], out: &mut [i32], names: &mut [u64], do
             writer: t,
         };
     }
-    let next = run_steps::draw_and_move(t, q, store);
+    let next = after::draw_and_move(t, q, store);
     Turn {
         on: true,
         done: one_more(d, spot.length),
@@ -187,7 +187,7 @@ fn take_row(s: Writer, store: &mut [i32], heights: &[u16], done: Counts) -> Turn
             rows: done.rows,
             numbers: done.numbers,
         },
-        writer: run_steps::put_heights(s, store, &heights[a..e], 0, n),
+        writer: offers::put_heights(s, store, &heights[a..e], 0, n),
     }
 }
 

@@ -6,9 +6,6 @@ use Rattle.lifting.specs.Grid.{side}
 use Rattle.analysis.proofs.CallLaws.{copied, copy-made, copy-none}
 use Rattle.analysis.proofs.columns.copy_high.Goals as goal
 
-pub slot_on-requires : goal.slot_on-requires
-slot_on-requires c = omega arith
-
 pub shape_of-store : goal.shape_of-store
 shape_of-store c = c.copy_row.auto.store
 

@@ -8,9 +8,6 @@ use Rattle.analysis.proofs.columns.copy_low.Goals as goal
 pub returns-then-filter-eq0 : goal.returns-then-filter-eq0
 returns-then-filter-eq0 c = let a = c.args in copied-same a.filter a.w a.n _ c.if-filter-eq0.true
 
-pub slot_on-requires : goal.slot_on-requires
-slot_on-requires c = omega arith
-
 pub shape_of-store : goal.shape_of-store
 shape_of-store c = c.copy_row.auto.store
 

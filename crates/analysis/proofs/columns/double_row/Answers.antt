@@ -5,14 +5,11 @@ use Rattle.lifting.specs.Grid.{side}
 use Rattle.analysis.proofs.CallLaws.{high_doubled}
 use Rattle.analysis.proofs.columns.double_row.Goals as goal
 
-pub slot_on-high-requires : goal.slot_on-high-requires
-slot_on-high-requires c = omega arith
-
 pub shape_of-store : goal.shape_of-store
-shape_of-store c = c.unpredict_row.auto.area
+shape_of-store c = c.change_row.auto.area
 
 pub returns : goal.returns
 returns c =
     let a = c.args in
     high_doubled a.w (length a.store.now) (side a.y a.m) _ _ _ a.filter c.requires.0 _ c.requires.1 c.slot_on-high.ensures.0
-    c.unpredict_row.ensures.area_after
+    c.change_row.ensures.area_after

@@ -8,12 +8,6 @@ use Rattle.analysis.proofs.columns.make_columns.Goals as goal
 pub make_high-requires : goal.make_high-requires
 make_high-requires c = c.requires
 
-pub make_low-requires : goal.make_low-requires
-make_low-requires c = omega arith
-
-pub copy_high-requires : goal.copy_high-requires
-copy_high-requires c = omega arith
-
 pub shape_of-store : goal.shape_of-store
 shape_of-store c =
     c.copy_high.auto.store ∙ c.make_low.auto.store ∙ c.make_high.auto.store

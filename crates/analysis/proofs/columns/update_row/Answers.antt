@@ -15,13 +15,13 @@ beside_low-by-requires c =
     (omega arith, i.0, i.1)
 
 pub shape_of-store-then-filter-eq0 : goal.shape_of-store-then-filter-eq0
-shape_of-store-then-filter-eq0 c = c.update_row.auto.area
+shape_of-store-then-filter-eq0 c = c.change_row.auto.area
 
 pub returns-then-filter-eq0 : goal.returns-then-filter-eq0
 returns-then-filter-eq0 c =
     let a = c.args in
     low_first a.w (length a.store.now) (side a.y a.m) _ _ _ a.filter c.if-filter-eq0.true c.requires.0 (omega arith) a.n _ _ _
-    c.low_waits-t.ensures.0 c.beside_low-by.ensures.0 c.beside_low-by.ensures.1 c.update_row.ensures.area_after
+    c.low_waits-t.ensures.0 c.beside_low-by.ensures.0 c.beside_low-by.ensures.1 c.change_row.ensures.area_after
 
 pub beside_low-by-requires-2 : goal.beside_low-by-requires-2
 beside_low-by-requires-2 c =
@@ -29,10 +29,10 @@ beside_low-by-requires-2 c =
     (omega arith, i.0, i.1)
 
 pub shape_of-store : goal.shape_of-store
-shape_of-store c = c.update_row-2.auto.area
+shape_of-store c = c.update_row.auto.area
 
 pub returns : goal.returns
 returns c =
     let a = c.args in
     low_second a.w (length a.store.now) (side a.y a.m) _ _ _ a.filter c.if-filter-eq0.false c.requires.0 (omega arith) a.n _ _ _
-    c.low_waits-t-2.ensures.0 c.beside_low-by-2.ensures.0 c.beside_low-by-2.ensures.1 c.update_row-2.ensures.area_after
+    c.low_waits-t-2.ensures.0 c.beside_low-by-2.ensures.0 c.beside_low-by-2.ensures.1 c.update_row.ensures.area_after

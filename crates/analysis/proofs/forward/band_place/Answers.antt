@@ -4,9 +4,6 @@ use Prim.Native.Nat.{◌^◌}
 use borrow.Author.Tests.{lt-ltb, le-ltb}
 use Rattle.analysis.proofs.forward.band_place.Goals as goal
 
-pub placed-requires : goal.placed-requires
-placed-requires c = omega arith
-
 pub returns-then-w-lt2305843009213693952 : goal.returns-then-w-lt2305843009213693952
 returns-then-w-lt2305843009213693952 c = let a = c.args in simp (lt-ltb a.w (2 ^ 61) (omega arith)) c.placed.ensures
 

@@ -31,12 +31,6 @@ offset_bounds-store-a c =
     let k = level_in a.filter (length a.store.now) (side a.x a.w) (sym (c.level_fits.ensures a.x) ∙ c.if-level_fits.true) in
     omega (arith, k, in-room (filter_of a.filter).rows a.w c.slot.result (in_rows a.filter c.slot.result a.q c.slot.ensures.0))
 
-pub slice_bounds-put-count : goal.slice_bounds-put-count
-slice_bounds-put-count c = omega arith
-
-pub slice_bounds-put-start : goal.slice_bounds-put-start
-slice_bounds-put-start c = omega arith
-
 pub slice_bounds-put-end : goal.slice_bounds-put-end
 slice_bounds-put-end c =
     let a = c.args in

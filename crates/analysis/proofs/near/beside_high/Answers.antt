@@ -5,9 +5,6 @@ use Rattle.filters.specs.Filters.{filter_of}
 use Rattle.analysis.proofs.NearRows.{beside-high-slots}
 use Rattle.analysis.proofs.near.beside_high.Goals as goal
 
-pub overflow_sub-y : goal.overflow_sub-y
-overflow_sub-y c = omega arith
-
 pub returns : goal.returns
 returns c =
     let a = c.args in

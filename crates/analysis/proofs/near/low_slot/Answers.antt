@@ -5,11 +5,5 @@ use native.Mathlib.Omega.{arith}
 use Rattle.analysis.proofs.SlotLaws.{number-slot}
 use Rattle.analysis.proofs.near.low_slot.Goals as goal
 
-pub overflow_add-y : goal.overflow_add-y
-overflow_add-y c = omega arith
-
-pub slot_on-requires : goal.slot_on-requires
-slot_on-requires c = omega arith
-
 pub returns : goal.returns
 returns c = let a = c.args in (c.slot_on.ensures.0 ∙ number-slot a.filter (a.y % 2) a.k, c.slot_on.ensures.1)

@@ -17,12 +17,6 @@ overflow_add-e c = let a = c.args in let b = in-room (filter_of a.filter).rows a
 pub offset_bounds-store-a : goal.offset_bounds-store-a
 offset_bounds-store-a c = let a = c.args in let b = in-room (filter_of a.filter).rows a.w a.s c.requires.1 in omega arith
 
-pub slice_bounds-lift_line-count : goal.slice_bounds-lift_line-count
-slice_bounds-lift_line-count c = omega arith
-
-pub slice_bounds-lift_line-start : goal.slice_bounds-lift_line-start
-slice_bounds-lift_line-start c = omega arith
-
 pub slice_bounds-lift_line-end : goal.slice_bounds-lift_line-end
 slice_bounds-lift_line-end c = let a = c.args in let b = in-room (filter_of a.filter).rows a.w a.s c.requires.1 in omega arith
 

@@ -13,9 +13,6 @@ use Rattle.analysis.proofs.SameSets.{reduced-set, reduced-small}
 use Rattle.analysis.proofs.SetLaws.{next-set, pair-room, pair-slot}
 use Rattle.analysis.proofs.sets.make_next.Goals as goal
 
-pub slot_on-requires : goal.slot_on-requires
-slot_on-requires c = omega arith
-
 pub make_pair-requires : goal.make_pair-requires
 make_pair-requires c =
     let a = c.args in
@@ -46,9 +43,6 @@ pub overflow_add-m-2 : goal.overflow_add-m-2
 overflow_add-m-2 c =
     let a = c.args in
     omega (arith, c.look_ahead.ensures, ahead-few a.filter, reduced-small a.n c.reduced-k.result c.reduced-k.ensures)
-
-pub overflow_sub-m : goal.overflow_sub-m
-overflow_sub-m c = omega arith
 
 pub make_set-requires : goal.make_set-requires
 make_set-requires c = c.requires

@@ -10,15 +10,9 @@ use Rattle.analysis.proofs.sets.make_pair.Goals as goal
 pub pair_columns-requires : goal.pair_columns-requires
 pair_columns-requires c = c.requires
 
-pub slot_on-requires : goal.slot_on-requires
-slot_on-requires c = omega arith
-
 pub lift_row-requires : goal.lift_row-requires
 unfolding filter_of
 lift_row-requires c = (omega arith, in_rows 0 _ _ c.slot_on.ensures.0)
-
-pub slot_on-requires-2 : goal.slot_on-requires-2
-slot_on-requires-2 c = omega arith
 
 pub lift_row-requires-2 : goal.lift_row-requires-2
 unfolding filter_of

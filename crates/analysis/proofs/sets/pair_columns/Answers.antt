@@ -6,15 +6,6 @@ use borrow.Author.Rules.{rules}
 use Rattle.analysis.proofs.PairLaws.{columns-first, columns-later}
 use Rattle.analysis.proofs.sets.pair_columns.Goals as goal
 
-pub slot_on-low-requires : goal.slot_on-low-requires
-slot_on-low-requires c = omega arith
-
-pub slot_on-high-requires : goal.slot_on-high-requires
-slot_on-high-requires c = omega arith
-
-pub slot_on-free-requires : goal.slot_on-free-requires
-slot_on-free-requires c = omega arith
-
 pub shape_of-store-then-n-gt0 : goal.shape_of-store-then-n-gt0
 shape_of-store-then-n-gt0 c = c.lift_and_copy.auto.area
 

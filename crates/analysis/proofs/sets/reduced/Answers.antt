@@ -3,9 +3,6 @@ use native.Mathlib.Omega.{arith}
 use borrow.Author.Tests.{lt-ltb, le-ltb}
 use Rattle.analysis.proofs.sets.reduced.Goals as goal
 
-pub overflow_add-result : goal.overflow_add-result
-overflow_add-result c = omega arith
-
 pub returns-then-n-lt4 : goal.returns-then-n-lt4
 returns-then-n-lt4 c = let a = c.args in simp (lt-ltb a.n 4 (omega arith))
 

@@ -6,9 +6,6 @@ use Rattle.wavelet.proofs.SideLaws.{count-lo}
 use Rattle.level.proofs.Spots.{spot-even, spot-odd}
 use Rattle.level.proofs.heights.cell.Goals as goal
 
-pub overflow_add-x : goal.overflow_add-x
-overflow_add-x c = omega arith
-
 pub returns-then-x-c-eq0 : goal.returns-then-x-c-eq0
 returns-then-x-c-eq0 c = let a = c.args in sym (spot-even (side a.x a.w) a.c (omega arith))
 

@@ -15,12 +15,6 @@ pub offset_bounds-run-from : goal.offset_bounds-run-from
 offset_bounds-run-from c =
     let k = heights-in _ _ _ _ _ (sym c.heights_fit.ensures ∙ c.if-heights_fit.true) in omega (arith, k.heights)
 
-pub slice_bounds-fill-count : goal.slice_bounds-fill-count
-slice_bounds-fill-count c = omega arith
-
-pub slice_bounds-fill-start : goal.slice_bounds-fill-start
-slice_bounds-fill-start c = omega arith
-
 pub slice_bounds-fill-end : goal.slice_bounds-fill-end
 slice_bounds-fill-end c =
     let k = heights-in _ _ _ _ _ (sym c.heights_fit.ensures ∙ c.if-heights_fit.true) in omega (arith, k.heights)

@@ -6,9 +6,6 @@ use borrow.Author.Tests.{lt-ltb, le-ltb}
 use Rattle.level.specs.Stretch.{local}
 use Rattle.level.proofs.sets.low_row.Goals as goal
 
-pub overflow_add-result : goal.overflow_add-result
-overflow_add-result c = omega arith
-
 pub returns-then-n-lt4611686018427387904 : goal.returns-then-n-lt4611686018427387904
 unfolding local
 returns-then-n-lt4611686018427387904 c =

@@ -4,15 +4,6 @@ use Rattle.filters.specs.Filters.{filter_of}
 use Rattle.progress.proofs.CountLaws.{ahead-some, made_all, made-few, made_some}
 use Rattle.progress.proofs.counts.made.Goals as goal
 
-pub overflow_add-all : goal.overflow_add-all
-overflow_add-all c = omega arith
-
-pub overflow_add-all-2 : goal.overflow_add-all-2
-overflow_add-all-2 c = omega arith
-
-pub overflow_add-all-3 : goal.overflow_add-all-3
-overflow_add-all-3 c = omega arith
-
 pub returns-then-a-c : goal.returns-then-a-c
 returns-then-a-c c =
     let a = c.args in

@@ -1,4 +1,4 @@
-use Rattle.std.proofs.Common.{◌≡◌, sym, refl, ap, ◌∙◌, arith}
+use Rattle.std.proofs.Common.{◌≡◌, ◌+◌, ◌-◌, sym, refl, ap, ◌∙◌, arith}
 use Rattle.lifting.specs.Grid.{side}
 use Rattle.progress.specs.Counts.{skip}
 use Rattle.progress.proofs.CountLaws.{skip_all, skip_stop, skip-go, skip-none}
@@ -10,18 +10,11 @@ returns-then-all_have c = skip_all _ _ _ _ c.all_have.ensures c.if-all_have.true
 pub loop-k-init : goal.loop-k-init
 loop-k-init c = refl
 
-pub overflow_sub-k : goal.overflow_sub-k
-overflow_sub-k c = omega arith
-
 pub returns-then-has_row : goal.returns-then-has_row
 returns-then-has_row c =
-    skip_stop _ _ _ _ c.loop-k-test.true (sym c.has_row.ensures ∙ c.if-has_row.true) ∙ c.loop-k.invariant
-
-pub overflow_sub-k-in-loop-k : goal.overflow_sub-k-in-loop-k
-overflow_sub-k-in-loop-k c = omega arith
-
-pub loop-k-smaller : goal.loop-k-smaller
-loop-k-smaller c = omega arith
+    let k = c.loop-k.k in
+    let e : k - 1 + 1 ≡ k = omega arith in
+    e ∙ skip_stop _ _ _ _ c.loop-k-test.true (sym c.has_row.ensures ∙ c.if-has_row.true) ∙ c.loop-k.invariant
 
 pub loop-k-preserved : goal.loop-k-preserved
 loop-k-preserved c =

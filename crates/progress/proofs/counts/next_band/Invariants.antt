@@ -6,6 +6,3 @@ use Rattle.progress.proofs.counts.next_band.Given as goal
 
 abbrev pub invariant-loop-k : goal.invariant-loop-k
 invariant-loop-k l = skip (side l.x l.w) (side l.y l.m) l.n l.k ≡ skip (side l.x l.w) (side l.y l.m) l.n l.i
-
-abbrev pub decreases-loop-k : goal.decreases-loop-k
-decreases-loop-k l = l.k

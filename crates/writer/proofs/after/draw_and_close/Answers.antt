@@ -3,6 +3,7 @@ use mathlib.Core.Path.{◌∙◌}
 use native.Mathlib.Omega.{arith}
 use Rattle.writer.proofs.CallLaws.{drew-open, drew-waits, drew-closes}
 use Rattle.writer.proofs.after.draw_and_close.Goals as goal
+use Rattle.writer.proofs.after.draw_and_close.Goals.{else-s-via-else-s, else-s-via-then-s+else-r-eq0}
 
 pub advance-r-requires : goal.advance-r-requires
 advance-r-requires c = c.requires
@@ -22,15 +23,12 @@ returns-then-r-eq0 c = drew-closes c.args.s _ _ _
     c.advance-r.ensures _ _ c.if-s.true (omega arith)
     c.flush-q.ensures
 
-pub shape_of-store-else-r-eq0 : goal.shape_of-store-else-r-eq0
-shape_of-store-else-r-eq0 c = c.advance-r.auto.store
+pub shape_of-store : goal.shape_of-store
+shape_of-store c = c.advance-r.auto.store
 
-pub returns-else-r-eq0 : goal.returns-else-r-eq0
-returns-else-r-eq0 c = drew-waits c.args.s _ _ _ c.advance-r.ensures
-    c.if-s.true (omega arith)
-
-pub shape_of-store-else-s : goal.shape_of-store-else-s
-shape_of-store-else-s c = c.advance-r.auto.store
-
-pub returns-else-s : goal.returns-else-s
-returns-else-s c = drew-open c.args.s _ _ _ c.advance-r.ensures c.if-s.false
+pub returns : goal.returns
+returns c =
+    elim c.else-s.branch [
+      else-s-via-else-s w ↦ drew-open c.args.s _ _ _ c.advance-r.ensures w.if-s.false
+    | else-s-via-then-s+else-r-eq0 w ↦ drew-waits c.args.s _ _ _ c.advance-r.ensures w.if-s.true (omega arith)
+    ]

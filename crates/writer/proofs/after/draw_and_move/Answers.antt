@@ -3,6 +3,7 @@ use mathlib.Core.Path.{◌∙◌}
 use native.Mathlib.Omega.{arith}
 use Rattle.writer.proofs.CallLaws.{left-moves, drew-still, drew-none, drew-moved}
 use Rattle.writer.proofs.after.draw_and_move.Goals as goal
+use Rattle.writer.proofs.after.draw_and_move.Goals.{else-t-eq0-via-else-t-eq0, else-t-eq0-via-then-t-eq0+else-t-gt0}
 
 pub draw_and_close-t-requires : goal.draw_and_close-t-requires
 draw_and_close-t-requires c = let p = c.requires in (p.0, p.1)
@@ -18,15 +19,12 @@ pub returns-then-t-gt0 : goal.returns-then-t-gt0
 returns-then-t-gt0 c = drew-moved _ _ _ _ c.draw_and_close-t.ensures _ _ (omega arith)
     c.move_on.ensures
 
-pub shape_of-store-else-t-gt0 : goal.shape_of-store-else-t-gt0
-shape_of-store-else-t-gt0 c = c.draw_and_close-t.auto.store
+pub shape_of-store : goal.shape_of-store
+shape_of-store c = c.draw_and_close-t.auto.store
 
-pub returns-else-t-gt0 : goal.returns-else-t-gt0
-returns-else-t-gt0 c =
-    drew-none _ _ _ _ c.draw_and_close-t.ensures _ c.requires.2 (omega arith) (omega arith)
-
-pub shape_of-store-else-t-eq0 : goal.shape_of-store-else-t-eq0
-shape_of-store-else-t-eq0 c = c.draw_and_close-t.auto.store
-
-pub returns-else-t-eq0 : goal.returns-else-t-eq0
-returns-else-t-eq0 c = drew-still _ _ _ _ c.draw_and_close-t.ensures (omega arith)
+pub returns : goal.returns
+returns c =
+    elim c.else-t-eq0.branch [
+      else-t-eq0-via-else-t-eq0 w ↦ drew-still _ _ _ _ c.draw_and_close-t.ensures (omega arith)
+    | else-t-eq0-via-then-t-eq0+else-t-gt0 w ↦ drew-none _ _ _ _ c.draw_and_close-t.ensures _ c.requires.2 (omega arith) (omega arith)
+    ]

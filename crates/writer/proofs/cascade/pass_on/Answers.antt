@@ -28,12 +28,6 @@ returns-then-not-gives_row c =
 pub overflow_sub-k : goal.overflow_sub-k
 overflow_sub-k c = let a = c.args in omega (arith, goes a.l a.y a.n _ c.gives_row.ensures c.if-not-gives_row.false-raw)
 
-pub overflow_add-s : goal.overflow_add-s
-overflow_add-s c = omega arith
-
-pub stretch-a-requires : goal.stretch-a-requires
-stretch-a-requires c = omega arith
-
 pub offset_bounds-store-a : goal.offset_bounds-store-a
 offset_bounds-store-a c =
     let a = c.args in
@@ -51,9 +45,6 @@ slice_bounds-arrive-start c =
     let a = c.args in
     let e : c.stretch-a.result ≡ (filter_of a.filter).rows * a.w = c.stretch-a.ensures in
     omega (arith, e, store-next (filter_of a.filter).rows (side a.x a.w) a.l)
-
-pub slice_bounds-arrive-end : goal.slice_bounds-arrive-end
-slice_bounds-arrive-end c = omega arith
 
 pub arrive-r-requires : goal.arrive-r-requires
 arrive-r-requires c =

@@ -14,9 +14,6 @@ pub returns-then-s-ge-MAX_HEIGHT : goal.returns-then-s-ge-MAX_HEIGHT
 unfolding max_height
 returns-then-s-ge-MAX_HEIGHT c = let a = c.args in next-none a.s a.k (takes-full a.s (omega arith))
 
-pub overflow_sub-n : goal.overflow_sub-n
-overflow_sub-n c = omega arith
-
 pub returns-then-n-k : goal.returns-then-n-k
 unfolding max_height
 returns-then-n-k c =

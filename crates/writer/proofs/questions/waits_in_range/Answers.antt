@@ -16,9 +16,6 @@ returns-then-s-eq0 c =
     left-yes s.left 0 _ _ _ (left-none s.levels s.level (omega arith)) (omega arith)
     (ap (eqb s.offset) (sym (start_first s.filter (columns_of s) s.level (omega arith))))
 
-pub overflow_sub-s : goal.overflow_sub-s
-overflow_sub-s c = omega arith
-
 pub returns-then-most-s : goal.returns-then-most-s
 returns-then-most-s c =
     let s = c.args.s in
