@@ -14,12 +14,8 @@ use Rattle.numbers.proofs.Sweep.{Swept, start, store, left, finish}
 use Rattle.lifting.specs.Line.{lo, hi, predicted, updated, unpredicted, unupdated}
 use Rattle.lifting.specs.Grid.{Side, count, joined, line_forward, line_halves_back}
 use Rattle.lifting.specs.GridHalves.{halves_of, lifted_in_place, unlifted_in_place}
-use Rattle.lifting.specs.Passes.{near, highs_changed, lows_changed}
+use Rattle.lifting.specs.Passes.{near, beside_lows, beside_highs, highs_changed, lows_changed}
 use Rattle.lifting.proofs.GridLaws.{ahead, counts, some, beside-lows, beside-highs, joined-place, high-near, low_near, even-near, odd-near, halves_are}
-
--- the measure of a loop that ends a turn before e
-pub further : (e n : ℕ) → n + 1 < e → e - (n + 1) < e - n
-further e n b = omega arith
 
 -- a loop of t turns, which ends a turn before e
 pub turn-left : (e t n : ℕ) → t ≡ e - 1 → n < t → n + 1 < e
@@ -27,9 +23,6 @@ turn-left e t n is b = omega arith
 
 pub turned : (e t n : ℕ) → t ≡ e - 1 → t ≤ n → n ≤ t → (t ≡ n) × (e ≤ n + 1)
 turned e t n is b le = omega arith
-
-pub below : (k m n : ℕ) → k < m → n ≡ m → k < n
-below k m n b e = omega arith
 
 -- ---- the two passes in place, by any step f
 module _ (f : ℤ → ℤ → ℤ → ℤ) (o low N : ℕ) (y : ℕ → ℤ) where
@@ -86,39 +79,33 @@ module _ (f : ℤ → ℤ → ℤ → ℤ) (o low b : ℕ) (l l' : List ℤ) (g 
       rw (size, is) (lows-turn f o low (length l) (at l) 0 low b l room g (omega arith) (omega arith) (start l _ 0 (λ j lt. absurd (omega arith))))
 
 -- what is asked for a line of N numbers
-abbrev pub BesideLows : ℕ → ℕ → ℕ → Type 0
-BesideLows N low o = (0 < low) × (low < N) × (o ≤ 1) × (low + low ≤ N + o) × (N + o ≤ low + low + 1)
-
-abbrev pub BesideHighs : ℕ → ℕ → ℕ → Type 0
-BesideHighs N low o = (0 < low) × (low < N) × (o ≤ 1) × (N ≤ low + low + o) × (low + low + o ≤ N + 1)
-
 module _ (S : Side) (N low : ℕ) (size : N ≡ S.length) (more : 1 < S.length) (lows : low ≡ count lo S) where
-  pub lows-beside : BesideLows N low (1 - S.start % 2)
+  pub lows-beside : beside_lows N low (1 - S.start % 2)
   lows-beside =
       let s = some S more in
       let d = beside-lows S in
       omega arith
 
-  pub highs-beside : BesideHighs N low (S.start % 2)
+  pub highs-beside : beside_highs N low (S.start % 2)
   highs-beside =
       let s = some S more in
       let d = beside-highs S in
       omega arith
 
 -- ---- the first number, its second neighbour at r or low + r
-pub low-begins : (N low o : ℕ) → BesideHighs N low o → (low ≤ N) × (o ≤ N - low) × (0 < N - low)
+pub low-begins : (N low o : ℕ) → beside_highs N low o → (low ≤ N) × (o ≤ N - low) × (0 < N - low)
 low-begins N low o pre = omega arith
 
-pub low-first-in : (N low o r : ℕ) → BesideHighs N low o → N * 4 < 2 ^ 63 → r ≡ near (N - low) o → Fits w64 (low + r) × ((0 < N) × (low < N) × (low + r < N))
+pub low-first-in : (N low o r : ℕ) → beside_highs N low o → N * 4 < 2 ^ 63 → r ≡ near (N - low) o → Fits w64 (low + r) × ((0 < N) × (low < N) × (low + r < N))
 low-first-in N low o r pre room e = omega arith
 
-pub first-in : (N M low o : ℕ) → BesideHighs N low o → N ≤ M → (low < N) × (0 < M)
+pub first-in : (N M low o : ℕ) → beside_highs N low o → N ≤ M → (low < N) × (0 < M)
 first-in N M low o pre room = omega arith
 
-pub first-sum : (N low o : ℕ) → BesideHighs N low o → N * 4 < 2 ^ 63 → Fits w64 (low + o)
+pub first-sum : (N low o : ℕ) → beside_highs N low o → N * 4 < 2 ^ 63 → Fits w64 (low + o)
 first-sum N low o pre room = omega arith
 
-pub high-first-in : (N low o r : ℕ) → BesideLows N low o → r ≡ near low o → (low < N) × (0 < N) × (r < N)
+pub high-first-in : (N low o r : ℕ) → beside_lows N low o → r ≡ near low o → (low < N) × (0 < N) × (r < N)
 high-first-in N low o r pre e = omega arith
 
 -- ---- the loops over N numbers: what their places need. Before turn n of the one over the high numbers,
@@ -133,7 +120,7 @@ pub record HighsAt (N low o end n : ℕ) : Type 0 where
   pub begun : 1 ≤ n
   pub within : n ≤ low
 
-pub highs-at : (N L low o : ℕ) → L ≡ N → BesideLows N low o → N * 4 < 2 ^ 63 → HighsAt L low o (low - o) 1
+pub highs-at : (N L low o : ℕ) → L ≡ N → beside_lows N low o → N * 4 < 2 ^ 63 → HighsAt L low o (low - o) 1
 highs-at N L low o size pre room =
     record {
       some = pre.0;
@@ -193,7 +180,7 @@ pub record LowsAt (N low o high end n : ℕ) : Type 0 where
   pub begun : 1 ≤ n
   pub within : n ≤ high
 
-pub lows-at : (N L low o : ℕ) → L ≡ N → BesideHighs N low o → N * 4 < 2 ^ 63 → LowsAt L low o (N - low) (N - low - o) 1
+pub lows-at : (N L low o : ℕ) → L ≡ N → beside_highs N low o → N * 4 < 2 ^ 63 → LowsAt L low o (N - low) (N - low - o) 1
 lows-at N L low o size pre room =
     record {
       some = pre.0;

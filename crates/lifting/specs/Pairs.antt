@@ -1,6 +1,6 @@
 -- A pair of rows lifted along the columns: row h, a high row, predicted by rows l and r, the low rows on both sides of it, and then row l updated by row b,
 -- the high row before, and by row h. Rows are those of `Rows`: row t is the w numbers from place t * s on.
-use Rattle.std.specs.Prelude.{Bool, false, ℕ, zero, suc, ◌+◌, ◌*◌, ℤ, eqb}
+use Rattle.std.specs.Prelude.{◌≡◌, Bool, false, ℕ, zero, suc, ◌+◌, ◌<◌, ◌*◌, ℤ, eqb}
 use Rattle.numbers.specs.Signal.{pick, both, stored}
 use Rattle.numbers.specs.Tests.{every}
 use Rattle.numbers.specs.Word.{wrap32}
@@ -32,6 +32,10 @@ unfoldable pub pair_within : ℤ → ℤ → ℕ → ℕ → ℕ → ℕ → (�
 pair_within least most s w h l x = every w (λ i. both (within least most (x (l * s + i))) (within least most (x (h * s + i))))
 
 -- ---- one column, at its places in these rows. Private functions alone cite this.
+-- the four places lie within n numbers, and those that are changed are two
+abbrev pub column_in : ℕ → ℕ → ℕ → ℕ → ℕ → Type 0
+column_in n h l r b = (h < n) × (l < n) × (r < n) × (b < n) × (l ≡ h → ⊥)
+
 -- the number at place t changed by f of itself and those at places l and r
 abbrev pub changed_at : (ℤ → ℤ → ℤ → ℤ) → ℕ → ℕ → ℕ → (ℕ → ℤ) → ℕ → ℤ
 changed_at f t l r x = stored t (f (x t) (x l) (x r)) x

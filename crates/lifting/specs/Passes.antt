@@ -1,7 +1,7 @@
 -- The two passes of a line of N numbers in halves, the low ones first, as the private functions make them: each number n of one half changed by the numbers n
 -- + o − 1 and n + o of the
 -- other, by the nearest one where there is none such. o is 0 or 1: which of the two halves begins the line.
-use Rattle.std.specs.Prelude.{ℕ, ◌+◌, ◌-◌, ◌*◌, ◌/◌, min, ℤ, ltb}
+use Rattle.std.specs.Prelude.{ℕ, ◌+◌, ◌-◌, ◌*◌, ◌/◌, ◌≤◌, ◌<◌, min, ℤ, ltb}
 use Rattle.numbers.specs.Signal.{pick}
 use Rattle.numbers.specs.Word.{wrap32}
 use Rattle.lifting.specs.Line.{lo}
@@ -11,6 +11,13 @@ use Rattle.lifting.specs.GridHalves.{halves_of, backward_into}
 -- the number of m that is nearest to k
 abbrev pub near : ℕ → ℕ → ℕ
 near m k = min k (m - 1)
+
+-- of N numbers the first `low` are low ones, and each high one has a low one next to it; and each low one a high one
+abbrev pub beside_lows : ℕ → ℕ → ℕ → Type 0
+beside_lows N low o = (0 < low) × (low < N) × (o ≤ 1) × (low + low ≤ N + o) × (N + o ≤ low + low + 1)
+
+abbrev pub beside_highs : ℕ → ℕ → ℕ → Type 0
+beside_highs N low o = (0 < low) × (low < N) × (o ≤ 1) × (N ≤ low + low + o) × (low + low + o ≤ N + 1)
 
 -- `low` low numbers, and the high ones changed
 unfoldable pub highs_changed : (ℤ → ℤ → ℤ → ℤ) → ℕ → ℕ → ℕ → (ℕ → ℤ) → ℕ → ℤ

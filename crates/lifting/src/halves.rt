@@ -8,7 +8,7 @@ ghost use Rattle.lifting.specs.Line.{unpredicted, unupdated};
 ghost use Rattle.lifting.specs.Grid.{side};
 ghost use Rattle.lifting.specs.Halves.{fronted};
 ghost use Rattle.lifting.specs.GridHalves.{unlifted_in_place, has_line_in, highs_laid};
-ghost use Rattle.lifting.specs.Passes.{highs_changed, lows_changed, lows_of};
+ghost use Rattle.lifting.specs.Passes.{beside_lows, beside_highs, highs_changed, lows_changed, lows_of};
 
 use crate::{place, sample, single};
 use refusal::Refusal;
@@ -33,8 +33,7 @@ fn unpredict_to(row: &[i32], out: &mut [i32], p: usize, a: usize, b: usize)
 
 // The low numbers of `out` lifted back, each number n by its high neighbours n + o - 1 and n + o in a row as long; the first and the last may have one.
 fn unlift_lows(row: &[i32], out: &mut [i32], low: usize, o: usize)
-    requires { (0 < low) × (low < length row.now) × (o ≤ 1) × (length row.now ≤ low + low + o) × (low + low + o ≤ length row.now + 1) ×
-        (length row.now ≡ length out.old) }
+    requires { beside_highs (length row.now) low o × (length row.now ≡ length out.old) }
     ensures { at out.new ≡ lows_of low (at out.old)
         (lows_changed (unupdated wrap32) o low (length row.now) (lows_of low (at row.now) (at out.old))) }
 {
@@ -52,8 +51,7 @@ fn unlift_lows(row: &[i32], out: &mut [i32], low: usize, o: usize)
 
 // Then the high numbers of the row, lifted back on the way to `out`, each number n by its low neighbours n + o - 1 and n + o there.
 fn unlift_highs(row: &[i32], out: &mut [i32], low: usize, o: usize)
-    requires { (0 < low) × (low < length row.now) × (o ≤ 1) × (low + low ≤ length row.now + o) × (length row.now + o ≤ low + low + 1) ×
-        (length row.now ≡ length out.old) }
+    requires { beside_lows (length row.now) low o × (length row.now ≡ length out.old) }
     ensures { at out.new ≡ highs_changed (unpredicted wrap32) o low (length row.now)
         (lows_of low (at row.now) (at out.old)) }
 {

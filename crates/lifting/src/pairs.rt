@@ -1,10 +1,10 @@
 // A pair of rows of an area lifted along the columns in one pass, so that a number is read and stored once. Rows are those of `rows`.
 // Each call forward predicts row `high` by rows `low` and `right`, and updates row `low` by row `before` and by row `high`. It refuses, with nothing changed,
 // where a row does not lie in the area or is wider than the stride, or where rows `high` and `low` are one.
-ghost use Rattle.std.specs.Prelude.{◌≡◌, ℕ, ℤ, ◌<◌, length};
+ghost use Rattle.std.specs.Prelude.{◌≡◌, ℕ, ℤ, length};
 ghost use Rattle.numbers.specs.Signal.{at, pick};
 ghost use Rattle.refusal.specs.Numbers.{answer};
-ghost use Rattle.lifting.specs.Pairs.{pair_fits, pair_lifted, pair_copied, pair_unlifted, pair_within, lifted_at, copied_at, each_column};
+ghost use Rattle.lifting.specs.Pairs.{pair_fits, pair_lifted, pair_copied, pair_unlifted, pair_within, column_in, lifted_at, copied_at, each_column};
 
 use crate::{place, rows};
 use refusal::Refusal;
@@ -37,8 +37,7 @@ trait PairStep {
     ghost column: { ℕ → ℕ → ℕ → ℕ → (ℕ → ℤ) → ℕ → ℤ };
 
     fn lift(area: &mut [i32], p: Pair)
-        requires { (p.high < length area.old) × (p.low < length area.old) × (p.right < length area.old) × (p.before < length area.old) ×
-            (p.low ≡ p.high → ⊥) }
+        requires { column_in (length area.old) p.high p.low p.right p.before }
         ensures { at area.new ≡ column p.high p.low p.right p.before (at area.old) };
 }
 

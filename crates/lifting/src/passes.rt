@@ -1,16 +1,16 @@
 // The two passes over a line in halves, in place, for any step. `low` is how many low numbers it has, and o is 0 or 1: which of the two halves begins the line.
 // They ask for that, so a caller without it takes a call of `line`. The ends stand outside the loops, and their bounds before them, so that they become vector
 // code.
-ghost use Rattle.std.specs.Prelude.{◌≡◌, ◌+◌, ◌<◌, ◌≤◌, length};
+ghost use Rattle.std.specs.Prelude.{◌≡◌, length};
 ghost use Rattle.numbers.specs.Signal.{at};
-ghost use Rattle.lifting.specs.Passes.{highs_changed, lows_changed};
+ghost use Rattle.lifting.specs.Passes.{beside_lows, beside_highs, highs_changed, lows_changed};
 
 use crate::place;
 use crate::step::Step;
 
 // Each high number n by its low neighbours n + o - 1 and n + o; the first and the last may have one, which counts twice.
 pub fn change_highs<S: Step>(line: &mut [i32], low: usize, o: usize)
-    requires { (0 < low) × (low < length line.old) × (o ≤ 1) × (low + low ≤ length line.old + o) × (length line.old + o ≤ low + low + 1) }
+    requires { beside_lows (length line.old) low o }
     ensures { at line.new ≡ highs_changed S.op o low (length line.old) (at line.old) }
 {
     let end = low - o;
@@ -26,7 +26,7 @@ pub fn change_highs<S: Step>(line: &mut [i32], low: usize, o: usize)
 
 // Each low number n by its high neighbours n + o - 1 and n + o; the first and the last may have one.
 pub fn change_lows<S: Step>(line: &mut [i32], low: usize, o: usize)
-    requires { (0 < low) × (low < length line.old) × (o ≤ 1) × (length line.old ≤ low + low + o) × (low + low + o ≤ length line.old + 1) }
+    requires { beside_highs (length line.old) low o }
     ensures { at line.new ≡ lows_changed S.op o low (length line.old) (at line.old) }
 {
     let high = line.len() - low;

@@ -3,7 +3,7 @@
 ghost use Rattle.std.specs.Prelude.{◌≡◌, ◌<◌, length, set};
 ghost use Rattle.numbers.specs.Signal.{at, both};
 ghost use Rattle.lifting.specs.Line.{lo};
-ghost use Rattle.lifting.specs.Pairs.{lifted_at, unlifted_at};
+ghost use Rattle.lifting.specs.Pairs.{column_in, lifted_at, unlifted_at};
 ghost use Rattle.lifting.specs.Ranges.{within};
 ghost use Rattle.lifting.specs.Grid.{side, count};
 ghost use Rattle.lifting.specs.Passes.{near};
@@ -21,8 +21,7 @@ pub fn step_at<S: Step>(area: &mut [i32], p: usize, a: usize, b: usize)
 
 // A high number predicted by two low ones, the first of these updated by another high number and this one, which is answered: so a loop has it at hand.
 pub fn lift_at(area: &mut [i32], p: Pair) -> i32
-    requires { (p.high < length area.old) × (p.low < length area.old) × (p.right < length area.old) × (p.before < length area.old) ×
-        (p.low ≡ p.high → ⊥) }
+    requires { column_in (length area.old) p.high p.low p.right p.before }
     ensures value { result ≡ at area.new p.high }
     ensures area_after { at area.new ≡ lifted_at p.high p.low p.right p.before (at area.old) }
 {
@@ -36,8 +35,7 @@ pub fn lift_at(area: &mut [i32], p: Pair) -> i32
 // The way back: a low number without its update by two high ones, the first of these without its prediction by another low number and this one. It answers
 // whether both lie from `least` to `most`.
 pub fn unlift_at(area: &mut [i32], p: Pair, least: i32, most: i32) -> bool
-    requires { (p.high < length area.old) × (p.low < length area.old) × (p.right < length area.old) × (p.before < length area.old) ×
-        (p.low ≡ p.high → ⊥) }
+    requires { column_in (length area.old) p.high p.low p.right p.before }
     ensures value { result ≡ both (within least most (at area.new p.low)) (within least most (at area.new p.high)) }
     ensures area_after { at area.new ≡ unlifted_at p.high p.low p.right p.before (at area.old) }
 {

@@ -10,11 +10,11 @@ pub returns-then-last-row : goal.returns-then-last-row
 returns-then-last-row c =
     let inv = c.loop-n.invariant in
     let e = c.max.ensures ∙ high-turns inv.places c.loop-n-test.false c.loop-n.auto.n-end in
-    high-last inv c.args.out.now _ c.requires.5 c.nearest.ensures c.unpredict_to.ensures _ c.loop-n-test.false
+    high-last inv c.args.out.now _ c.requires.1 c.nearest.ensures c.unpredict_to.ensures _ c.loop-n-test.false
     (rw e at c.if-last-row.true) (rw e at c.unpredict_to-then-last-row.ensures)
 
 pub returns-else-last-row : goal.returns-else-last-row
 returns-else-last-row c =
     let inv = c.loop-n.invariant in
     let e = c.max.ensures ∙ high-turns inv.places c.loop-n-test.false c.loop-n.auto.n-end in
-    high-done inv c.args.out.now _ c.requires.5 c.nearest.ensures c.unpredict_to.ensures (rw e at c.if-last-row.false)
+    high-done inv c.args.out.now _ c.requires.1 c.nearest.ensures c.unpredict_to.ensures (rw e at c.if-last-row.false)

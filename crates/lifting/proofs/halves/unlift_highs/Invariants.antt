@@ -1,6 +1,5 @@
 -- `lifting::halves::unlift_highs` meets its contract: a sweep over the high numbers of `out`, the first before the loop and the last after it.
 -- Assumes nothing.
-use Prim.Native.Nat.{◌-◌}
 use Rattle.numbers.specs.Word.{wrap32}
 use Rattle.lifting.specs.Line.{unpredicted}
 use Rattle.lifting.proofs.LiftLaws.{HighsBy}

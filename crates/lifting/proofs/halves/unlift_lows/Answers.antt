@@ -10,11 +10,11 @@ pub returns-then-last-low : goal.returns-then-last-low
 returns-then-last-low c =
     let inv = c.loop-n.invariant in
     let e = c.max-last.ensures ∙ low-turns inv.places c.loop-n-test.false c.loop-n.auto.n-end in
-    low-last inv c.args.out.now _ c.requires.5 c.nearest.ensures c.unupdate_by.ensures _ c.loop-n-test.false
+    low-last inv c.args.out.now _ c.requires.1 c.nearest.ensures c.unupdate_by.ensures _ c.loop-n-test.false
     (rw e at c.if-last-low.true) (rw e at c.unupdate_by-then-last-low.ensures)
 
 pub returns-else-last-low : goal.returns-else-last-low
 returns-else-last-low c =
     let inv = c.loop-n.invariant in
     let e = c.max-last.ensures ∙ low-turns inv.places c.loop-n-test.false c.loop-n.auto.n-end in
-    low-done inv c.args.out.now _ c.requires.5 c.nearest.ensures c.unupdate_by.ensures (rw e at c.if-last-low.false)
+    low-done inv c.args.out.now _ c.requires.1 c.nearest.ensures c.unupdate_by.ensures (rw e at c.if-last-low.false)

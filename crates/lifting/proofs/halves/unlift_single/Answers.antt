@@ -1,5 +1,5 @@
 -- `lifting::halves::unlift_single` meets its contract, by the laws of a line so short. Assumes nothing.
-use Rattle.std.proofs.Common.{◌≡◌, sym, ap, ◌∙◌, length, arith}
+use Rattle.std.proofs.Common.{sym, ap, ◌∙◌, length, arith}
 use Rattle.numbers.specs.Signal.{at}
 use Rattle.lifting.specs.Grid.{side, is_even}
 use Rattle.lifting.specs.GridHalves.{highs_laid}

@@ -1,11 +1,11 @@
 -- `lifting::halves::unupdate_by` meets its contract: what is read and stored are 32-bit numbers read back. Assumes nothing.
 use mathlib.Core.Path.{ap}
-use lib.ListN.{set, length-set}
+use lib.ListN.{set}
 use Rattle.numbers.specs.Signal.{at}
 use Rattle.numbers.specs.Word.{wrap32}
 use Rattle.numbers.proofs.Words.{read_back}
 use Rattle.lifting.specs.Line.{unupdated}
-use Rattle.lifting.proofs.PlaceLaws.{bytes, step-read}
+use Rattle.lifting.proofs.PlaceLaws.{step-read}
 use Rattle.lifting.proofs.halves.unupdate_by.Goals as goal
 
 pub returns : goal.returns

@@ -1,7 +1,7 @@
 -- `lifting::line::backward` meets its contract: a line of more than one number is put together; a shorter one goes apart. Assumes nothing.
 use native.Mathlib.Omega.{arith}
 use lib.ListN.{length}
-use borrow.Author.Tests.{le-leb, lt-leb}
+use borrow.Author.Tests.{le-leb}
 use Rattle.numbers.specs.Signal.{at}
 use Rattle.lifting.specs.Grid.{side}
 use Rattle.lifting.proofs.SingleLaws.{has_more}

@@ -4,7 +4,7 @@ use native.Mathlib.Omega.{arith}
 use lib.ListN.{length}
 use Rattle.numbers.specs.Signal.{at}
 use Rattle.numbers.proofs.Words.{read_back}
-use Rattle.numbers.proofs.Sweep.{start, store, finish}
+use Rattle.numbers.proofs.Sweep.{store, finish}
 use Rattle.lifting.proofs.AreaLaws.{evens-in, evens-past}
 use Rattle.lifting.proofs.line.copy_evens.Goals as goal
 

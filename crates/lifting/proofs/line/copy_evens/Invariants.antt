@@ -1,5 +1,5 @@
 -- `lifting::line::copy_evens` meets its contract: a sweep over the front of `out`. Assumes nothing.
-use Prim.Native.Nat.{◌-◌, ◌≤◌}
+use Prim.Native.Nat.{◌≤◌}
 use lib.ListN.{length}
 use Rattle.numbers.specs.Signal.{at}
 use Rattle.numbers.proofs.Sweep.{Swept}

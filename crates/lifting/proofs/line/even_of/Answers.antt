@@ -3,7 +3,7 @@ use Rattle.numbers.specs.Signal.{at}
 use Rattle.numbers.specs.Word.{wrap32}
 use Rattle.numbers.proofs.Words.{read_back}
 use Rattle.lifting.specs.Line.{unupdated}
-use Rattle.lifting.proofs.PlaceLaws.{bytes, step-read}
+use Rattle.lifting.proofs.PlaceLaws.{step-read}
 use Rattle.lifting.proofs.line.even_of.Goals as goal
 
 pub returns : goal.returns

@@ -1,15 +1,15 @@
 -- `lifting::line::forward` meets its contract: the line's places copied into its halves, and these lifted, each in a part of `out` that is lent.
 -- Assumes nothing.
-use mathlib.Core.Path.{◌≡◌, refl, sym, ◌∙◌}
+use mathlib.Core.Path.{◌≡◌, refl, sym}
 use Prim.Native.Nat.{◌-◌}
 use native.Mathlib.Omega.{arith}
 use lib.ListN.{length}
-use borrow.Author.Tests.{le-leb, lt-leb}
+use borrow.Author.Tests.{le-leb}
 use borrow.Rule.Slice.PartMut.{put_mid, same_len_mid}
 use Rattle.numbers.specs.Signal.{at}
 use Rattle.lifting.specs.Grid.{side}
-use Rattle.lifting.proofs.AreaLaws.{Parts, part-sums, part-starts, low-room, high-room, from-none}
-use Rattle.lifting.proofs.AreaLaws.{to-all, less_none, up-to, forward-parts, forward-none}
+use Rattle.lifting.proofs.AreaLaws.{Parts, part-starts, low-room, high-room}
+use Rattle.lifting.proofs.AreaLaws.{less_none, forward-parts, forward-none}
 use Rattle.lifting.proofs.line.forward.Goals as goal
 
 pub slice_bounds-copy_evens-end-then-n-gt0 : goal.slice_bounds-copy_evens-end-then-n-gt0

@@ -1,6 +1,5 @@
 -- `lifting::line::lift` meets its contract: the two passes come to it; a line of one number or none goes apart. Assumes nothing.
-use mathlib.Core.Path.{refl, ◌∙◌}
-use native.Mathlib.Omega.{arith}
+use mathlib.Core.Path.{refl}
 use lib.ListN.{length}
 use Rattle.lifting.specs.Grid.{side}
 use Rattle.lifting.proofs.PassLaws.{lows-beside, highs-beside, lifted-by}

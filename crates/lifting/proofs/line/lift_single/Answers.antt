@@ -1,7 +1,7 @@
 -- `lifting::line::lift_single` meets its contract, by the laws of a line so short. Assumes nothing.
 use mathlib.Core.Path.{refl, sym, ◌∙◌}
 use native.Mathlib.Omega.{arith}
-use lib.ListN.{length, length-set}
+use lib.ListN.{length}
 use Rattle.numbers.specs.Signal.{at}
 use Rattle.numbers.proofs.Words.{read_back}
 use Rattle.lifting.specs.Grid.{side}

@@ -1,9 +1,9 @@
-use mathlib.Core.Path.{refl, ◌∙◌}
+use mathlib.Core.Path.{refl}
 use lib.ListN.{length}
 use Rattle.numbers.proofs.Words.{read_back}
 use Rattle.lifting.specs.Grid.{side}
 use Rattle.lifting.proofs.PassLaws.{highs-beside, low-begins, low-first-in, first-in, first-sum, turn-left, turned}
-use Rattle.lifting.proofs.AreaLaws.{carried-at, carried-next, carried-sums, carried-reads, carried-in}
+use Rattle.lifting.proofs.AreaLaws.{carried-at}
 use Rattle.lifting.proofs.AreaLaws.{carried-end, first-turn, line-turn, line-put}
 use Rattle.lifting.proofs.line.put_line.Goals as goal
 

@@ -1,5 +1,4 @@
 -- `lifting::line::put_line` meets its contract: a sweep over two places a turn, between its first place and its end. Assumes nothing.
-use Prim.Native.Nat.{◌-◌}
 use lib.ListN.{length}
 use Rattle.numbers.specs.Signal.{at}
 use Rattle.lifting.specs.Grid.{side}

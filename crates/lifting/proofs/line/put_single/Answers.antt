@@ -1,5 +1,5 @@
 -- `lifting::line::put_single` meets its contract, by the laws of a line so short. Assumes nothing.
-use Rattle.std.proofs.Common.{◌≡◌, sym, ◌∙◌, length, arith}
+use Rattle.std.proofs.Common.{sym, ◌∙◌, length, arith}
 use Rattle.numbers.specs.Signal.{at}
 use Rattle.lifting.specs.Grid.{side}
 use Rattle.lifting.proofs.SingleLaws.{single-high, has_first, has-none, backward-single, backward-none, halved, odd-refused, handed-on}

@@ -1,6 +1,5 @@
 -- `lifting::line::unlift` meets its contract: the two passes come to it; a line of one number or none goes apart. Assumes nothing.
-use mathlib.Core.Path.{refl, ◌∙◌}
-use native.Mathlib.Omega.{arith}
+use mathlib.Core.Path.{refl}
 use lib.ListN.{length}
 use Rattle.numbers.specs.Signal.{at}
 use Rattle.lifting.specs.Grid.{side}

@@ -1,4 +1,4 @@
-use Rattle.std.proofs.Common.{◌≡◌, sym, ◌∙◌, length, arith, refl}
+use Rattle.std.proofs.Common.{sym, ◌∙◌, length, arith, refl}
 use Rattle.numbers.specs.Signal.{at}
 use Rattle.lifting.specs.Grid.{side}
 use Rattle.lifting.proofs.SingleLaws.{single-high, has_first, has-none, unlifted-single, unlifted-none, halved, odd-refused, handed-on}

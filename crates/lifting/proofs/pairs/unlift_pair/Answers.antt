@@ -1,11 +1,9 @@
-use mathlib.Core.Path.{◌≡◌, sym, ◌∙◌}
-use mathlib.Core.Bool.{true}
-use Prim.Native.Nat.{◌+◌, ◌*◌, ◌^◌, ◌<◌}
-use lib.ListN.{length}
+use mathlib.Core.Path.{sym, ◌∙◌}
+use Prim.Native.Nat.{◌+◌, ◌*◌}
 use mir.Syntax.{w32}
 use mir.ValLaws.{to_z-of_z}
-use Rattle.lifting.specs.Pairs.{pair_fits, unlifted_at}
-use Rattle.lifting.proofs.RowLaws.{row_within, row_first, row-sum, row_next, falls}
+use Rattle.lifting.specs.Pairs.{unlifted_at}
+use Rattle.lifting.proofs.RowLaws.{row_within, row_first}
 use Rattle.lifting.proofs.ColumnLaws.{pair-in, pair-places, pass-start, pass-turn, pass-end}
 use Rattle.lifting.proofs.BackLaws.{unlifted-none, unlifted-more, within_none, within_more, within_end}
 use Rattle.lifting.proofs.pairs.unlift_pair.Goals as goal

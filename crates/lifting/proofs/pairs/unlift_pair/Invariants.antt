@@ -1,7 +1,7 @@
 -- `lifting::pairs::unlift_pair` meets its contract: before turn i the first i columns are lifted back, and the answer so far is theirs.
 -- Assumes nothing.
 use mathlib.Core.Path.{◌≡◌}
-use Prim.Native.Nat.{ℕ, ◌-◌}
+use Prim.Native.Nat.{ℕ}
 use lib.IntN.{ℤ}
 use Rattle.numbers.specs.Signal.{at}
 use Rattle.lifting.specs.Pairs.{pair_unlifted, pair_within}

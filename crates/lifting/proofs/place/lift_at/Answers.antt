@@ -1,13 +1,12 @@
 -- `lifting::place::lift_at` meets its contract: what is read and stored are 32-bit numbers read back. Assumes nothing.
 use mathlib.Core.Path.{◌≡◌, ◌∙◌}
-use lib.ListN.{set, length-set}
+use lib.ListN.{set}
 use mir.Syntax.{w32}
 use mir.Val.{to_z, of_z}
 use Rattle.numbers.specs.Signal.{at}
 use Rattle.numbers.specs.Word.{wrap32}
 use Rattle.numbers.proofs.Words.{read_back}
 use Rattle.lifting.specs.Line.{predicted, updated}
-use Rattle.lifting.proofs.PlaceLaws.{bytes, in-set}
 use Rattle.lifting.proofs.ColumnLaws.{two-stores, stays}
 use Rattle.lifting.proofs.place.lift_at.Goals as goal
 

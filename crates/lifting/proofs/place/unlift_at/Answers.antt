@@ -1,6 +1,6 @@
 -- `lifting::place::unlift_at` meets its contract: what is read and stored are 32-bit numbers read back. Assumes nothing.
 use mathlib.Core.Path.{◌≡◌, ◌∙◌}
-use lib.ListN.{set, length-set}
+use lib.ListN.{set}
 use mir.Syntax.{w32}
 use mir.Val.{to_z, of_z}
 use mir.ValLaws.{to_z-of_z}
@@ -8,7 +8,6 @@ use Rattle.numbers.specs.Signal.{at}
 use Rattle.numbers.specs.Word.{wrap32}
 use Rattle.numbers.proofs.Words.{read_back}
 use Rattle.lifting.specs.Line.{unpredicted, unupdated}
-use Rattle.lifting.proofs.PlaceLaws.{bytes, in-set}
 use Rattle.lifting.proofs.BackLaws.{back-stores, back-tested}
 use Rattle.lifting.proofs.place.unlift_at.Goals as goal
 

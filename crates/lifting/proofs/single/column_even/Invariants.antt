@@ -1,6 +1,5 @@
 -- `lifting::single::column_even` meets its contract: the numbers passed are even, and past the end of the area stands 0. Assumes nothing.
 use mathlib.Core.Path.{◌≡◌}
-use Prim.Native.Nat.{◌-◌}
 use lib.ListN.{length}
 use Rattle.lifting.proofs.SingleTests.{Column}
 use Rattle.lifting.proofs.single.column_even.Given as goal

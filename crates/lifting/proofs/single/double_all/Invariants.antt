@@ -1,7 +1,5 @@
 -- `lifting::single::double_all` meets its contract: a sweep over the row. Assumes nothing.
-use Prim.Native.Nat.{◌-◌}
 use lib.IntN.{pos, ◌*ℤ◌}
-use lib.ListN.{length}
 use Rattle.numbers.specs.Word.{wrap32}
 use Rattle.lifting.proofs.EachLaws.{Each}
 use Rattle.lifting.proofs.single.double_all.Given as goal

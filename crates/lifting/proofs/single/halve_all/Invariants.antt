@@ -1,8 +1,6 @@
 -- `lifting::single::halve_all` meets its contract: a sweep over the row, and the answer so far is that of the numbers passed. Assumes nothing.
 use mathlib.Core.Path.{◌≡◌}
-use Prim.Native.Nat.{◌-◌}
 use lib.Signed.{shr_z}
-use lib.ListN.{length}
 use Rattle.numbers.specs.Signal.{at}
 use Rattle.numbers.specs.Tests.{every}
 use Rattle.lifting.specs.Grid.{is_even}
