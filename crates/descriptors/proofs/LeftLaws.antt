@@ -32,9 +32,6 @@ pub clamped-most : (got : ℤ) (n : ℕ) → clamp_len got n ≤ n
 clamped-most (pos k) n = omega (arith, min-le_right k n)
 clamped-most (negsuc k) n = omega arith
 
-pub put-most : (z : ℤ) (f n t : ℕ) → f ≤ n → t ≡ f + clamp_len z (n - f) → t ≤ n
-put-most z f n t h e = omega (arith, clamped-most z (n - f))
-
 -- nothing is left where the end is not after the start
 pub none_left : (c : List ℕ) (l : Left) → l.to ≤ l.from → left_in c l ≡ []
 unfolding left_in

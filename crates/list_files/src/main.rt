@@ -9,8 +9,7 @@ use std::io::{Error, ErrorKind, Result};
 use std::{fs, str};
 
 fn write(rt: HostRuntime, text: &[u8]) -> bool {
-    let sent = output::send(&mut rt.stdout(), b"standard output", text, &rt.stderr());
-    sent.whole
+    output::send(&mut rt.stdout(), b"standard output", text, &rt.stderr()).is_ok()
 }
 
 // A name that is not UTF-8 cannot be told to std.

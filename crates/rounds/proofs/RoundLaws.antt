@@ -1,4 +1,5 @@
 -- A round put together, rounds one after the other, and a whole run. Assumes nothing.
+use Rattle.std.specs.Prelude.{Result, IfErr}
 use mathlib.Core.Path.{◌≡◌, refl, sym, ap, subst, ◌∙◌}
 use mathlib.Core.Bool.{Bool, true, false, not}
 use mathlib.Core.List.{List, [], ◌++◌}
@@ -9,13 +10,12 @@ use lib.Dec.{eqb, ltb, leb}
 use lib.ListN.{length, take, drop}
 use lib.Seq.{drop-length}
 use Rattle.numbers.specs.Signal.{pick, both}
-use Rattle.text.specs.Text.{Wrote}
 use Rattle.text.specs.Moves.{Went, Stops, full, idle}
 use Rattle.text.proofs.TextLaws.{wrote-size}
 use Rattle.descriptors.specs.Left.{left_in, Within, reads_now, Fills}
 use Rattle.descriptors.specs.declared.input.Left.{Left}
 use Rattle.descriptors.specs.declared.input.Filled.{Filled}
-use Rattle.descriptors.specs.declared.output.Sent.{Sent}
+use Rattle.descriptors.specs.declared.output.Cut.{Cut}
 use Rattle.descriptors.proofs.LeftLaws.{fills-within, used-within, used-left}
 use Rattle.rounds.specs.Machine.{Machine}
 use Rattle.rounds.specs.Rounds.{waits_at, over_at, waiting, over, failed, ended, ends}
@@ -83,9 +83,9 @@ ends-not r e f = go (ended r) (failed r) e f
     go true true h k = false-true k refl
 
 -- ---- one round
-pub round_is : {S : Type 0} {M : Machine S} {s s' : S} {l : Left} {c c' o o' : List ℕ} (w : Bool) (g : Filled) (a b : ℕ) (i : Bool) (q : Sent) {r : Outcome}
+pub round_is : {S : Type 0} {M : Machine S} {s s' : S} {l : Left} {c c' o o' : List ℕ} (w : Bool) (g : Filled) (a b : ℕ) (i : Bool) (q : Result (Unit {0}) Cut) {r : Outcome}
     → Within c l → w ≡ waiting M s → Fills w l c c' g → Went M.Move s (left_in c' g.left) 0 a o o' 0 b s'
-    → Stops M.busy s' (left_in c' g.left) a o b i → q.whole ≡ eqb q.count b → r ≡ outcome_of g a b i q → Round M (length o) s l c c' o o' s' r
+    → Stops M.busy s' (left_in c' g.left) a o b i → IfErr q (λ cut. cut.count < b) → r ≡ outcome_of g a b i q → Round M (length o) s l c c' o o' s' r
 round_is {S} {M} {s} {s'} {l} {c} {c'} {o} {o'} w g a b i q m e f t h y d =
     subst (λ r. Round M (length o) s l c c' o o' s' r) (sym d)
     (record { within = m; area = refl; fills = subst (λ b. Fills b l c c' g) e f; used = a; went = t; stops = h; left = refl; sent = y })
@@ -149,8 +149,3 @@ module _ {S : Type 0} {M : Machine S} {A : ℕ} {end : S → S} {s : S} where
   run-after {s₁} {s₂} {s'} {c₁} {c} {r₁} {r} {A'} e g h d k =
       let q : Ran M A (end s₁) s' c r = subst (λ y. Ran M A y s' c r) d (subst (λ y. Ran M y s₂ s' c r) e k) in
       record { read = g.read ++ q.read; written = g.written ++ q.written; run = after g h q }
-
--- what was written fits the area, and is sent
-pub sent_is : {t o o' : List ℕ} {b : ℕ} (q : Sent) → Wrote t 0 b o o' → q.whole ≡ pick (leb b (length o')) (eqb q.count b) false
-    → q.whole ≡ eqb q.count b
-sent_is {o' = o'} {b = b} q w e = e ∙ rw (le-leb b (length o') (omega (arith, w.room, wrote-size w))) refl

@@ -1,11 +1,10 @@
 // What a round of read, turn and write leaves, and what follows from it. Where the program itself is, is told by two numbers: `busy`, 0 where nothing is
 // being written, and `phase`, that of its input (pgm::input).
-ghost use Rattle.std.specs.Prelude.{◌≡◌, false, leb, eqb, length};
-ghost use Rattle.numbers.specs.Signal.{pick};
+ghost use Rattle.std.specs.Prelude.{◌≡◌, ◌<◌, ◌≤◌, length, IfErr, OnOk};
 ghost use Rattle.rounds.specs.Rounds.{waits_at, over_at, failed, ended, ends, whole, going, started, outcome_of};
 
 use descriptors::input::{Filled, Left};
-use descriptors::output::Sent;
+use descriptors::output::Cut;
 use descriptors::{input, output};
 use std::io::{Print, Write};
 
@@ -16,7 +15,7 @@ pub struct Outcome {
     pub left: Left,
     pub filled: Filled,
     pub written: usize,
-    pub sent: Sent,
+    pub sent: Result<(), Cut>,
     pub idle: bool,
 }
 
@@ -51,29 +50,35 @@ pub fn start() -> Outcome
             failed: false,
         },
         written: 0,
-        sent: Sent {
-            count: 0,
-            whole: true,
-        },
+        sent: Ok(()),
         idle: false,
     }
 }
 
 // What was written goes to standard output, which `to` is; nothing of what does not fit the area. What fails is told by that name.
-pub fn send<W: Write, E: Print>(to: &mut W, out: &[u8], written: usize, errors: &E) -> Sent
-    ensures { result.whole ≡ pick (leb written (length out.now)) (eqb result.count written) false }
+pub fn send<W: Write, E: Print>(
+    to: &mut W,
+    out: &[u8],
+    written: usize,
+    errors: &E,
+) -> Result<(), Cut>
+    ensures cut { IfErr result (λ cut. cut.count < written) }
+    ensures room { OnOk result (written ≤ length out.now) }
 {
     if out.len() < written {
-        return Sent {
-            count: 0,
-            whole: false,
-        };
+        return Err(Cut { count: 0 });
     }
     output::send(to, b"standard output", &out[..written], errors)
 }
 
 // After a round: `used` bytes of what stood in the chunk were fed, which wrote `written`.
-pub fn after(filled: Filled, used: usize, written: usize, idle: bool, sent: Sent) -> Outcome
+pub fn after(
+    filled: Filled,
+    used: usize,
+    written: usize,
+    idle: bool,
+    sent: Result<(), Cut>,
+) -> Outcome
     ensures { result ≡ outcome_of filled used written idle sent }
 {
     Outcome {
@@ -90,7 +95,7 @@ pub fn after(filled: Filled, used: usize, written: usize, idle: bool, sent: Sent
 pub fn has_failed(outcome: Outcome) -> bool
     ensures { result ≡ failed outcome }
 {
-    outcome.filled.failed || !outcome.sent.whole
+    outcome.filled.failed || outcome.sent.is_err()
 }
 
 // Whether the input has ended, and all of it is fed.

@@ -1,10 +1,7 @@
--- `descriptors::output::send` counts what the writes took, and ends: the measure is the number of turns left. Assumes nothing.
+-- `descriptors::output::send` counts what the writes took. Assumes nothing.
 use Prim.Native.Nat.{◌≤◌}
 use lib.ListN.{length}
 use Rattle.descriptors.proofs.output.send.Given as goal
 
-abbrev pub invariant-loop-turns : goal.invariant-loop-turns
-invariant-loop-turns g l = l.done.to ≤ length l.bytes
-
-abbrev pub decreases-loop-turns : goal.decreases-loop-turns
-decreases-loop-turns g l = l.turns
+abbrev pub invariant-loop : goal.invariant-loop
+invariant-loop g l = l.count ≤ length l.bytes
