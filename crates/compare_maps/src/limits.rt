@@ -27,18 +27,9 @@ fn differ(answer: u8, expected: u8) -> u64 {
 fn map_answer(width: usize, levels: usize, plane: &mut [i32], expected: u8) -> u64 {
     let mut heights = [0u16; 2100];
     let mut work = [0i32; 2100];
-    let a = whole_map::forward(
-        &heights,
-        heights::shape_of(width, 1, levels),
-        plane,
-        &mut work,
-    );
-    let b = whole_map::backward(
-        plane,
-        heights::shape_of(width, 1, levels),
-        &mut heights,
-        &mut work,
-    );
+    let s = heights::shape_of(width, 1, levels);
+    let a = refusal::code(whole_map::forward(&heights, s, plane, &mut work));
+    let b = refusal::code(whole_map::backward(plane, s, &mut heights, &mut work));
     area::sum(differ(a, expected), differ(b, expected))
 }
 
@@ -101,7 +92,8 @@ fn coefficient(t: Tally, band: usize, v: i32, expected: u8) -> Tally {
     ];
     let mut heights = [0u16; 4];
     let mut work = [0i32; 4];
-    let a = whole_map::backward(&plane, heights::shape_of(2, 2, 1), &mut heights, &mut work);
+    let s = heights::shape_of(2, 2, 1);
+    let a = refusal::code(whole_map::backward(&plane, s, &mut heights, &mut work));
     let b = feed_answer(&plane);
     t.more(2, area::sum(differ(a, expected), differ(b, expected)))
 }

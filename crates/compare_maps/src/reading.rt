@@ -373,7 +373,7 @@ fn read(
 fn prepare(i: usize, s: Shape, map: &mut [u16], book: &mut [u64], plane: &mut [i32]) -> u8 {
     let mut work = [0i32; 6160];
     t800::prepare(i, map, book);
-    whole_map::forward(map, s, plane, &mut work)
+    refusal::code(whole_map::forward(map, s, plane, &mut work))
 }
 
 // Map number i; the line store has no number more than it needs, and begins with marks in it.

@@ -17,7 +17,7 @@ fn forward(
 ) -> u64 {
     area::mark(plane);
     area::mark(work);
-    let no = whole_map::forward(map, s, plane, work);
+    let no = refusal::code(whole_map::forward(map, s, plane, work));
     let mut found = no as u64;
     found = area::sum(found, area::differences(plane, n, book, 0));
     found = area::sum(found, area::unmarked(plane, n));
@@ -36,7 +36,7 @@ fn backward(
 ) -> u64 {
     area::mark_heights(heights);
     area::mark(work);
-    let no = whole_map::backward(plane, s, heights, work);
+    let no = refusal::code(whole_map::backward(plane, s, heights, work));
     let mut found = no as u64;
     found = area::sum(found, area::height_differences(heights, n, map, 0));
     found = area::sum(found, area::unmarked_heights(heights, n));

@@ -5,3 +5,4 @@ pub mod LevelPasses
 pub mod Sweep
 pub mod SweepBack
 pub mod BackLines
+pub mod Sides

@@ -12,16 +12,19 @@ ghost use Rattle.map_levels.specs.Rowwise.{cut};
 ghost use Rattle.map_levels.specs.Passes.{Rows};
 ghost use Rattle.map_levels.specs.SweepBack.{short_unlifted, low_place, band_rows, RowPut};
 ghost use Rattle.map_levels.specs.BackLines.{IsHeight, LineMade};
+ghost use Rattle.map_levels.specs.Sides.{columns, rows};
 
+use crate::sides::Sides;
 use crate::{level_ranges, short_back, small};
 use wavelet::sizes;
 
 // Where the low-low part of a level begins in its work area.
-pub fn low_place(x: usize, width: usize, y: usize, height: usize) -> usize
-    requires { width * height < 2 ^ 63 }
-    ensures { result ≡ low_place (side x width) (side y height) }
+pub fn low_place(sides: Sides) -> usize
+    requires { sides.width * sides.height < 2 ^ 63 }
+    ensures { result ≡ low_place (columns sides) (rows sides) }
 {
-    width * height - sizes::low_count(x, width) * sizes::low_count(y, height)
+    sides.width * sides.height
+        - sizes::low_count(sides.x, sides.width) * sizes::low_count(sides.y, sides.height)
 }
 
 // The row at place a of the plane lifted back into the line at place `to`.
@@ -64,21 +67,18 @@ pub fn fetch_low(
     work: &[i32],
     lines: &mut [i32],
     across: usize,
-    x: usize,
-    width: usize,
-    y: usize,
-    height: usize,
+    sides: Sides,
     r: usize,
     to: usize,
 )
-    requires { Rows (length plane.now) across width height × (width * height ≤ length work.now) × (0 < width) × (r < height)
-        × (to + width ≤ length lines.old) × ((y + r) % 2 ≡ 0) }
-    ensures { LineMade to width (short_unlifted (side x width) (cut width (band_rows across (side x width) (side y height) (at plane.now)
+    requires { Rows (length plane.now) across sides.width sides.height × (sides.width * sides.height ≤ length work.now)
+        × (0 < sides.width) × (r < sides.height) × (to + sides.width ≤ length lines.old) × ((sides.y + r) % 2 ≡ 0) }
+    ensures { LineMade to sides.width (short_unlifted (columns sides) (cut sides.width (band_rows across (columns sides) (rows sides) (at plane.now)
         (at work.now) r))) (at lines.old) (at lines.new) }
 {
     let n = r / 2;
-    let b = low_place(x, width, y, height) + n * sizes::low_count(x, width);
-    unlift_part(work, b, plane, n * across, x, width, lines, to);
+    let b = low_place(sides) + n * sizes::low_count(sides.x, sides.width);
+    unlift_part(work, b, plane, n * across, sides.x, sides.width, lines, to);
 }
 
 // And high row r, which stands in the plane.
@@ -86,19 +86,17 @@ pub fn fetch_high(
     plane: &[i32],
     lines: &mut [i32],
     across: usize,
-    x: usize,
-    width: usize,
-    y: usize,
-    height: usize,
+    sides: Sides,
     r: usize,
     to: usize,
 )
-    requires { Rows (length plane.now) across width height × (0 < width) × (r < height) × (to + width ≤ length lines.old) × ((y + r) % 2 ≡ 1) }
-    ensures { (x₀ : ℕ → ℤ) → LineMade to width (short_unlifted (side x width) (cut width (band_rows across (side x width) (side y height)
+    requires { Rows (length plane.now) across sides.width sides.height × (0 < sides.width) × (r < sides.height)
+        × (to + sides.width ≤ length lines.old) × ((sides.y + r) % 2 ≡ 1) }
+    ensures { (x₀ : ℕ → ℤ) → LineMade to sides.width (short_unlifted (columns sides) (cut sides.width (band_rows across (columns sides) (rows sides)
         (at plane.now) x₀ r))) (at lines.old) (at lines.new) }
 {
-    let a = (sizes::low_count(y, height) + r / 2) * across;
-    unlift_whole(plane, a, x, width, lines, to);
+    let a = (sizes::low_count(sides.y, sides.height) + r / 2) * across;
+    unlift_whole(plane, a, sides.x, sides.width, lines, to);
 }
 
 // A row of either kind.
@@ -107,23 +105,20 @@ pub fn fetch(
     work: &[i32],
     lines: &mut [i32],
     across: usize,
-    x: usize,
-    width: usize,
-    y: usize,
-    height: usize,
+    sides: Sides,
     r: usize,
     to: usize,
 )
-    requires { Rows (length plane.now) across width height × (width * height ≤ length work.now) × (0 < width) × (r < height)
-        × (to + width ≤ length lines.old) }
-    ensures { LineMade to width (short_unlifted (side x width) (cut width (band_rows across (side x width) (side y height) (at plane.now)
+    requires { Rows (length plane.now) across sides.width sides.height × (sides.width * sides.height ≤ length work.now)
+        × (0 < sides.width) × (r < sides.height) × (to + sides.width ≤ length lines.old) }
+    ensures { LineMade to sides.width (short_unlifted (columns sides) (cut sides.width (band_rows across (columns sides) (rows sides) (at plane.now)
         (at work.now) r))) (at lines.old) (at lines.new) }
 {
-    if r % 2 == y % 2 {
-        fetch_low(plane, work, lines, across, x, width, y, height, r, to);
+    if r % 2 == sides.y % 2 {
+        fetch_low(plane, work, lines, across, sides, r, to);
         return;
     }
-    fetch_high(plane, lines, across, x, width, y, height, r, to);
+    fetch_high(plane, lines, across, sides, r, to);
 }
 
 // The line at place `from` to row r of the heights; and whether its numbers are heights, which is known where `sure` says so.

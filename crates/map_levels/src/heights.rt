@@ -10,7 +10,9 @@ ghost use Rattle.map_levels.specs.Rowwise.{heights_at, deinterleaved_in_place};
 ghost use Rattle.map_levels.specs.Passes.{grid_halved, Rows};
 ghost use Rattle.map_levels.specs.LevelPasses.{Finished};
 ghost use Rattle.wavelet.specs.Maps.{every, value_fits};
+ghost use Rattle.map_levels.specs.Sides.{columns, rows};
 
+use crate::sides::Sides;
 use crate::small;
 use wavelet::sizes;
 
@@ -29,27 +31,34 @@ fn load_to(heights: &[u16], m: usize, plane: &mut [i32], r: usize, x: usize, wid
 
 // The heights of a map to the plane as a level takes them: the rows at even coordinates first, each row in halves. They are read one after the other, two a
 // turn; the last of an odd number is alone.
-pub fn load_rows(
-    heights: &[u16],
-    plane: &mut [i32],
-    x: usize,
-    width: usize,
-    y: usize,
-    height: usize,
-)
-    requires { Rows (length heights.now) width width height × Rows (length plane.old) width width height }
+pub fn load_rows(heights: &[u16], plane: &mut [i32], sides: Sides)
+    requires { Rows (length heights.now) sides.width sides.width sides.height × Rows (length plane.old) sides.width sides.width sides.height }
     ensures { at plane.new ≡
-        flat width (grid_halved (side x width) (side y height) (cells width (heights_at heights.now)) (cells width (at plane.old))) }
+        flat sides.width (grid_halved (columns sides) (rows sides) (cells sides.width (heights_at heights.now)) (cells sides.width (at plane.old))) }
 {
-    let b = y % 2;
-    let low = sizes::low_count(y, height);
-    let pairs = height / 2;
+    let b = sides.y % 2;
+    let low = sizes::low_count(sides.y, sides.height);
+    let pairs = sides.height / 2;
     for n in 0..pairs {
-        load_to(heights, 2 * n, plane, b * low + n, x, width);
-        load_to(heights, 2 * n + 1, plane, (1 - b) * low + n, x, width);
+        load_to(heights, 2 * n, plane, b * low + n, sides.x, sides.width);
+        load_to(
+            heights,
+            2 * n + 1,
+            plane,
+            (1 - b) * low + n,
+            sides.x,
+            sides.width,
+        );
     }
-    if 2 * pairs < height {
-        load_to(heights, 2 * pairs, plane, b * low + pairs, x, width);
+    if 2 * pairs < sides.height {
+        load_to(
+            heights,
+            2 * pairs,
+            plane,
+            b * low + pairs,
+            sides.x,
+            sides.width,
+        );
     }
 }
 

@@ -1,7 +1,6 @@
 // The ranges of the levels, and question 7 of a plane: each coefficient in its level's range. The module is private, as `rowwise` is.
 ghost use Rattle.std.specs.Prelude.{◌≡◌, true, ℕ, ◌+◌, ◌-◌, ◌*◌, ◌<◌, ◌≤◌, pos, neg_ℤ, nat_abs, length};
 ghost use Rattle.numbers.specs.Signal.{at};
-ghost use Rattle.lifting.specs.Grid.{side};
 ghost use Rattle.wavelet.specs.Limits.{range};
 ghost use Rattle.wavelet.specs.Plane.{cells};
 ghost use Rattle.wavelet.specs.Questions.{Sized};
@@ -9,7 +8,9 @@ ghost use Rattle.map_levels.specs.Passes.{Rows};
 ghost use Rattle.filters.specs.Filters.{filter_of};
 ghost use Rattle.map_levels.specs.LevelPasses.{rows_between};
 ghost use Rattle.map_levels.specs.LevelPasses.{region_in_range};
+ghost use Rattle.map_levels.specs.Sides.{columns, rows};
 
+use crate::sides::Sides;
 use crate::{levels, small};
 use wavelet::sizes;
 
@@ -76,32 +77,53 @@ fn rows_in_range(
 fn in_range(
     plane: &[i32],
     across: usize,
-    x: usize,
-    width: usize,
-    y: usize,
-    height: usize,
+    sides: Sides,
     levels: usize,
     level: usize,
     filter: usize,
 ) -> bool
-    requires { Rows (length plane.now) across width height × (0 < levels) × (0 < level)
+    requires { Rows (length plane.now) across sides.width sides.height × (0 < levels) × (0 < level)
         × (level + levels ≤ (filter_of filter).levels + 1) }
-    ensures { result ≡ region_in_range (filter_of filter) level levels (side x width) (side y height) (cells across (at plane.now)) }
+    ensures { result ≡ region_in_range (filter_of filter) level levels (columns sides) (rows sides) (cells across (at plane.now)) }
 {
-    let w = sizes::low_count(x, width);
-    let h = sizes::low_count(y, height);
-    if !levels::has_next(levels, w, h) {
-        return rows_in_range(plane, across, 0, height, 0, width, level, filter);
+    let low = sides.low();
+    if !levels::has_next(levels, low) {
+        return rows_in_range(
+            plane,
+            across,
+            0,
+            sides.height,
+            0,
+            sides.width,
+            level,
+            filter,
+        );
     }
-    let u = sizes::next_start(x);
-    let v = sizes::next_start(y);
-    if !in_range(plane, across, u, w, v, h, levels - 1, level + 1, filter) {
+    if !in_range(plane, across, low, levels - 1, level + 1, filter) {
         return false;
     }
-    if !rows_in_range(plane, across, 0, h, w, width, level, filter) {
+    if !rows_in_range(
+        plane,
+        across,
+        0,
+        low.height,
+        low.width,
+        sides.width,
+        level,
+        filter,
+    ) {
         return false;
     }
-    rows_in_range(plane, across, h, height, 0, width, level, filter)
+    rows_in_range(
+        plane,
+        across,
+        low.height,
+        sides.height,
+        0,
+        sides.width,
+        level,
+        filter,
+    )
 }
 
 // Whether the first n numbers of a plane surely lie in the range of level 1.
@@ -114,21 +136,13 @@ fn surely_least(plane: &[i32], n: usize, filter: usize) -> bool
 
 // Question 7 of a map's whole plane. The least range of all, that of level 1, is asked first, of all coefficients one after the other: a plane
 // that surely keeps it keeps every level's range, and planes of most maps do. Only where one may not are the levels asked, each by its own range.
-pub fn plane_in_range(
-    plane: &[i32],
-    x: usize,
-    width: usize,
-    y: usize,
-    height: usize,
-    levels: usize,
-    filter: usize,
-) -> bool
-    requires { Sized width height levels × (width * height ≤ length plane.now) × (levels ≤ (filter_of filter).levels) }
-    ensures { result ≡ region_in_range (filter_of filter) 1 levels (side x width) (side y height) (cells width (at plane.now)) }
+pub fn plane_in_range(plane: &[i32], sides: Sides, levels: usize, filter: usize) -> bool
+    requires { Sized sides.width sides.height levels × (sides.width * sides.height ≤ length plane.now) × (levels ≤ (filter_of filter).levels) }
+    ensures { result ≡ region_in_range (filter_of filter) 1 levels (columns sides) (rows sides) (cells sides.width (at plane.now)) }
 {
-    let n = width * height;
+    let n = sides.width * sides.height;
     if surely_least(plane, n, filter) {
         return true;
     }
-    in_range(plane, width, x, width, y, height, levels, 1, filter)
+    in_range(plane, sides.width, sides, levels, 1, filter)
 }

@@ -9,7 +9,9 @@ ghost use Rattle.wavelet.specs.Plane.{cells, flat};
 ghost use Rattle.map_levels.specs.Rowwise.{deinterleaved_in_place, halved_in_place};
 ghost use Rattle.map_levels.specs.Passes.{Rows, level_row, grid_halved, grid_copied};
 ghost use Rattle.map_levels.specs.LevelPasses.{has_next, rows_even};
+ghost use Rattle.map_levels.specs.Sides.{columns, rows};
 
+use crate::sides::Sides;
 use lifting::single;
 use wavelet::sizes;
 
@@ -25,17 +27,17 @@ fn level_row(y: usize, height: usize, r: usize) -> usize
     2 * (r - low) + (1 - y % 2)
 }
 
-// Whether more levels follow on a low-low part of this width and height: an empty one has none.
-pub fn has_next(levels: usize, width: usize, height: usize) -> bool
-    ensures { result ≡ has_next levels width height }
+// Whether more levels follow on a low-low part: an empty one has none.
+pub fn has_next(levels: usize, low: Sides) -> bool
+    ensures { result ≡ has_next levels low.width low.height }
 {
     if levels < 2 {
         return false;
     }
-    if width == 0 {
+    if low.width == 0 {
         return false;
     }
-    0 < height
+    0 < low.height
 }
 
 // n numbers from place a of one area to place b of another.
@@ -71,22 +73,14 @@ pub fn save(plane: &[i32], work: &mut [i32], across: usize, width: usize, height
 }
 
 // And back to the corner as the level takes it: the low rows first, each row in halves.
-pub fn spread(
-    work: &[i32],
-    plane: &mut [i32],
-    across: usize,
-    x: usize,
-    width: usize,
-    y: usize,
-    height: usize,
-)
-    requires { Rows (length work.now) width width height × Rows (length plane.old) across width height }
+pub fn spread(work: &[i32], plane: &mut [i32], across: usize, sides: Sides)
+    requires { Rows (length work.now) sides.width sides.width sides.height × Rows (length plane.old) across sides.width sides.height }
     ensures { at plane.new ≡
-        flat across (grid_halved (side x width) (side y height) (cells width (at work.now)) (cells across (at plane.old))) }
+        flat across (grid_halved (columns sides) (rows sides) (cells sides.width (at work.now)) (cells across (at plane.old))) }
 {
-    for r in 0..height {
-        let a = level_row(y, height, r) * width;
-        halve_part(work, a, plane, r * across, x, width);
+    for r in 0..sides.height {
+        let a = level_row(sides.y, sides.height, r) * sides.width;
+        halve_part(work, a, plane, r * across, sides.x, sides.width);
     }
 }
 

@@ -4,7 +4,6 @@
 // as `rowwise` is.
 ghost use Rattle.std.specs.Prelude.{◌≡◌, true, ◌+◌, ◌<◌, ◌≤◌, length};
 ghost use Rattle.numbers.specs.Signal.{at};
-ghost use Rattle.lifting.specs.Grid.{side};
 ghost use Rattle.lifting.specs.FiveThree.{five_three_filter};
 ghost use Rattle.wavelet.specs.Bands.{columns_have, level_has};
 ghost use Rattle.wavelet.specs.Plane.{cells};
@@ -12,7 +11,9 @@ ghost use Rattle.areas.specs.Areas.{heights_at};
 ghost use Rattle.map_levels.specs.LevelPasses.{region_in_range};
 ghost use Rattle.map_levels.specs.SweepBack.{bands_in, SmallBands, LevelSweptBack, SweptBack};
 ghost use Rattle.map_levels.specs.BackLines.{BackRoom};
+ghost use Rattle.map_levels.specs.Sides.{columns, rows};
 
+use crate::sides::Sides;
 use crate::{back_rows, back_sweep, levels, sweep};
 use wavelet::sizes;
 
@@ -23,23 +24,30 @@ fn one_back(
     work: &mut [i32],
     lines: &mut [i32],
     across: usize,
-    x: usize,
-    width: usize,
-    y: usize,
-    height: usize,
+    sides: Sides,
     level: usize,
 ) -> bool
-    requires { BackRoom level (length plane.now) (length heights.old) (length work.old) (length lines.old) across (side x width) (side y height)
-        × (height < 2) × SmallBands across (side x width) (side y height) (at plane.now) (at work.old) }
+    requires { BackRoom level (length plane.now) (length heights.old) (length work.old) (length lines.old) across (columns sides) (rows sides)
+        × (sides.height < 2) × SmallBands across (columns sides) (rows sides) (at plane.now) (at work.old) }
     ensures { LevelSweptBack five_three_filter result
-        (columns_have five_three_filter (side x width) (side y height)
-        (bands_in across (side x width) (side y height) (at plane.now) (at work.old)))
-        level across (side x width) (side y height) (at plane.now) (heights_at heights.old) (heights_at heights.new)
+        (columns_have five_three_filter (columns sides) (rows sides)
+        (bands_in across (columns sides) (rows sides) (at plane.now) (at work.old)))
+        level across (columns sides) (rows sides) (at plane.now) (heights_at heights.old) (heights_at heights.new)
         (at work.old) (at work.new) }
 {
-    back_rows::fetch(plane, work, lines, across, x, width, y, height, 0, 0);
-    let even = levels::unlift_single(lines, width, y);
-    let fits = back_rows::put(lines, 0, heights, work, x, width, 0, level, false);
+    back_rows::fetch(plane, work, lines, across, sides, 0, 0);
+    let even = levels::unlift_single(lines, sides.width, sides.y);
+    let fits = back_rows::put(
+        lines,
+        0,
+        heights,
+        work,
+        sides.x,
+        sides.width,
+        0,
+        level,
+        false,
+    );
     even & fits
 }
 
@@ -50,31 +58,24 @@ fn level_back(
     work: &mut [i32],
     lines: &mut [i32],
     across: usize,
-    x: usize,
-    width: usize,
-    y: usize,
-    height: usize,
+    sides: Sides,
     level: usize,
 ) -> bool
-    requires { BackRoom level (length plane.now) (length heights.old) (length work.old) (length lines.old) across (side x width) (side y height)
-        × SmallBands across (side x width) (side y height) (at plane.now) (at work.old) }
+    requires { BackRoom level (length plane.now) (length heights.old) (length work.old) (length lines.old) across (columns sides) (rows sides)
+        × SmallBands across (columns sides) (rows sides) (at plane.now) (at work.old) }
     ensures { LevelSweptBack five_three_filter result
-        (level_has five_three_filter (side x width) (side y height)
-        (bands_in across (side x width) (side y height) (at plane.now) (at work.old)))
-        level across (side x width) (side y height) (at plane.now) (heights_at heights.old) (heights_at heights.new)
+        (level_has five_three_filter (columns sides) (rows sides)
+        (bands_in across (columns sides) (rows sides) (at plane.now) (at work.old)))
+        level across (columns sides) (rows sides) (at plane.now) (heights_at heights.old) (heights_at heights.new)
         (at work.old) (at work.new) }
 {
-    if !levels::rows_even(plane, across, x, width, height) {
+    if !levels::rows_even(plane, across, sides.x, sides.width, sides.height) {
         return false;
     }
-    if height < 2 {
-        return one_back(
-            plane, heights, work, lines, across, x, width, y, height, level,
-        );
+    if sides.height < 2 {
+        return one_back(plane, heights, work, lines, across, sides, level);
     }
-    back_sweep::rows_back(
-        plane, heights, work, lines, across, x, width, y, height, level,
-    )
+    back_sweep::rows_back(plane, heights, work, lines, across, sides, level)
 }
 
 // All levels: first the low-low part with the levels left, or as it stands in the plane, and then this level. `level` is the one that this grid is the low-low
@@ -85,47 +86,34 @@ pub fn sweep_back(
     work: &mut [i32],
     lines: &mut [i32],
     across: usize,
-    x: usize,
-    width: usize,
-    y: usize,
-    height: usize,
+    sides: Sides,
     levels: usize,
     level: usize,
 ) -> bool
-    requires { BackRoom level (length plane.now) (length heights.old) (length work.old) (length lines.old) across (side x width) (side y height)
+    requires { BackRoom level (length plane.now) (length heights.old) (length work.old) (length lines.old) across (columns sides) (rows sides)
         × (0 < levels) × (level + levels ≤ five_three_filter.levels)
-        × (region_in_range five_three_filter (level + 1) levels (side x width) (side y height) (cells across (at plane.now)) ≡ true) }
-    ensures { SweptBack five_three_filter result level levels across (side x width) (side y height) (at plane.now)
+        × (region_in_range five_three_filter (level + 1) levels (columns sides) (rows sides) (cells across (at plane.now)) ≡ true) }
+    ensures { SweptBack five_three_filter result level levels across (columns sides) (rows sides) (at plane.now)
         (heights_at heights.old) (heights_at heights.new) (at work.old) (at work.new) }
 {
-    let w = sizes::low_count(x, width);
-    let h = sizes::low_count(y, height);
-    let a = back_rows::low_place(x, width, y, height);
-    let n = width * height;
-    if !levels::has_next(levels, w, h) {
-        sweep::save_low(plane, &mut work[a..n], across, x, width, y, height);
-        return level_back(
-            plane, heights, work, lines, across, x, width, y, height, level,
-        );
+    let low = sides.low();
+    let a = back_rows::low_place(sides);
+    let n = sides.width * sides.height;
+    if !levels::has_next(levels, low) {
+        sweep::save_low(plane, &mut work[a..n], across, sides);
+        return level_back(plane, heights, work, lines, across, sides, level);
     }
-    let u = sizes::next_start(x);
-    let v = sizes::next_start(y);
     if !sweep_back(
         plane,
         heights,
         &mut work[a..n],
         lines,
         across,
-        u,
-        w,
-        v,
-        h,
+        low,
         levels - 1,
         level + 1,
     ) {
         return false;
     }
-    level_back(
-        plane, heights, work, lines, across, x, width, y, height, level,
-    )
+    level_back(plane, heights, work, lines, across, sides, level)
 }

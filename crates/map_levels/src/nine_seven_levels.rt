@@ -15,7 +15,9 @@ ghost use Rattle.filters.specs.Filters.{filter_of};
 ghost use Rattle.map_levels.specs.ByFilter.{row_copied};
 ghost use Rattle.map_levels.specs.LevelPasses.{corner_grid, plane_written, rows_even, rows_between};
 ghost use Rattle.map_levels.specs.LevelPasses.{LevelRoom, Doubling, LevelMadeBy, LevelsBack};
+ghost use Rattle.map_levels.specs.Sides.{columns, rows};
 
+use crate::sides::Sides;
 use crate::{level_ranges, levels, passes};
 use nine_seven_sweep::columns;
 use wavelet::sizes;
@@ -47,30 +49,24 @@ pub fn forward_levels(
     plane: &mut [i32],
     work: &mut [i32],
     across: usize,
-    x: usize,
-    width: usize,
-    y: usize,
-    height: usize,
+    sides: Sides,
     levels: usize,
 )
-    requires { Rows (length plane.old) across width height × Rows (length work.old) width width height × (0 < levels) }
+    requires { Rows (length plane.old) across sides.width sides.height × Rows (length work.old) sides.width sides.width sides.height × (0 < levels) }
     ensures plane_after { at plane.new ≡
-        flat across (plane_written nine_seven_filter levels (side x width) (side y height)
-        (corner_grid (side x width) (side y height) (cells across (at plane.old)))
+        flat across (plane_written nine_seven_filter levels (columns sides) (rows sides)
+        (corner_grid (columns sides) (rows sides) (cells across (at plane.old)))
         (cells across (at plane.old))) }
-    ensures kept_from { KeptFrom ((height - 1) * width + width) (at work.old) (at work.new) }
+    ensures kept_from { KeptFrom ((sides.height - 1) * sides.width + sides.width) (at work.old) (at work.new) }
 {
-    passes::lift_nine_seven(plane, across, x, width, y, height);
-    let w = sizes::low_count(x, width);
-    let h = sizes::low_count(y, height);
-    if !levels::has_next(levels, w, h) {
+    passes::lift_nine_seven(plane, across, sides);
+    let low = sides.low();
+    if !levels::has_next(levels, low) {
         return;
     }
-    let u = sizes::next_start(x);
-    let v = sizes::next_start(y);
-    levels::save(plane, work, across, w, h);
-    levels::spread(work, plane, across, u, w, v, h);
-    forward_levels(plane, work, across, u, w, v, h, levels - 1);
+    levels::save(plane, work, across, low.width, low.height);
+    levels::spread(work, plane, across, low);
+    forward_levels(plane, work, across, low, levels - 1);
 }
 
 // The low-low part of a level, its rows `stride` apart, from halves into its own order; and whether its numbers lie in the range of `level`, its own.
@@ -160,21 +156,27 @@ fn nine_seven_back(
     across: usize,
     stride: usize,
     from: usize,
-    x: usize,
-    width: usize,
-    y: usize,
-    height: usize,
+    sides: Sides,
 ) -> bool
-    requires { LevelRoom (length plane.now) (length work.old) across stride from (side x width) (side y height) }
-    ensures { LevelMadeBy nine_seven_filter result from stride (side x width) (side y height) (cells across (at plane.now))
+    requires { LevelRoom (length plane.now) (length work.old) across stride from (columns sides) (rows sides) }
+    ensures { LevelMadeBy nine_seven_filter result from stride (columns sides) (rows sides) (cells across (at plane.now))
         (at work.old) (at work.new) }
 {
-    if !levels::rows_even(plane, across, x, width, height) {
+    if !levels::rows_even(plane, across, sides.x, sides.width, sides.height) {
         return false;
     }
-    copy_rows(plane, work, across, stride, from, width, y, height);
-    unlift_rows(work, stride, x, width, height);
-    columns::unlift_columns(work, stride, width, y, height) == 0
+    copy_rows(
+        plane,
+        work,
+        across,
+        stride,
+        from,
+        sides.width,
+        sides.y,
+        sides.height,
+    );
+    unlift_rows(work, stride, sides.x, sides.width, sides.height);
+    columns::unlift_columns(work, stride, sides.width, sides.y, sides.height) == 0
 }
 
 // All levels back by the 9/7: first the low-low part with the levels left, whose numbers are tested while they are laid in their own order, then this
@@ -184,43 +186,42 @@ pub fn back_levels(
     work: &mut [i32],
     across: usize,
     stride: usize,
-    x: usize,
-    width: usize,
-    y: usize,
-    height: usize,
+    sides: Sides,
     levels: usize,
     level: usize,
 ) -> bool
-    requires { Rows (length plane.now) across width height × Rows (length work.old) stride width height × Doubling levels stride width
-        × (level + levels ≤ nine_seven_filter.levels) }
-    ensures { LevelsBack nine_seven_filter result level levels stride across (side x width) (side y height) (at plane.now)
+    requires { Rows (length plane.now) across sides.width sides.height × Rows (length work.old) stride sides.width sides.height
+        × Doubling levels stride sides.width × (level + levels ≤ nine_seven_filter.levels) }
+    ensures { LevelsBack nine_seven_filter result level levels stride across (columns sides) (rows sides) (at plane.now)
         (at work.old) (at work.new) }
 {
-    let w = sizes::low_count(x, width);
-    let h = sizes::low_count(y, height);
-    if !levels::has_next(levels, w, h) {
-        return nine_seven_back(plane, work, across, stride, 0, x, width, y, height);
+    let low = sides.low();
+    if !levels::has_next(levels, low) {
+        return nine_seven_back(plane, work, across, stride, 0, sides);
     }
-    let u = sizes::next_start(x);
-    let v = sizes::next_start(y);
-    let a = y % 2 * stride;
+    let a = sides.y % 2 * stride;
     let n = work.len();
     if !back_levels(
         plane,
         &mut work[a..n],
         across,
         2 * stride,
-        u,
-        w,
-        v,
-        h,
+        low,
         levels - 1,
         level + 1,
     ) {
         return false;
     }
-    if !interleave_low(&mut work[a..n], 2 * stride, u, w, h, level + 1, NINE_SEVEN) {
+    if !interleave_low(
+        &mut work[a..n],
+        2 * stride,
+        low.x,
+        low.width,
+        low.height,
+        level + 1,
+        NINE_SEVEN,
+    ) {
         return false;
     }
-    nine_seven_back(plane, work, across, stride, w, x, width, y, height)
+    nine_seven_back(plane, work, across, stride, low.width, sides)
 }

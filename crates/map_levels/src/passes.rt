@@ -11,8 +11,10 @@ ghost use Rattle.map_levels.specs.Rowwise.{interleaved_in_place, doubled_in_plac
 ghost use Rattle.map_levels.specs.Passes.{after, rows_mapped, Rows};
 ghost use Rattle.map_levels.specs.ByFilter.{level_lifted_by};
 ghost use Rattle.map_levels.specs.LevelPasses.{row_lifted, level_lifted, rows_between};
+ghost use Rattle.map_levels.specs.Sides.{columns, rows};
 
 use crate::rowwise;
+use crate::sides::Sides;
 use lifting::{line, single};
 use nine_seven_sweep::columns;
 
@@ -45,12 +47,12 @@ fn lift_single(area: &mut [i32], width: usize, y: usize)
 }
 
 // A level of one row forward by the 5/3, in place.
-pub fn lift_one(area: &mut [i32], stride: usize, x: usize, width: usize, y: usize, height: usize)
-    requires { Rows (length area.old) stride width height × (height < 2) }
-    ensures { at area.new ≡ flat stride (level_lifted (side x width) (side y height) (cells stride (at area.old))) }
+pub fn lift_one(area: &mut [i32], stride: usize, sides: Sides)
+    requires { Rows (length area.old) stride sides.width sides.height × (sides.height < 2) }
+    ensures { at area.new ≡ flat stride (level_lifted (columns sides) (rows sides) (cells stride (at area.old))) }
 {
-    lift_single(area, width, y);
-    lift_row(area, stride, x, width, 0);
+    lift_single(area, sides.width, sides.y);
+    lift_row(area, stride, sides.x, sides.width, 0);
 }
 
 // Each row, in halves, lifted in place by the 9/7.
@@ -67,20 +69,13 @@ fn lift_rows(area: &mut [i32], stride: usize, x: usize, width: usize, height: us
 }
 
 // A level forward by the 9/7, in place: all columns, then all rows.
-pub fn lift_nine_seven(
-    area: &mut [i32],
-    stride: usize,
-    x: usize,
-    width: usize,
-    y: usize,
-    height: usize,
-)
-    requires { Rows (length area.old) stride width height }
+pub fn lift_nine_seven(area: &mut [i32], stride: usize, sides: Sides)
+    requires { Rows (length area.old) stride sides.width sides.height }
     ensures { at area.new ≡
-        flat stride (level_lifted_by nine_seven_filter (side x width) (side y height) (cells stride (at area.old))) }
+        flat stride (level_lifted_by nine_seven_filter (columns sides) (rows sides) (cells stride (at area.old))) }
 {
-    columns::lift_columns(area, stride, width, y, height);
-    lift_rows(area, stride, x, width, height);
+    columns::lift_columns(area, stride, sides.width, sides.y, sides.height);
+    lift_rows(area, stride, sides.x, sides.width, sides.height);
 }
 
 // Each row from halves into its own order, through one line for all of them; and whether each number of them lies from `low` to `high`.

@@ -12,7 +12,9 @@ ghost use Rattle.map_levels.specs.Passes.{Rows, KeptFrom, grid_halved};
 ghost use Rattle.map_levels.specs.LevelPasses.{plane_written};
 ghost use Rattle.map_levels.specs.Sweep.{line_half, line_at, line_lifted, source_grid, other_low, first_other, ColumnsMade, SweepRoom};
 ghost use Rattle.map_levels.specs.Sweep.{LevelArea, SmallLine, Small, Growing, SetsDone, LowSaved, LevelSwept};
+ghost use Rattle.map_levels.specs.Sides.{columns, rows};
 
+use crate::sides::Sides;
 use crate::{heights as loading, levels, lines, passes, short};
 use wavelet::sizes;
 
@@ -72,29 +74,20 @@ fn set_columns(
 }
 
 // The high line to high row n of the plane, where there is one.
-fn put_high(
-    lines: &[i32],
-    plane: &mut [i32],
-    across: usize,
-    x: usize,
-    width: usize,
-    y: usize,
-    height: usize,
-    n: usize,
-)
-    requires { (4 * line_half ≤ length lines.now) × (width ≤ 2 * line_half) × Rows (length plane.old) across width height }
-    ensures { SmallLine width (line_at 0 (at lines.now)) → at plane.new ≡
-        pick (ltb n (count hi (side y height)))
-        (spliced ((count lo (side y height) + n) * across) width (line_lifted (side x width) (line_at 0 (at lines.now))) (at plane.old))
+fn put_high(lines: &[i32], plane: &mut [i32], across: usize, sides: Sides, n: usize)
+    requires { (4 * line_half ≤ length lines.now) × (sides.width ≤ 2 * line_half) × Rows (length plane.old) across sides.width sides.height }
+    ensures { SmallLine sides.width (line_at 0 (at lines.now)) → at plane.new ≡
+        pick (ltb n (count hi (rows sides)))
+        (spliced ((count lo (rows sides) + n) * across) sides.width (line_lifted (columns sides) (line_at 0 (at lines.now))) (at plane.old))
         (at plane.old) }
 {
-    let low = sizes::low_count(y, height);
-    if height - low <= n {
+    let low = sizes::low_count(sides.y, sides.height);
+    if sides.height - low <= n {
         return;
     }
     let r = low + n;
-    lines::lay_line(lines, 0, plane, across, r, x, width);
-    short::lift_row(plane, across, x, width, r);
+    lines::lay_line(lines, 0, plane, across, r, sides.x, sides.width);
+    short::lift_row(plane, across, sides.x, sides.width, r);
 }
 
 // Low row n: its columns, its row of the plane, its low-low numbers, and the high row after it.
@@ -105,27 +98,40 @@ fn lift_set(
     lines: &mut [i32],
     first: bool,
     across: usize,
-    x: usize,
-    width: usize,
-    y: usize,
-    height: usize,
+    sides: Sides,
     n: usize,
 )
-    requires { SweepRoom first (length heights.now) (length plane.old) (length work.old) (length lines.old) across (side x width) (side y height)
-        × (n < count lo (side y height)) }
+    requires { SweepRoom first (length heights.now) (length plane.old) (length work.old) (length lines.old) across (columns sides) (rows sides)
+        × (n < count lo (rows sides)) }
     ensures { (z₀ x₀ : ℕ → ℤ) →
-        SetsDone five_three_filter first across (side x width) (side y height) (heights_at heights.now) z₀ x₀ n
+        SetsDone five_three_filter first across (columns sides) (rows sides) (heights_at heights.now) z₀ x₀ n
         (at plane.old) (at work.old) (at lines.old) →
-        SetsDone five_three_filter first across (side x width) (side y height) (heights_at heights.now) z₀ x₀ (n + 1)
+        SetsDone five_three_filter first across (columns sides) (rows sides) (heights_at heights.now) z₀ x₀ (n + 1)
         (at plane.new) (at work.new) (at lines.new) }
 {
-    let b = y % 2;
-    set_columns(heights, work, first, width, height, 2 * n + b, lines);
-    lines::lay_line(lines, 2 * lines::HALF, plane, across, n, x, width);
-    short::lift_row(plane, across, x, width, n);
-    let w = sizes::low_count(x, width);
+    let b = sides.y % 2;
+    set_columns(
+        heights,
+        work,
+        first,
+        sides.width,
+        sides.height,
+        2 * n + b,
+        lines,
+    );
+    lines::lay_line(
+        lines,
+        2 * lines::HALF,
+        plane,
+        across,
+        n,
+        sides.x,
+        sides.width,
+    );
+    short::lift_row(plane, across, sides.x, sides.width, n);
+    let w = sizes::low_count(sides.x, sides.width);
     levels::copy_part(plane, n * across, work, n * w, w);
-    put_high(lines, plane, across, x, width, y, height, n + b);
+    put_high(lines, plane, across, sides, n + b);
 }
 
 // Before them: the first high row, put at once where it comes first.
@@ -136,31 +142,28 @@ fn first_high(
     lines: &mut [i32],
     first: bool,
     across: usize,
-    x: usize,
-    width: usize,
-    y: usize,
-    height: usize,
+    sides: Sides,
 )
-    requires { SweepRoom first (length heights.now) (length plane.old) (length work.now) (length lines.old) across (side x width) (side y height)
-        × Small first (side x width) (side y height) (heights_at heights.now) (at work.now) }
-    ensures { SetsDone five_three_filter first across (side x width) (side y height) (heights_at heights.now) (at plane.old)
+    requires { SweepRoom first (length heights.now) (length plane.old) (length work.now) (length lines.old) across (columns sides) (rows sides)
+        × Small first (columns sides) (rows sides) (heights_at heights.now) (at work.now) }
+    ensures { SetsDone five_three_filter first across (columns sides) (rows sides) (heights_at heights.now) (at plane.old)
         (at work.now) 0 (at plane.new) (at work.now) (at lines.new) }
 {
-    let b = y % 2;
+    let b = sides.y % 2;
     lines::lift_columns(
         heights,
         work,
         first,
         b,
         1 - b,
-        first_other(y, height),
-        width,
+        first_other(sides.y, sides.height),
+        sides.width,
         lines,
     );
     if b == 0 {
         return;
     }
-    put_high(lines, plane, across, x, width, y, height, 0);
+    put_high(lines, plane, across, sides, 0);
 }
 
 // A level of more than one row.
@@ -170,25 +173,18 @@ fn lift_sets(
     work: &mut [i32],
     first: bool,
     across: usize,
-    x: usize,
-    width: usize,
-    y: usize,
-    height: usize,
+    sides: Sides,
 )
-    requires { LevelArea first (length heights.now) (length plane.old) (length work.old) across (side x width) (side y height) × (1 < height)
-        × Small first (side x width) (side y height) (heights_at heights.now) (at work.old) }
-    ensures { LevelSwept five_three_filter first across (side x width) (side y height) (heights_at heights.now) (at plane.old)
+    requires { LevelArea first (length heights.now) (length plane.old) (length work.old) across (columns sides) (rows sides) × (1 < sides.height)
+        × Small first (columns sides) (rows sides) (heights_at heights.now) (at work.old) }
+    ensures { LevelSwept five_three_filter first across (columns sides) (rows sides) (heights_at heights.now) (at plane.old)
         (at work.old) (at plane.new) (at work.new) }
 {
     let mut lines = [0; 4 * lines::HALF];
-    let low = sizes::low_count(y, height);
-    first_high(
-        heights, plane, work, &mut lines, first, across, x, width, y, height,
-    );
+    let low = sizes::low_count(sides.y, sides.height);
+    first_high(heights, plane, work, &mut lines, first, across, sides);
     for n in 0..low {
-        lift_set(
-            heights, plane, work, &mut lines, first, across, x, width, y, height, n,
-        );
+        lift_set(heights, plane, work, &mut lines, first, across, sides, n);
     }
 }
 
@@ -199,43 +195,31 @@ fn lay_one(
     work: &[i32],
     first: bool,
     across: usize,
-    x: usize,
-    width: usize,
-    y: usize,
-    height: usize,
+    sides: Sides,
 )
-    requires { LevelArea first (length heights.now) (length plane.old) (length work.now) across (side x width) (side y height)
-        × (first ≡ true → across ≡ width) }
+    requires { LevelArea first (length heights.now) (length plane.old) (length work.now) across (columns sides) (rows sides)
+        × (first ≡ true → across ≡ sides.width) }
     ensures { at plane.new ≡
-        flat across (grid_halved (side x width) (side y height) (source_grid first width (heights_at heights.now) (at work.now))
+        flat across (grid_halved (columns sides) (rows sides) (source_grid first sides.width (heights_at heights.now) (at work.now))
         (cells across (at plane.old))) }
 {
     if first {
-        loading::load_rows(heights, plane, x, width, y, height);
+        loading::load_rows(heights, plane, sides);
         return;
     }
-    levels::spread(work, plane, across, x, width, y, height);
+    levels::spread(work, plane, across, sides);
 }
 
 // The low-low part of a level from the plane to the work area, where it is not empty.
-pub fn save_low(
-    plane: &[i32],
-    work: &mut [i32],
-    across: usize,
-    x: usize,
-    width: usize,
-    y: usize,
-    height: usize,
-)
-    requires { Rows (length plane.now) across width height × (count lo (side x width) * count lo (side y height) ≤ length work.old) }
-    ensures { LowSaved across (side x width) (side y height) (at plane.now) (at work.old) (at work.new) }
+pub fn save_low(plane: &[i32], work: &mut [i32], across: usize, sides: Sides)
+    requires { Rows (length plane.now) across sides.width sides.height × (count lo (columns sides) * count lo (rows sides) ≤ length work.old) }
+    ensures { LowSaved across (columns sides) (rows sides) (at plane.now) (at work.old) (at work.new) }
 {
-    let w = sizes::low_count(x, width);
-    let h = sizes::low_count(y, height);
-    if !levels::has_next(2, w, h) {
+    let low = sides.low();
+    if !levels::has_next(2, low) {
         return;
     }
-    levels::save(plane, work, across, w, h);
+    levels::save(plane, work, across, low.width, low.height);
 }
 
 fn lift_one(
@@ -244,19 +228,16 @@ fn lift_one(
     work: &mut [i32],
     first: bool,
     across: usize,
-    x: usize,
-    width: usize,
-    y: usize,
-    height: usize,
+    sides: Sides,
 )
-    requires { LevelArea first (length heights.now) (length plane.old) (length work.old) across (side x width) (side y height)
-        × (first ≡ true → across ≡ width) × (height < 2) }
-    ensures { LevelSwept five_three_filter first across (side x width) (side y height) (heights_at heights.now) (at plane.old)
+    requires { LevelArea first (length heights.now) (length plane.old) (length work.old) across (columns sides) (rows sides)
+        × (first ≡ true → across ≡ sides.width) × (sides.height < 2) }
+    ensures { LevelSwept five_three_filter first across (columns sides) (rows sides) (heights_at heights.now) (at plane.old)
         (at work.old) (at plane.new) (at work.new) }
 {
-    lay_one(heights, plane, work, first, across, x, width, y, height);
-    passes::lift_one(plane, across, x, width, y, height);
-    save_low(plane, work, across, x, width, y, height);
+    lay_one(heights, plane, work, first, across, sides);
+    passes::lift_one(plane, across, sides);
+    save_low(plane, work, across, sides);
 }
 
 // A level, from the heights or from the work area.
@@ -266,21 +247,18 @@ fn lift_level(
     work: &mut [i32],
     first: bool,
     across: usize,
-    x: usize,
-    width: usize,
-    y: usize,
-    height: usize,
+    sides: Sides,
 )
-    requires { LevelArea first (length heights.now) (length plane.old) (length work.old) across (side x width) (side y height)
-        × (first ≡ true → across ≡ width) × Small first (side x width) (side y height) (heights_at heights.now) (at work.old) }
-    ensures { LevelSwept five_three_filter first across (side x width) (side y height) (heights_at heights.now) (at plane.old)
+    requires { LevelArea first (length heights.now) (length plane.old) (length work.old) across (columns sides) (rows sides)
+        × (first ≡ true → across ≡ sides.width) × Small first (columns sides) (rows sides) (heights_at heights.now) (at work.old) }
+    ensures { LevelSwept five_three_filter first across (columns sides) (rows sides) (heights_at heights.now) (at plane.old)
         (at work.old) (at plane.new) (at work.new) }
 {
-    if height < 2 {
-        lift_one(heights, plane, work, first, across, x, width, y, height);
+    if sides.height < 2 {
+        lift_one(heights, plane, work, first, across, sides);
         return;
     }
-    lift_sets(heights, plane, work, first, across, x, width, y, height);
+    lift_sets(heights, plane, work, first, across, sides);
 }
 
 // All levels: this one, and then the same of its low-low part, which it has left in the work area, with the levels left.
@@ -290,27 +268,21 @@ pub fn sweep_levels(
     work: &mut [i32],
     first: bool,
     across: usize,
-    x: usize,
-    width: usize,
-    y: usize,
-    height: usize,
+    sides: Sides,
     levels: usize,
 )
-    requires { LevelArea first (length heights.now) (length plane.old) (length work.old) across (side x width) (side y height)
-        × (first ≡ true → across ≡ width) × (0 < levels)
-        × Growing levels (side x width) (side y height) (source_grid first width (heights_at heights.now) (at work.old)) }
+    requires { LevelArea first (length heights.now) (length plane.old) (length work.old) across (columns sides) (rows sides)
+        × (first ≡ true → across ≡ sides.width) × (0 < levels)
+        × Growing levels (columns sides) (rows sides) (source_grid first sides.width (heights_at heights.now) (at work.old)) }
     ensures plane_after { at plane.new ≡
-        flat across (plane_written five_three_filter levels (side x width) (side y height)
-        (source_grid first width (heights_at heights.now) (at work.old)) (cells across (at plane.old))) }
-    ensures kept_from { KeptFrom ((height - 1) * width + width) (at work.old) (at work.new) }
+        flat across (plane_written five_three_filter levels (columns sides) (rows sides)
+        (source_grid first sides.width (heights_at heights.now) (at work.old)) (cells across (at plane.old))) }
+    ensures kept_from { KeptFrom ((sides.height - 1) * sides.width + sides.width) (at work.old) (at work.new) }
 {
-    lift_level(heights, plane, work, first, across, x, width, y, height);
-    let w = sizes::low_count(x, width);
-    let h = sizes::low_count(y, height);
-    if !levels::has_next(levels, w, h) {
+    lift_level(heights, plane, work, first, across, sides);
+    let low = sides.low();
+    if !levels::has_next(levels, low) {
         return;
     }
-    let u = sizes::next_start(x);
-    let v = sizes::next_start(y);
-    sweep_levels(heights, plane, work, false, across, u, w, v, h, levels - 1);
+    sweep_levels(heights, plane, work, false, across, low, levels - 1);
 }

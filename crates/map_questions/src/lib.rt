@@ -2,27 +2,29 @@
 #![tactic(auto)]
 
 ghost use Rattle.std.specs.Prelude.{◌≡◌};
+ghost use Rattle.refusal.specs.Numbers.{answer};
 ghost use Rattle.map_questions.specs.Calls.{shape_questions, size_questions};
 
+use refusal::Refusal;
 use wavelet::limits;
 
-// Questions 2, 3, 18 and 4: 0, or the number of the first that says no.
-fn shape_question(filter: usize, width: usize, height: usize, levels: usize) -> u8
-    ensures { result ≡ shape_questions filter width height levels 0 }
+// Questions 2, 3, 18 and 4: the first that says no.
+fn shape_question(filter: usize, width: usize, height: usize, levels: usize) -> Result<(), Refusal>
+    ensures { answer result ≡ shape_questions filter width height levels 0 }
 {
     if !limits::is_within(width, limits::MAX_WIDTH) {
-        return 2;
+        return Err(Refusal::BadWidth);
     }
     if !limits::is_within(height, limits::MAX_HEIGHT) {
-        return 3;
+        return Err(Refusal::BadHeight);
     }
     if !filters::is_filter(filter) {
-        return 18;
+        return Err(Refusal::BadFilter);
     }
     if !limits::is_within(levels, filters::most_levels(filter)) {
-        return 4;
+        return Err(Refusal::BadLevels);
     }
-    0
+    Ok(())
 }
 
 // And question 5: a, b and c are the lengths of the areas.
@@ -34,22 +36,13 @@ pub fn size_question(
     a: usize,
     b: usize,
     c: usize,
-) -> u8
-    ensures { result ≡ size_questions filter width height levels a b c 0 }
+) -> Result<(), Refusal>
+    ensures { answer result ≡ size_questions filter width height levels a b c 0 }
 {
-    let q = shape_question(filter, width, height, levels);
-    if q != 0 {
-        return q;
-    }
+    shape_question(filter, width, height, levels)?;
     let n = width * height;
-    if a < n {
-        return 5;
+    if a < n || b < n || c < n {
+        return Err(Refusal::AreaShort);
     }
-    if b < n {
-        return 5;
-    }
-    if c < n {
-        return 5;
-    }
-    0
+    Ok(())
 }

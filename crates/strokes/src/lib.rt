@@ -79,7 +79,7 @@ pub fn mend(
         passed result (width * height) (mended_plane levels width height q (heights_at heights.now) (at plane.old)) (at plane.old) }
     ensures work_after { at work.new ≡ passed result (width * height) zeros (at work.old) }
 {
-    let no = map_questions::size_question(
+    let no = refusal::code(map_questions::size_question(
         0,
         width,
         height,
@@ -87,7 +87,7 @@ pub fn mend(
         heights.len(),
         plane.len(),
         work.len(),
-    );
+    ));
     if no != 0 {
         return no;
     }

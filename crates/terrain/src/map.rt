@@ -26,7 +26,7 @@ pub fn terrain_map_forward(
         (at plane.old) }
     ensures work_after { at work.new ≡ passed result (shape.width * shape.height) zeros (at work.old) }
 {
-    whole_map::forward(heights, shape, plane, work) as u32
+    refusal::code(whole_map::forward(heights, shape, plane, work)) as u32
 }
 
 // A plane to the map that has it. The questions are 2, 3, 18, 4, 5, 7 and 14.
@@ -44,7 +44,7 @@ pub fn terrain_map_backward(
         (heights_at heights.old) }
     ensures work_after { at work.new ≡ rebuilt result (shape.width * shape.height) zeros (at work.old) }
 {
-    whole_map::backward(plane, shape, heights, work) as u32
+    refusal::code(whole_map::backward(plane, shape, heights, work)) as u32
 }
 
 // First place and length of a band row in a plane of `len` numbers. The questions are 2, 3, 4, 5 and 6; a no leaves both numbers. The filter is not

@@ -2,6 +2,7 @@
 #![tactic(auto)]
 
 ghost use Rattle.std.specs.Prelude.{◌≡◌, ◌*◌, length};
+ghost use Rattle.refusal.specs.Numbers.{answer};
 ghost use Rattle.numbers.specs.Signal.{at};
 ghost use Rattle.numbers.specs.Word.{whole, wrap32};
 ghost use Rattle.areas.specs.Areas.{heights_at};
@@ -10,49 +11,47 @@ ghost use Rattle.wavelet.specs.Shape.{columns, rows};
 ghost use Rattle.filters.specs.Filters.{filter_of};
 ghost use Rattle.map_questions.specs.Calls.{forward_question, backward_question, zeros, passed, rebuilt};
 
+use map_levels::sides::Sides;
+use refusal::Refusal;
 use wavelet::shape::Shape;
 
-// The plane of a map of heights, by the filter of its shape. It answers 0, or the number of the question that turned it away.
-pub fn forward(heights: &[u16], shape: Shape, plane: &mut [i32], work: &mut [i32]) -> u8
-    ensures value { result ≡
+// The plane of a map of heights, by the filter of its shape. It passes, or the question that turned it away is told.
+pub fn forward(
+    heights: &[u16],
+    shape: Shape,
+    plane: &mut [i32],
+    work: &mut [i32],
+) -> Result<(), Refusal>
+    ensures value { answer result ≡
         forward_question shape.filter (columns shape) (rows shape) shape.levels (length heights.now) (length plane.old)
         (length work.old) }
     ensures plane_after { at plane.new ≡
-        passed result (shape.width * shape.height)
+        passed (answer result) (shape.width * shape.height)
         (plane_of (filter_of shape.filter) whole shape.levels (columns shape) (rows shape) (cells shape.width (heights_at heights.now)))
         (at plane.old) }
-    ensures work_after { at work.new ≡ passed result (shape.width * shape.height) zeros (at work.old) }
+    ensures work_after { at work.new ≡ passed (answer result) (shape.width * shape.height) zeros (at work.old) }
 {
-    let x = shape.x as usize;
-    let width = shape.width;
-    let y = shape.y as usize;
-    let height = shape.height;
-    let levels = shape.levels;
     let filter = shape.filter as usize;
-    map_levels::lift_map(heights, x, width, y, height, levels, plane, work, filter)
+    map_levels::lift_map(heights, Sides::of(shape), shape.levels, plane, work, filter)
 }
 
-// The map that has a plane, by the filter of its shape. It answers 0, or the number of the question that turned it away: 7 or 14 where no map has it.
-pub fn backward(plane: &[i32], shape: Shape, heights: &mut [u16], work: &mut [i32]) -> u8
-    ensures value { result ≡
+// The map that has a plane, by the filter of its shape. It passes, or the question that turned it away is told: `OutOfRange` or `NoMap` where no map has it.
+pub fn backward(
+    plane: &[i32],
+    shape: Shape,
+    heights: &mut [u16],
+    work: &mut [i32],
+) -> Result<(), Refusal>
+    ensures value { answer result ≡
         backward_question shape.filter (columns shape) (rows shape) shape.levels (length plane.now) (length heights.old)
         (length work.old) (cells shape.width (at plane.now)) }
     ensures heights_after { heights_at heights.new ≡
-        rebuilt result (shape.width * shape.height)
+        rebuilt (answer result) (shape.width * shape.height)
         (flat shape.width (map_back (filter_of shape.filter) wrap32 shape.levels (columns shape) (rows shape)
         (cells shape.width (at plane.now))))
         (heights_at heights.old) }
-    ensures work_after { at work.new ≡ rebuilt result (shape.width * shape.height) zeros (at work.old) }
+    ensures work_after { at work.new ≡ rebuilt (answer result) (shape.width * shape.height) zeros (at work.old) }
 {
-    map_levels::unlift_map(
-        plane,
-        shape.x as usize,
-        shape.width,
-        shape.y as usize,
-        shape.height,
-        shape.levels,
-        heights,
-        work,
-        shape.filter as usize,
-    )
+    let filter = shape.filter as usize;
+    map_levels::unlift_map(plane, Sides::of(shape), shape.levels, heights, work, filter)
 }

@@ -26,7 +26,7 @@ pub returns : goal.returns
 returns c =
     let a = c.args in
     record {
-      plane_after = plane-loaded nine_seven_filter nine-seven-laws (side a.x a.width) (side a.y a.height) a.levels a.heights.now _ _ c.requires.0
+      plane_after = plane-loaded nine_seven_filter nine-seven-laws (side a.sides.x a.sides.width) (side a.sides.y a.sides.height) a.levels a.heights.now _ _ c.requires.0
           c.load_rows.ensures _ c.forward_levels.ensures.plane_after;
       kept_from = c.forward_levels.ensures.kept_from;
     }

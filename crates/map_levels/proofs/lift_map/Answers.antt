@@ -1,15 +1,22 @@
 -- `lift_map` meets its contract: the questions, and then the transform. Assumes nothing.
 use mathlib.Core.Path.{refl, sym, ◌∙◌}
+use Rattle.std.proofs.lemmas.Result.{err_from_is_err_and}
+use Rattle.refusal.proofs.Laws.{number-some}
 use Rattle.map_questions.proofs.QuestionLaws.{roomy-is, passed-no, passed-yes}
 use Rattle.map_levels.proofs.lift_map.Goals as goal
 
-pub returns-then-q-ne0 : goal.returns-then-q-ne0
-returns-then-q-ne0 c =
-    record { value = c.size_question-q.ensures; plane_after = passed-no _ _ _ _ c.if-q-ne0.true; work_after = passed-no _ _ _ _ c.if-q-ne0.true }
+pub returns-in_err-size_question : goal.returns-in_err-size_question
+returns-in_err-size_question c =
+    let p = err_from_is_err_and c.from_residual.result c.from_residual.ensures.1 in
+    rw (p.1, p.2) (record {
+      value = c.in_err-size_question.ensures;
+      plane_after = passed-no _ _ _ _ (number-some _);
+      work_after = passed-no _ _ _ _ (number-some _);
+    })
 
 pub transform-requires : goal.transform-requires
 transform-requires c =
-    let r = roomy-is _ _ _ _ _ _ _ (sym c.size_question-q.ensures ∙ c.if-q-ne0.false) in
+    let r = roomy-is _ _ _ _ _ _ _ (sym c.in_ok-size_question.ensures) in
     (r.size, r.first, r.second, r.third, r.few)
 
 pub shape_of-plane : goal.shape_of-plane
@@ -20,4 +27,8 @@ shape_of-work c = c.transform.auto.work
 
 pub returns : goal.returns
 returns c =
-    record { value = sym c.if-q-ne0.false ∙ c.size_question-q.ensures; plane_after = c.transform.ensures.plane_after ∙ sym (passed-yes _ _ _ 0 refl); work_after = c.transform.ensures.work_after ∙ sym (passed-yes _ _ _ 0 refl) }
+    record {
+      value = c.in_ok-size_question.ensures;
+      plane_after = c.transform.ensures.plane_after ∙ sym (passed-yes _ _ _ 0 refl);
+      work_after = c.transform.ensures.work_after ∙ sym (passed-yes _ _ _ 0 refl);
+    }

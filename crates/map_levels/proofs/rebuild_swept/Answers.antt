@@ -32,11 +32,8 @@ shape_of-work-then-not-sweep_back c = c.sweep_back.auto.work
 pub returns-then-not-sweep_back : goal.returns-then-not-sweep_back
 returns-then-not-sweep_back c =
     let a = c.args in
-    map-odd five_three_filter five-three-laws (side a.x a.width) (side a.y a.height) a.levels _ _ _ _ c.requires.0 _ _
+    map-odd five_three_filter five-three-laws (side a.sides.x a.sides.width) (side a.sides.y a.sides.height) a.levels _ _ _ _ c.requires.0 _ _
     (not-true _ c.if-not-sweep_back.true-raw) c.sweep_back.ensures
-
-pub overflow_mul-width : goal.overflow_mul-width
-overflow_mul-width c = omega arith
 
 pub shape_of-heights : goal.shape_of-heights
 shape_of-heights c = c.sweep_back.auto.heights
@@ -47,8 +44,8 @@ shape_of-work c = c.clear.auto.area ∙ c.sweep_back.auto.work
 pub returns : goal.returns
 returns c =
     let a = c.args in
-    let size = a.width * a.height in
+    let size = a.sides.width * a.sides.height in
     let room : (m k : ℕ) → m ≡ k → size ≤ k → leb size m ≡ true = λ m k e h. le-leb size m (omega arith) in
-    map-swept five_three_filter five-three-laws (side a.x a.width) (side a.y a.height) a.levels _ _ _ _ c.requires.0 _ _ _
+    map-swept five_three_filter five-three-laws (side a.sides.x a.sides.width) (side a.sides.y a.sides.height) a.levels _ _ _ _ c.requires.0 _ _ _
     (not-false _ c.if-not-sweep_back.false-raw) c.sweep_back.ensures
     (did _ _ _ _ (room _ _ c.sweep_back.auto.work c.requires.3) c.clear.ensures.area)

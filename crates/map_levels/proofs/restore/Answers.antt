@@ -29,12 +29,6 @@ rebuild-requires c =
     let p = c.requires in
     (p.0, p.1, p.2, p.3, p.4, sym c.plane_in_range.ensures ∙ not-false _ c.if-not-plane_in_range.false-raw)
 
-pub overflow_mul-width : goal.overflow_mul-width
-overflow_mul-width c = omega arith
-
-pub overflow_mul-width-then-not-rebuild : goal.overflow_mul-width-then-not-rebuild
-overflow_mul-width-then-not-rebuild c = omega arith
-
 pub shape_of-heights-then-not-rebuild : goal.shape_of-heights-then-not-rebuild
 shape_of-heights-then-not-rebuild c =
     c.clear.auto.area ∙ c.rebuild.auto.heights
@@ -45,7 +39,7 @@ shape_of-work-then-not-rebuild c =
 
 pub returns-then-not-rebuild : goal.returns-then-not-rebuild
 returns-then-not-rebuild c =
-    let size = c.args.width * c.args.height in
+    let size = c.args.sides.width * c.args.sides.height in
     let room : (m k : ℕ) → m ≡ k → size ≤ k → leb size m ≡ true = λ m k e h. le-leb size m (omega arith) in
     let b = c.rebuild.ensures in
     record {

@@ -4,4 +4,11 @@ use Rattle.whole_map.proofs.backward.Goals as goal
 
 pub returns : goal.returns
 unfolding backward_question
-returns c = record { value = c.unlift_map.ensures.value; heights_after = c.unlift_map.ensures.heights_after; work_after = c.unlift_map.ensures.work_after }
+returns c =
+    let s = c.of.ensures in
+    let lifted = c.unlift_map.ensures in
+    record {
+      value = rw (s.x, s.width, s.y, s.height) at lifted.value;
+      heights_after = rw (s.x, s.width, s.y, s.height) at lifted.heights_after;
+      work_after = rw (s.width, s.height) at lifted.work_after;
+    }

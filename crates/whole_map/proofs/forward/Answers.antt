@@ -4,4 +4,11 @@ use Rattle.whole_map.proofs.forward.Goals as goal
 
 pub returns : goal.returns
 unfolding forward_question
-returns c = record { value = c.lift_map.ensures.value; plane_after = c.lift_map.ensures.plane_after; work_after = c.lift_map.ensures.work_after }
+returns c =
+    let s = c.of.ensures in
+    let lifted = c.lift_map.ensures in
+    record {
+      value = rw (s.width, s.height) at lifted.value;
+      plane_after = rw (s.x, s.width, s.y, s.height) at lifted.plane_after;
+      work_after = rw (s.width, s.height) at lifted.work_after;
+    }

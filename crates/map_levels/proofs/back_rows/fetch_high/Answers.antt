@@ -13,11 +13,11 @@ use Rattle.map_levels.proofs.back_rows.fetch_high.Goals as goal
 
 -- its place there
 module _ (c : goal.After-low_count) where
-  row_is : c.low_count.result + c.args.r / 2 < c.args.height
+  row_is : c.low_count.result + c.args.r / 2 < c.args.sides.height
   row_is =
-      rw c.low_count.ensures (high_half (side c.args.y c.args.height) c.args.r c.requires.2 c.requires.4)
+      rw c.low_count.ensures (high_half (side c.args.sides.y c.args.sides.height) c.args.r c.requires.2 c.requires.4)
 
-  row_in : (c.low_count.result + c.args.r / 2) * c.args.across + c.args.width ≤ length c.args.plane.now
+  row_in : (c.low_count.result + c.args.r / 2) * c.args.across + c.args.sides.width ≤ length c.args.plane.now
   row_in = row_room _ _ _ _ _ c.requires.0 row_is
 
 pub overflow_add-a : goal.overflow_add-a
@@ -32,10 +32,10 @@ unlift_whole-requires c = (c.requires.1, row_in c.before, c.requires.3)
 pub returns : goal.returns
 returns c =
     let a = c.args in
-    let W = side a.x a.width in
-    let H = side a.y a.height in
+    let W = side a.sides.x a.sides.width in
+    let H = side a.sides.y a.sides.height in
     λ x₀.
-    line-by a.to a.width _ _ _ _
+    line-by a.to a.sides.width _ _ _ _
     (ap (short_unlifted W)
     (rw c.low_count.ensures (high-row-at a.across W H (at a.plane.now) x₀ a.r c.requires.2 (is-high H a.r c.requires.4))))
     c.unlift_whole.ensures

@@ -15,20 +15,20 @@ use Rattle.map_levels.proofs.back_rows.fetch_low.Goals as goal
 
 -- the row's low half in the work area, and the row in the plane
 module _ (c : goal.After-low_count) where
-  low-row : c.args.r / 2 < count lo (side c.args.y c.args.height)
+  low-row : c.args.r / 2 < count lo (side c.args.sides.y c.args.sides.height)
   low-row =
-      (low_half (side c.args.y c.args.height) c.args.r c.requires.3 c.requires.5).0
+      (low_half (side c.args.sides.y c.args.sides.height) c.args.r c.requires.3 c.requires.5).0
 
-  low-room : low_place (side c.args.x c.args.width) (side c.args.y c.args.height)
-      + c.args.r / 2 * count lo (side c.args.x c.args.width)
-      + count lo (side c.args.x c.args.width) ≤ length c.args.work.now
+  low-room : low_place (side c.args.sides.x c.args.sides.width) (side c.args.sides.y c.args.sides.height)
+      + c.args.r / 2 * count lo (side c.args.sides.x c.args.sides.width)
+      + count lo (side c.args.sides.x c.args.sides.width) ≤ length c.args.work.now
   low-room =
       let a = c.args in
-      omega (arith, low-row-in (side a.x a.width) (side a.y a.height) (a.r / 2) low-row, c.requires.1)
+      omega (arith, low-row-in (side a.sides.x a.sides.width) (side a.sides.y a.sides.height) (a.r / 2) low-row, c.requires.1)
 
-  row_in : c.args.r / 2 * c.args.across + c.args.width ≤ length c.args.plane.now
+  row_in : c.args.r / 2 * c.args.across + c.args.sides.width ≤ length c.args.plane.now
   row_in =
-      row_room _ _ _ _ (c.args.r / 2) c.requires.0 (omega (arith, low-row, counts (side c.args.y c.args.height)))
+      row_room _ _ _ _ (c.args.r / 2) c.requires.0 (omega (arith, low-row, counts (side c.args.sides.y c.args.sides.height)))
 
 pub overflow_mul-b : goal.overflow_mul-b
 overflow_mul-b c = rw c.low_count.ensures (omega (arith, low-room c))
@@ -46,9 +46,9 @@ unlift_part-requires c =
 pub returns : goal.returns
 returns c =
     let a = c.args in
-    let W = side a.x a.width in
-    let H = side a.y a.height in
-    line-by a.to a.width _ _ _ _
+    let W = side a.sides.x a.sides.width in
+    let H = side a.sides.y a.sides.height in
+    line-by a.to a.sides.width _ _ _ _
     (ap (short_unlifted W)
     (rw (c.low_place.ensures, c.low_count.ensures)
     (low-row-at a.across W H (at a.plane.now) (at a.work.now) a.r c.requires.3 (is-low H a.r c.requires.5))))

@@ -10,12 +10,12 @@ pub overflow_mul-result-2 : goal.overflow_mul-result-2
 overflow_mul-result-2 c =
     let a = c.args in
     rw (c.low_count.ensures, c.low_count-2.ensures)
-    (omega (arith, low-least (side a.x a.width) (side a.y a.height), c.requires))
+    (omega (arith, low-least (side a.sides.x a.sides.width) (side a.sides.y a.sides.height), c.requires))
 
 pub overflow_sub-result : goal.overflow_sub-result
 overflow_sub-result c =
     let a = c.args in
-    rw (c.low_count.ensures, c.low_count-2.ensures) (low-least (side a.x a.width) (side a.y a.height))
+    rw (c.low_count.ensures, c.low_count-2.ensures) (low-least (side a.sides.x a.sides.width) (side a.sides.y a.sides.height))
 
 pub returns : goal.returns
 unfolding low_place

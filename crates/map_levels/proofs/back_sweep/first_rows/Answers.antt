@@ -31,7 +31,7 @@ fetch_high-requires-2 c =
         S.lines,
         S.halves,
       ),
-      next-high a.y a.height (a.y % 2) _ S.more (omega (arith, S.more)) (omega arith) next.ensures.0,
+      next-high a.sides.y a.sides.height (a.sides.y % 2) _ S.more (omega (arith, S.more)) (omega arith) next.ensures.0,
     )
 
 pub returns-then-b-eq1 : goal.returns-then-b-eq1
@@ -40,7 +40,7 @@ returns-then-b-eq1 c =
     let a = c.args in
     let S = c.requires.0 in
     let next = c.row_after in
-    first-high a.level a.across (side a.x a.width) (side a.y a.height) _ _ _ S.more c.requires.1 S.halves (a.y % 2) next.result refl
+    first-high a.level a.across (side a.sides.x a.sides.width) (side a.sides.y a.sides.height) _ _ _ S.more c.requires.1 S.halves (a.sides.y % 2) next.result refl
     next.ensures.0 _ _ _ _ _ c.fetch_low.ensures
     (c.fetch_high.ensures _)
     (c.fetch_high-2.ensures _)
@@ -60,8 +60,8 @@ put-requires c =
         S.lines,
         S.halves,
       ),
-      λ e. put-room a.width a.height _ 0 (omega (arith, S.more)) (S.area.heights e),
-      put-room a.width a.height _ 0 (omega (arith, S.more)) S.area.work,
+      λ e. put-room a.sides.width a.sides.height _ 0 (omega (arith, S.more)) (S.area.heights e),
+      put-room a.sides.width a.sides.height _ 0 (omega (arith, S.more)) S.area.work,
       S.level,
       λ e. absurd (false-true e),
     )
@@ -72,7 +72,7 @@ returns c =
     let a = c.args in
     let S = c.requires.0 in
     let next = c.row_after in
-    first-low a.level a.across (side a.x a.width) (side a.y a.height) _ _ _ S.more c.requires.1 S.halves (a.y % 2) next.result refl
+    first-low a.level a.across (side a.sides.x a.sides.width) (side a.sides.y a.sides.height) _ _ _ S.more c.requires.1 S.halves (a.sides.y % 2) next.result refl
     next.ensures.0 _ _ _ _ _
     c.fetch_low.ensures (c.fetch_high.ensures _) (c.fetch_high-2.ensures _)
     c.unupdate_columns.ensures

@@ -17,7 +17,7 @@ fetch_high-requires c =
       S.wide,
       next.ensures.1,
       omega (arith, c.fetch_low.auto.lines, S.lines, S.halves),
-      next-high a.y a.height (a.r + 1) _ S.more c.requires.1 (omega (arith, c.requires.2)) next.ensures.0,
+      next-high a.sides.y a.sides.height (a.r + 1) _ S.more c.requires.1 (omega (arith, c.requires.2)) next.ensures.0,
     )
 
 pub put-ok-requires : goal.put-ok-requires
@@ -34,8 +34,8 @@ put-ok-requires c =
         S.lines,
         S.halves,
       ),
-      λ e. put-room a.width a.height _ a.r (omega (arith, c.requires.1)) (S.area.heights e),
-      put-room a.width a.height _ a.r (omega (arith, c.requires.1)) S.area.work,
+      λ e. put-room a.sides.width a.sides.height _ a.r (omega (arith, c.requires.1)) (S.area.heights e),
+      put-room a.sides.width a.sides.height _ a.r (omega (arith, c.requires.1)) S.area.work,
       S.level,
       λ t j jb. rw (u.ensures.pair_back.odd j jb) (u.ensures.is_height t j jb).0,
     )
@@ -55,8 +55,8 @@ put-requires c =
         S.lines,
         S.halves,
       ),
-      λ e. omega (arith, put.auto.heights, put-room a.width a.height _ (a.r + 1) c.requires.1 (S.area.heights e)),
-      omega (arith, put.auto.work, put-room a.width a.height _ (a.r + 1) c.requires.1 S.area.work),
+      λ e. omega (arith, put.auto.heights, put-room a.sides.width a.sides.height _ (a.r + 1) c.requires.1 (S.area.heights e)),
+      omega (arith, put.auto.work, put-room a.sides.width a.sides.height _ (a.r + 1) c.requires.1 S.area.work),
       S.level,
       λ t j jb. rw (u.ensures.pair_back.even j jb) (u.ensures.is_height t j jb).1,
     )
@@ -68,7 +68,7 @@ returns c =
     let S = c.requires.0 in
     let next = c.row_after in
     λ ok₀ g₀ x₀ small D.
-    pair-done a.level a.across (side a.x a.width) (side a.y a.height) _ g₀ x₀ S.more small S.halves a.r next.result c.requires.1
+    pair-done a.level a.across (side a.sides.x a.sides.width) (side a.sides.y a.sides.height) _ g₀ x₀ S.more small S.halves a.r next.result c.requires.1
     c.requires.2 next.ensures.0 ok₀ _ _ _ _ _ D
     c.fetch_low.ensures
     (c.fetch_high.ensures _) _ _ _ _ _ _ _

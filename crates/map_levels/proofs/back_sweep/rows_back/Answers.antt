@@ -13,7 +13,7 @@ first_rows-ok-requires c = c.requires
 
 pub loop-n-init : goal.loop-n-init
 loop-n-init c =
-    let first : 1 - c.args.y % 2 ≡ 1 - c.args.y % 2 + 2 * 0 = omega arith in
+    let first : 1 - c.args.sides.y % 2 ≡ 1 - c.args.sides.y % 2 + 2 * 0 = omega arith in
     (refl, refl, refl, λ g₀ x₀ small D. rw first at D)
 
 pub pair_back-ok-requires : goal.pair_back-ok-requires
@@ -26,7 +26,7 @@ pub loop-n-preserved : goal.loop-n-preserved
 loop-n-preserved c =
     let inv = c.loop-n.invariant in
     let kept = c.pair_back-ok.auto in
-    let next : 1 - c.args.y % 2 + 2 * (c.loop-n.n + 1) ≡ 1 - c.args.y % 2 + 2 * c.loop-n.n + 2 = omega arith in (
+    let next : 1 - c.args.sides.y % 2 + 2 * (c.loop-n.n + 1) ≡ 1 - c.args.sides.y % 2 + 2 * c.loop-n.n + 2 = omega arith in (
       kept.heights ∙ inv.0,
       kept.work ∙ inv.1,
       kept.lines ∙ inv.2,
@@ -53,7 +53,7 @@ pub returns : goal.returns
 returns c =
     let a = c.args in
     let inv = c.loop-n.invariant in
-    let all : c.loop-n.n ≡ (a.height - (1 - a.y % 2)) / 2 = omega (arith, c.loop-n-test.false) in
-    rows-swept _ _ a.level a.across (side a.x a.width) (side a.y a.height) _ _ _ _ _ _ (and_both c.loop-n.ok c.last_row.result)
-    (c.last_row.ensures c.loop-n.ok a.across a.y (at a.plane.now) (heights_at a.heights.now) (at a.work.now) (λ b. omega arith) c.requires.1
+    let all : c.loop-n.n ≡ (a.sides.height - (1 - a.sides.y % 2)) / 2 = omega (arith, c.loop-n-test.false) in
+    rows-swept _ _ a.level a.across (side a.sides.x a.sides.width) (side a.sides.y a.sides.height) _ _ _ _ _ _ (and_both c.loop-n.ok c.last_row.result)
+    (c.last_row.ensures c.loop-n.ok a.across (at a.plane.now) (heights_at a.heights.now) (at a.work.now) (λ b. omega arith) c.requires.1
     (rw all at (inv.3 _ _ c.requires.1 c.first_rows-ok.ensures)) (omega (arith, c.requires.0.more)))

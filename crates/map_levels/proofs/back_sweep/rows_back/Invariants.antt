@@ -14,6 +14,6 @@ use Rattle.map_levels.proofs.back_sweep.rows_back.Given as goal
 abbrev pub invariant-loop-n : goal.invariant-loop-n
 invariant-loop-n l =
     (length l.heights ≡ length l.initial.heights) × (length l.work ≡ length l.initial.work) × (length l.lines ≡ length l.initial.lines)
-    × ((g₀ x₀ : ℕ → ℤ) → SmallBands l.across (side l.x l.width) (side l.y l.height) (at l.plane) x₀ →
-    RowsDone l.initial.ok l.level l.across (side l.x l.width) (side l.y l.height) (at l.plane) g₀ x₀ l.start (heights_at l.initial.heights) (at l.initial.work) (at l.initial.lines) →
-    RowsDone l.ok l.level l.across (side l.x l.width) (side l.y l.height) (at l.plane) g₀ x₀ (l.start + 2 * l.n) (heights_at l.heights) (at l.work) (at l.lines))
+    × ((g₀ x₀ : ℕ → ℤ) → SmallBands l.across (side l.sides.x l.sides.width) (side l.sides.y l.sides.height) (at l.plane) x₀ →
+    RowsDone l.initial.ok l.level l.across (side l.sides.x l.sides.width) (side l.sides.y l.sides.height) (at l.plane) g₀ x₀ l.start (heights_at l.initial.heights) (at l.initial.work) (at l.initial.lines) →
+    RowsDone l.ok l.level l.across (side l.sides.x l.sides.width) (side l.sides.y l.sides.height) (at l.plane) g₀ x₀ (l.start + 2 * l.n) (heights_at l.heights) (at l.work) (at l.lines))

@@ -60,35 +60,35 @@ loop-n-preserved c =
 pub overflow_mul-pairs : goal.overflow_mul-pairs
 overflow_mul-pairs c = let inv = c.loop-n.invariant in last-sums _ _ _ _ _ _ _ inv.0 (omega arith)
 
-pub overflow_mul-pairs-then-pairs-height : goal.overflow_mul-pairs-then-pairs-height
-overflow_mul-pairs-then-pairs-height c = let inv = c.loop-n.invariant in last-sums _ _ _ _ _ _ _ inv.0 (omega arith)
+pub overflow_mul-pairs-then-pairs-sides : goal.overflow_mul-pairs-then-pairs-sides
+overflow_mul-pairs-then-pairs-sides c = let inv = c.loop-n.invariant in last-sums _ _ _ _ _ _ _ inv.0 (omega arith)
 
-pub overflow_mul-b-then-pairs-height : goal.overflow_mul-b-then-pairs-height
-overflow_mul-b-then-pairs-height c = let inv = c.loop-n.invariant in (odd-sums _ _ _ _ _ _ _ inv.0 (omega arith) c.if-pairs-height.true).0
+pub overflow_mul-b-then-pairs-sides : goal.overflow_mul-b-then-pairs-sides
+overflow_mul-b-then-pairs-sides c = let inv = c.loop-n.invariant in (odd-sums _ _ _ _ _ _ _ inv.0 (omega arith) c.if-pairs-sides.true).0
 
-pub overflow_add-b-then-pairs-height : goal.overflow_add-b-then-pairs-height
-overflow_add-b-then-pairs-height c = let inv = c.loop-n.invariant in (odd-sums _ _ _ _ _ _ _ inv.0 (omega arith) c.if-pairs-height.true).1
+pub overflow_add-b-then-pairs-sides : goal.overflow_add-b-then-pairs-sides
+overflow_add-b-then-pairs-sides c = let inv = c.loop-n.invariant in (odd-sums _ _ _ _ _ _ _ inv.0 (omega arith) c.if-pairs-sides.true).1
 
-pub load_to-requires-then-pairs-height : goal.load_to-requires-then-pairs-height
-load_to-requires-then-pairs-height c =
+pub load_to-requires-then-pairs-sides : goal.load_to-requires-then-pairs-sides
+load_to-requires-then-pairs-sides c =
     let inv = c.loop-n.invariant in
-    odd-load _ _ _ _ _ _ _ inv.0 _ _ _ inv.2 inv.3 inv.1 (omega arith) c.if-pairs-height.true
+    odd-load _ _ _ _ _ _ _ inv.0 _ _ _ inv.2 inv.3 inv.1 (omega arith) c.if-pairs-sides.true
 
-pub shape_of-plane-then-pairs-height : goal.shape_of-plane-then-pairs-height
-shape_of-plane-then-pairs-height c = c.load_to-then-pairs-height.auto.plane ∙ c.loop-n.invariant.1
+pub shape_of-plane-then-pairs-sides : goal.shape_of-plane-then-pairs-sides
+shape_of-plane-then-pairs-sides c = c.load_to-then-pairs-sides.auto.plane ∙ c.loop-n.invariant.1
 
-pub returns-then-pairs-height : goal.returns-then-pairs-height
-returns-then-pairs-height c =
+pub returns-then-pairs-sides : goal.returns-then-pairs-sides
+returns-then-pairs-sides c =
     let inv = c.loop-n.invariant in
     let P = inv.0 in
-    let all : c.loop-n.n ≡ c.args.height / 2 = omega (arith, c.loop-n-test.false) in
-    laid-odd _ _ _ _ _ _ P.lows P.parity _ _ _ inv.2.apart (omega (arith, c.if-pairs-height.true)) c.load_to-then-pairs-height.ensures
+    let all : c.loop-n.n ≡ c.args.sides.height / 2 = omega (arith, c.loop-n-test.false) in
+    laid-odd _ _ _ _ _ _ P.lows P.parity _ _ _ inv.2.apart (omega (arith, c.if-pairs-sides.true)) c.load_to-then-pairs-sides.ensures
     (rw all at inv.4)
 
-pub shape_of-plane-else-pairs-height : goal.shape_of-plane-else-pairs-height
-shape_of-plane-else-pairs-height c = c.loop-n.invariant.1
+pub shape_of-plane-else-pairs-sides : goal.shape_of-plane-else-pairs-sides
+shape_of-plane-else-pairs-sides c = c.loop-n.invariant.1
 
-pub returns-else-pairs-height : goal.returns-else-pairs-height
-returns-else-pairs-height c =
+pub returns-else-pairs-sides : goal.returns-else-pairs-sides
+returns-else-pairs-sides c =
     let inv = c.loop-n.invariant in
-    laid-even _ _ _ _ _ _ inv.0.lows inv.0.parity _ _ inv.2.apart (omega (arith, c.loop-n-test.false, c.if-pairs-height.false)) inv.4
+    laid-even _ _ _ _ _ _ inv.0.lows inv.0.parity _ _ inv.2.apart (omega (arith, c.loop-n-test.false, c.if-pairs-sides.false)) inv.4

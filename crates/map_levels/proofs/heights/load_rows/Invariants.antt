@@ -13,8 +13,8 @@ use Rattle.map_levels.proofs.heights.load_rows.Given as goal
 
 abbrev pub invariant-loop-n : goal.invariant-loop-n
 invariant-loop-n l =
-    Pairs (length l.initial.plane) l.y l.height l.b l.low l.pairs
+    Pairs (length l.initial.plane) l.sides.y l.sides.height l.b l.low l.pairs
     × (length l.plane ≡ length l.initial.plane)
-    × Rows (length l.heights) l.width l.width l.height
-    × Rows (length l.initial.plane) l.width l.width l.height
-    × Laid (side l.x l.width) (side l.y l.height) (cells l.width (heights_at l.heights)) (at l.initial.plane) l.n (at l.plane)
+    × Rows (length l.heights) l.sides.width l.sides.width l.sides.height
+    × Rows (length l.initial.plane) l.sides.width l.sides.width l.sides.height
+    × Laid (side l.sides.x l.sides.width) (side l.sides.y l.sides.height) (cells l.sides.width (heights_at l.heights)) (at l.initial.plane) l.n (at l.plane)

@@ -14,8 +14,8 @@ use Rattle.map_levels.proofs.level_ranges.+in_range.Goals as goal
 pub returns-then-not-has_next : goal.returns-then-not-has_next
 returns-then-not-has_next t c =
     let a = c.args in
-    range-end (filter_of a.filter) (filter-laws a.filter) _ _ (side a.x a.width) (side a.y a.height) _ _ c.requires.2 c.requires.1
-    (goes-as _ _ _ _ _ _ _ c.low_count-w.ensures c.low_count-h.ensures c.has_next.ensures c.if-not-has_next.true)
+    range-end (filter_of a.filter) (filter-laws a.filter) _ _ (side a.sides.x a.sides.width) (side a.sides.y a.sides.height) _ _ c.requires.2 c.requires.1
+    (goes-as _ _ _ _ _ _ _ c.low-low.ensures.width c.low-low.ensures.height c.has_next.ensures c.if-not-has_next.true)
     c.rows_in_range.ensures
 
 pub overflow_add-level : goal.overflow_add-level
@@ -27,7 +27,7 @@ in_range-requires t c =
     let yes' = goes-yes _ _ _ (sym c.has_next.ensures ∙ c.if-not-has_next.false) in (
       omega arith,
       (
-        rows-corner _ _ _ (side a.x a.width) (side a.y a.height) _ _ c.low_count-w.ensures c.low_count-h.ensures yes'.2 c.requires.0 refl,
+        rows-corner _ _ _ (side a.sides.x a.sides.width) (side a.sides.y a.sides.height) _ _ c.low-low.ensures.width c.low-low.ensures.height yes'.2 c.requires.0 refl,
         omega arith,
         omega arith,
         omega arith,
@@ -37,50 +37,50 @@ in_range-requires t c =
 pub returns-then-not-in_range : goal.returns-then-not-in_range
 returns-then-not-in_range t c =
     let a = c.args in
-    let W = side a.x a.width in
-    let H = side a.y a.height in
+    let W = side a.sides.x a.sides.width in
+    let H = side a.sides.y a.sides.height in
     let yes' = goes-yes _ _ _ (sym c.has_next.ensures ∙ c.if-not-has_next.false) in
     range-first (filter_of a.filter) (filter-laws a.filter) _ _ W H _ _ _ _ c.requires.2 yes'.0
-    (next-side W _ _ c.next_start-u.ensures c.low_count-w.ensures)
-    (next-side H _ _ c.next_start-v.ensures c.low_count-h.ensures) c.in_range.ensures c.if-not-in_range.true
+    c.low-low.ensures.columns
+    c.low-low.ensures.rows c.in_range.ensures c.if-not-in_range.true
 
 pub rows_in_range-requires-2 : goal.rows_in_range-requires-2
 rows_in_range-requires-2 t c =
     let a = c.args in
-    let W = side a.x a.width in
-    let H = side a.y a.height in
+    let W = side a.sides.x a.sides.width in
+    let H = side a.sides.y a.sides.height in
     let yes' = goes-yes _ _ _ (sym c.has_next.ensures ∙ c.if-not-has_next.false) in
     let lw = counts W in
     let lh = counts H in (
-      fewer-rows _ _ _ _ _ c.requires.0 yes'.2 (omega (arith, c.low_count-h.ensures)),
+      fewer-rows _ _ _ _ _ c.requires.0 yes'.2 (omega (arith, c.low-low.ensures.height)),
       omega arith,
-      omega (arith, c.low_count-w.ensures),
+      omega (arith, c.low-low.ensures.width),
       omega arith,
     )
 
 pub returns-then-not-rows_in_range : goal.returns-then-not-rows_in_range
 returns-then-not-rows_in_range t c =
     let a = c.args in
-    let W = side a.x a.width in
-    let H = side a.y a.height in
+    let W = side a.sides.x a.sides.width in
+    let H = side a.sides.y a.sides.height in
     let yes' = goes-yes _ _ _ (sym c.has_next.ensures ∙ c.if-not-has_next.false) in
     range-second (filter_of a.filter) (filter-laws a.filter) _ _ W H _ _ _ _ c.requires.2 yes'.0
-    (next-side W _ _ c.next_start-u.ensures c.low_count-w.ensures)
-    (next-side H _ _ c.next_start-v.ensures c.low_count-h.ensures) c.in_range.ensures
+    c.low-low.ensures.columns
+    c.low-low.ensures.rows c.in_range.ensures
     c.if-not-in_range.false _ c.rows_in_range-2.ensures c.if-not-rows_in_range.true
 
 pub rows_in_range-requires-3 : goal.rows_in_range-requires-3
 rows_in_range-requires-3 t c =
-    let lh = counts (side c.args.y c.args.height) in
-    (c.requires.0, omega (arith, c.low_count-h.ensures), omega arith, omega arith)
+    let lh = counts (side c.args.sides.y c.args.sides.height) in
+    (c.requires.0, omega (arith, c.low-low.ensures.height), omega arith, omega arith)
 
 pub returns : goal.returns
 returns t c =
     let a = c.args in
-    let W = side a.x a.width in
-    let H = side a.y a.height in
+    let W = side a.sides.x a.sides.width in
+    let H = side a.sides.y a.sides.height in
     let yes' = goes-yes _ _ _ (sym c.has_next.ensures ∙ c.if-not-has_next.false) in
     range-third (filter_of a.filter) (filter-laws a.filter) _ _ W H _ _ _ _ c.requires.2 yes'.0
-    (next-side W _ _ c.next_start-u.ensures c.low_count-w.ensures)
-    (next-side H _ _ c.next_start-v.ensures c.low_count-h.ensures) c.in_range.ensures
+    c.low-low.ensures.columns
+    c.low-low.ensures.rows c.in_range.ensures
     c.if-not-in_range.false _ c.rows_in_range-2.ensures c.if-not-rows_in_range.false _ c.rows_in_range-3.ensures

@@ -14,8 +14,8 @@ surely_least-requires c = (c.requires.1, omega (arith, c.requires.0.levels.0, c.
 
 pub returns-then-surely_least : goal.returns-then-surely_least
 returns-then-surely_least c =
-    sym (region-least (filter_of c.args.filter) (filter-laws c.args.filter) _ (side c.args.x c.args.width)
-    (side c.args.y c.args.height) _ c.requires.0.levels.0 (c.surely_least.ensures c.if-surely_least.true))
+    sym (region-least (filter_of c.args.filter) (filter-laws c.args.filter) _ (side c.args.sides.x c.args.sides.width)
+    (side c.args.sides.y c.args.sides.height) _ c.requires.0.levels.0 (c.surely_least.ensures c.if-surely_least.true))
 
 pub in_range-requires : goal.in_range-requires
 in_range-requires c =

@@ -8,10 +8,10 @@ pub returns-then-levels-lt2 : goal.returns-then-levels-lt2
 unfolding has_next
 returns-then-levels-lt2 c = let args = c.args in simp (le-ltb 1 args.levels (omega arith))
 
-pub returns-then-width-eq0 : goal.returns-then-width-eq0
+pub returns-then-low-eq0 : goal.returns-then-low-eq0
 unfolding has_next
-returns-then-width-eq0 c = let args = c.args in simp (lt-ltb 1 args.levels (omega arith), le-ltb 0 args.width (omega arith))
+returns-then-low-eq0 c = let args = c.args in simp (lt-ltb 1 args.levels (omega arith), le-ltb 0 args.low.width (omega arith))
 
 pub returns : goal.returns
 unfolding has_next
-returns c = let args = c.args in simp (lt-ltb 1 args.levels (omega arith), lt-ltb 0 args.width (omega arith))
+returns c = let args = c.args in simp (lt-ltb 1 args.levels (omega arith), lt-ltb 0 args.low.width (omega arith))

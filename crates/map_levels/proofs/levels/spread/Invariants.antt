@@ -12,6 +12,6 @@ use Rattle.map_levels.proofs.levels.spread.Given as goal
 abbrev pub invariant-loop-r : goal.invariant-loop-r
 invariant-loop-r l =
     (length l.plane ≡ length l.initial.plane)
-    × Rows (length l.work) l.width l.width l.height
-    × Rows (length l.initial.plane) l.across l.width l.height
-    × RowSwept l.across (grid_halved (side l.x l.width) (side l.y l.height) (cells l.width (at l.work)) (cells l.across (at l.initial.plane))) (cells l.across (at l.initial.plane)) l.r (at l.plane)
+    × Rows (length l.work) l.sides.width l.sides.width l.sides.height
+    × Rows (length l.initial.plane) l.across l.sides.width l.sides.height
+    × RowSwept l.across (grid_halved (side l.sides.x l.sides.width) (side l.sides.y l.sides.height) (cells l.sides.width (at l.work)) (cells l.across (at l.initial.plane))) (cells l.across (at l.initial.plane)) l.r (at l.plane)

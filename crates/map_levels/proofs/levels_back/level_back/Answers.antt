@@ -9,16 +9,16 @@ use Rattle.map_levels.proofs.levels_back.level_back.Goals as goal
 pub returns-then-not-rows_even : goal.returns-then-not-rows_even
 returns-then-not-rows_even c =
     let a = c.args in
-    level-odd a.level a.across (side a.x a.width) (side a.y a.height) _ _ _ _ c.rows_even.ensures (not-true _ c.if-not-rows_even.true-raw)
+    level-odd a.level a.across (side a.sides.x a.sides.width) (side a.sides.y a.sides.height) _ _ _ _ c.rows_even.ensures (not-true _ c.if-not-rows_even.true-raw)
 
 pub one_back-requires : goal.one_back-requires
 one_back-requires c =
-    (c.requires.0, c.if-height-lt2.true, c.requires.1)
+    (c.requires.0, c.if-sides-lt2.true, c.requires.1)
 
-pub returns-then-height-lt2 : goal.returns-then-height-lt2
-returns-then-height-lt2 c =
+pub returns-then-sides-lt2 : goal.returns-then-sides-lt2
+returns-then-sides-lt2 c =
     let a = c.args in
-    level-one a.level a.across (side a.x a.width) (side a.y a.height) _ _ _ _ c.rows_even.ensures (not-false _ c.if-not-rows_even.false-raw) _ _ _
+    level-one a.level a.across (side a.sides.x a.sides.width) (side a.sides.y a.sides.height) _ _ _ _ c.rows_even.ensures (not-false _ c.if-not-rows_even.false-raw) _ _ _
     c.one_back.ensures
 
 pub rows_back-requires : goal.rows_back-requires
@@ -31,6 +31,6 @@ rows_back-requires c =
 pub returns : goal.returns
 returns c =
     let a = c.args in
-    level-many a.level a.across (side a.x a.width) (side a.y a.height) _ _ _ _ c.rows_even.ensures (not-false _ c.if-not-rows_even.false-raw) _
+    level-many a.level a.across (side a.sides.x a.sides.width) (side a.sides.y a.sides.height) _ _ _ _ c.rows_even.ensures (not-false _ c.if-not-rows_even.false-raw) _
     _ _
     (omega arith) c.rows_back.ensures

@@ -24,6 +24,6 @@ put-fits-requires c =
 pub returns : goal.returns
 returns c =
     let a = c.args in
-    one-back a.across (side a.x a.width) (side a.y a.height) _ _ _ _ _ c.requires.0.area.plane.some c.requires.1 c.requires.2
+    one-back a.across (side a.sides.x a.sides.width) (side a.sides.y a.sides.height) _ _ _ _ _ c.requires.0.area.plane.some c.requires.1 c.requires.2
     c.fetch.ensures c.unlift_single-even.ensures.work_after a.level _ _ _ _ _ _ c.unlift_single-even.ensures.value c.put-fits.ensures
     (and_both c.unlift_single-even.result c.put-fits.result)

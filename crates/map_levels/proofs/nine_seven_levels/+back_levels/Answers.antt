@@ -19,54 +19,54 @@ use Rattle.map_levels.proofs.nine_seven_levels.+back_levels.Goals as goal
 pub returns-then-not-has_next : goal.returns-then-not-has_next
 returns-then-not-has_next t c =
     let a = c.args in
-    back_end nine_seven_filter nine-seven-laws _ _ _ _ (side a.x a.width)
-    (side a.y a.height) _ _ _ _ c.requires.1.wide
+    back_end nine_seven_filter nine-seven-laws _ _ _ _ (side a.sides.x a.sides.width)
+    (side a.sides.y a.sides.height) _ _ _ _ c.requires.1.wide
     c.requires.2.some
-    (goes-as _ _ _ _ _ _ _ c.low_count-w.ensures c.low_count-h.ensures c.has_next.ensures c.if-not-has_next.true)
+    (goes-as _ _ _ _ _ _ _ c.low-low.ensures.width c.low-low.ensures.height c.has_next.ensures c.if-not-has_next.true)
     c.nine_seven_back.ensures
 
 -- where the low-low part has levels left: it begins at place b of the work area's n numbers
 pub slice_bounds-back_levels-count : goal.slice_bounds-back_levels-count
 slice_bounds-back_levels-count t c =
     let a = c.args in
-    let W = side a.x a.width in
-    let H = side a.y a.height in
+    let W = side a.sides.x a.sides.width in
+    let H = side a.sides.y a.sides.height in
     let n = length a.work.now in
-    let b = a.y % 2 * a.stride in
+    let b = a.sides.y % 2 * a.stride in
     let more = goes-yes _ _ _ (sym c.has_next.ensures ∙ c.if-not-has_next.false) in
-    let rows : 0 < count lo H = rw c.low_count-h.ensures at more.2 in
+    let rows : 0 < count lo H = rw c.low-low.ensures.height at more.2 in
     let room : b ≤ n = part_room _ _ W H rows c.requires.1 in
     omega (arith, room)
 
 pub slice_bounds-back_levels-start : goal.slice_bounds-back_levels-start
 slice_bounds-back_levels-start t c =
     let a = c.args in
-    let W = side a.x a.width in
-    let H = side a.y a.height in
+    let W = side a.sides.x a.sides.width in
+    let H = side a.sides.y a.sides.height in
     let n = length a.work.now in
-    let b = a.y % 2 * a.stride in
+    let b = a.sides.y % 2 * a.stride in
     let more = goes-yes _ _ _ (sym c.has_next.ensures ∙ c.if-not-has_next.false) in
-    let rows : 0 < count lo H = rw c.low_count-h.ensures at more.2 in
+    let rows : 0 < count lo H = rw c.low-low.ensures.height at more.2 in
     let room : b ≤ n = part_room _ _ W H rows c.requires.1 in
     omega (arith, room)
 
 pub back_levels-requires : goal.back_levels-requires
 back_levels-requires t c =
     let a = c.args in
-    let W = side a.x a.width in
-    let H = side a.y a.height in
+    let W = side a.sides.x a.sides.width in
+    let H = side a.sides.y a.sides.height in
     let n = length a.work.now in
-    let b = a.y % 2 * a.stride in
+    let b = a.sides.y % 2 * a.stride in
     let more = goes-yes _ _ _ (sym c.has_next.ensures ∙ c.if-not-has_next.false) in
-    let rows : 0 < count lo H = rw c.low_count-h.ensures at more.2 in
+    let rows : 0 < count lo H = rw c.low-low.ensures.height at more.2 in
     let room : b ≤ n = part_room _ _ W H rows c.requires.1 in
     let fit = mid-fits b n room in
     let two = more.0 in (
       omega arith,
       (
-        rows-corner _ _ _ W H _ _ c.low_count-w.ensures c.low_count-h.ensures more.2 c.requires.0 refl,
-        rows_next _ _ _ W H _ _ c.low_count-w.ensures c.low_count-h.ensures more.2 c.requires.1 (length-mid b (n - b) a.work.now fit),
-        doubled _ _ W _ c.requires.2 two c.low_count-w.ensures,
+        rows-corner _ _ _ W H _ _ c.low-low.ensures.width c.low-low.ensures.height more.2 c.requires.0 refl,
+        rows_next _ _ _ W H _ _ c.low-low.ensures.width c.low-low.ensures.height more.2 c.requires.1 (length-mid b (n - b) a.work.now fit),
+        doubled _ _ W _ c.requires.2 two c.low-low.ensures.width,
         omega arith,
       ),
     )
@@ -75,16 +75,16 @@ back_levels-requires t c =
 pub returns-then-not-back_levels : goal.returns-then-not-back_levels
 returns-then-not-back_levels t c =
     let a = c.args in
-    let W = side a.x a.width in
-    let H = side a.y a.height in
+    let W = side a.sides.x a.sides.width in
+    let H = side a.sides.y a.sides.height in
     let n = length a.work.now in
-    let b = a.y % 2 * a.stride in
+    let b = a.sides.y % 2 * a.stride in
     let more = goes-yes _ _ _ (sym c.has_next.ensures ∙ c.if-not-has_next.false) in
-    let rows : 0 < count lo H = rw c.low_count-h.ensures at more.2 in
+    let rows : 0 < count lo H = rw c.low-low.ensures.height at more.2 in
     let room : b ≤ n = part_room _ _ W H rows c.requires.1 in
     let fit = mid-fits b n room in
     back-no nine_seven_filter nine-seven-laws n _ _ _ _ b (n - b) W H
-    _ _ _ _ _ _ _ _ c.requires.1 more.0 rows (next-side W _ _ c.next_start-u.ensures c.low_count-w.ensures) (next-side H _ _ c.next_start-v.ensures c.low_count-h.ensures) refl refl
+    _ _ _ _ _ _ _ _ c.requires.1 more.0 rows c.low-low.ensures.columns c.low-low.ensures.rows refl refl
     (at_mid b (n - b) a.work.now) c.back_levels.ensures
     (put-area _ _ a.work.now c.back_levels.new.work fit c.back_levels.auto.work)
     c.if-not-back_levels.true
@@ -92,12 +92,12 @@ returns-then-not-back_levels t c =
 pub slice_bounds-interleave_low-count : goal.slice_bounds-interleave_low-count
 slice_bounds-interleave_low-count t c =
     let a = c.args in
-    let W = side a.x a.width in
-    let H = side a.y a.height in
+    let W = side a.sides.x a.sides.width in
+    let H = side a.sides.y a.sides.height in
     let n = length a.work.now in
-    let b = a.y % 2 * a.stride in
+    let b = a.sides.y % 2 * a.stride in
     let more = goes-yes _ _ _ (sym c.has_next.ensures ∙ c.if-not-has_next.false) in
-    let rows : 0 < count lo H = rw c.low_count-h.ensures at more.2 in
+    let rows : 0 < count lo H = rw c.low-low.ensures.height at more.2 in
     let room : b ≤ n = part_room _ _ W H rows c.requires.1 in
     let fit = mid-fits b n room in
     let work = put_mid b (n - b) a.work.now c.back_levels.new.work in
@@ -108,12 +108,12 @@ slice_bounds-interleave_low-count t c =
 pub slice_bounds-interleave_low-start : goal.slice_bounds-interleave_low-start
 slice_bounds-interleave_low-start t c =
     let a = c.args in
-    let W = side a.x a.width in
-    let H = side a.y a.height in
+    let W = side a.sides.x a.sides.width in
+    let H = side a.sides.y a.sides.height in
     let n = length a.work.now in
-    let b = a.y % 2 * a.stride in
+    let b = a.sides.y % 2 * a.stride in
     let more = goes-yes _ _ _ (sym c.has_next.ensures ∙ c.if-not-has_next.false) in
-    let rows : 0 < count lo H = rw c.low_count-h.ensures at more.2 in
+    let rows : 0 < count lo H = rw c.low-low.ensures.height at more.2 in
     let room : b ≤ n = part_room _ _ W H rows c.requires.1 in
     let fit = mid-fits b n room in
     let work = put_mid b (n - b) a.work.now c.back_levels.new.work in
@@ -125,20 +125,20 @@ pub interleave_low-requires : goal.interleave_low-requires
 unfolding filter_of
 interleave_low-requires t c =
     let a = c.args in
-    let W = side a.x a.width in
-    let H = side a.y a.height in
+    let W = side a.sides.x a.sides.width in
+    let H = side a.sides.y a.sides.height in
     let n = length a.work.now in
-    let b = a.y % 2 * a.stride in
+    let b = a.sides.y % 2 * a.stride in
     let more = goes-yes _ _ _ (sym c.has_next.ensures ∙ c.if-not-has_next.false) in
-    let rows : 0 < count lo H = rw c.low_count-h.ensures at more.2 in
+    let rows : 0 < count lo H = rw c.low-low.ensures.height at more.2 in
     let room : b ≤ n = part_room _ _ W H rows c.requires.1 in
     let fit = mid-fits b n room in
     let work = put_mid b (n - b) a.work.now c.back_levels.new.work in
     let same : length work ≡ n = put_same _ _ a.work.now c.back_levels.new.work fit c.back_levels.auto.work in
     let fit' : b + (n - b) ≤ length work = rw same fit in
     let two = more.0 in (
-      rows_next _ _ _ W H _ _ c.low_count-w.ensures c.low_count-h.ensures more.2 c.requires.1 (length-mid b (n - b) work fit'),
-      omega (arith, c.low_count-w.ensures, lows-few W, counts W, c.requires.2.narrow),
+      rows_next _ _ _ W H _ _ c.low-low.ensures.width c.low-low.ensures.height more.2 c.requires.1 (length-mid b (n - b) work fit'),
+      omega (arith, c.low-low.ensures.width, lows-few W, counts W, c.requires.2.narrow),
       omega arith,
     )
 
@@ -147,19 +147,19 @@ pub returns-then-not-interleave_low : goal.returns-then-not-interleave_low
 unfolding filter_of
 returns-then-not-interleave_low t c =
     let a = c.args in
-    let W = side a.x a.width in
-    let H = side a.y a.height in
+    let W = side a.sides.x a.sides.width in
+    let H = side a.sides.y a.sides.height in
     let n = length a.work.now in
-    let b = a.y % 2 * a.stride in
+    let b = a.sides.y % 2 * a.stride in
     let more = goes-yes _ _ _ (sym c.has_next.ensures ∙ c.if-not-has_next.false) in
-    let rows : 0 < count lo H = rw c.low_count-h.ensures at more.2 in
+    let rows : 0 < count lo H = rw c.low-low.ensures.height at more.2 in
     let room : b ≤ n = part_room _ _ W H rows c.requires.1 in
     let fit = mid-fits b n room in
     let work = put_mid b (n - b) a.work.now c.back_levels.new.work in
     let same : length work ≡ n = put_same _ _ a.work.now c.back_levels.new.work fit c.back_levels.auto.work in
     let fit' : b + (n - b) ≤ length work = rw same fit in
     back_low nine_seven_filter nine-seven-laws n _ _ _ _ b (n - b) W H
-    _ _ _ _ _ _ _ _ c.requires.1 more.0 rows (next-side W _ _ c.next_start-u.ensures c.low_count-w.ensures) (next-side H _ _ c.next_start-v.ensures c.low_count-h.ensures) refl refl
+    _ _ _ _ _ _ _ _ c.requires.1 more.0 rows c.low-low.ensures.columns c.low-low.ensures.rows refl refl
     (at_mid b (n - b) a.work.now) c.back_levels.ensures
     (put-area _ _ a.work.now c.back_levels.new.work fit c.back_levels.auto.work)
     c.if-not-back_levels.false _ _ _ _ (at_mid b (n - b) work)
@@ -172,19 +172,19 @@ pub returns : goal.returns
 unfolding filter_of
 returns t c =
     let a = c.args in
-    let W = side a.x a.width in
-    let H = side a.y a.height in
+    let W = side a.sides.x a.sides.width in
+    let H = side a.sides.y a.sides.height in
     let n = length a.work.now in
-    let b = a.y % 2 * a.stride in
+    let b = a.sides.y % 2 * a.stride in
     let more = goes-yes _ _ _ (sym c.has_next.ensures ∙ c.if-not-has_next.false) in
-    let rows : 0 < count lo H = rw c.low_count-h.ensures at more.2 in
+    let rows : 0 < count lo H = rw c.low-low.ensures.height at more.2 in
     let room : b ≤ n = part_room _ _ W H rows c.requires.1 in
     let fit = mid-fits b n room in
     let work = put_mid b (n - b) a.work.now c.back_levels.new.work in
     let same : length work ≡ n = put_same _ _ a.work.now c.back_levels.new.work fit c.back_levels.auto.work in
     let fit' : b + (n - b) ≤ length work = rw same fit in
     back_step nine_seven_filter nine-seven-laws n _ _ _ _ b (n - b) W H
-    _ _ _ _ _ _ _ _ c.requires.1 more.0 rows (next-side W _ _ c.next_start-u.ensures c.low_count-w.ensures) (next-side H _ _ c.next_start-v.ensures c.low_count-h.ensures) refl refl
+    _ _ _ _ _ _ _ _ c.requires.1 more.0 rows c.low-low.ensures.columns c.low-low.ensures.rows refl refl
     (at_mid b (n - b) a.work.now) c.back_levels.ensures
     (put-area _ _ a.work.now c.back_levels.new.work fit c.back_levels.auto.work)
     c.if-not-back_levels.false _ _ _ _ (at_mid b (n - b) work)

@@ -11,11 +11,11 @@ pub returns-then-not-has_next : goal.returns-then-not-has_next
 returns-then-not-has_next t c =
     let a = c.args in
     let R = c.requires.0 in
-    let W = side a.x a.width in
-    let H = side a.y a.height in
+    let W = side a.sides.x a.sides.width in
+    let H = side a.sides.y a.sides.height in
     record {
       plane_after = forward-end nine_seven_filter nine-seven-laws _ W H _ _ R.wide R.apart c.lift_nine_seven.ensures _ _ _ c.requires.2
-          c.low_count-w.ensures c.low_count-h.ensures (sym c.has_next.ensures ∙ c.if-not-has_next.true);
+          c.low-low.ensures.width c.low-low.ensures.height (sym c.has_next.ensures ∙ c.if-not-has_next.true);
       kept_from = record { kept = λ j b. refl };
     }
 
@@ -23,33 +23,33 @@ pub save-requires : goal.save-requires
 save-requires t c =
     let a = c.args in
     let on = has-next _ _ _ (sym c.has_next.ensures ∙ c.if-not-has_next.false) in
-    let W = side a.x a.width in
-    let H = side a.y a.height in (
-      rows-corner _ _ _ W H _ _ c.low_count-w.ensures c.low_count-h.ensures on.2 c.requires.0 c.lift_nine_seven.auto.area,
-      own-rows _ _ W H _ _ refl c.low_count-w.ensures c.low_count-h.ensures on.1 on.2 c.requires.1,
+    let W = side a.sides.x a.sides.width in
+    let H = side a.sides.y a.sides.height in (
+      rows-corner _ _ _ W H _ _ c.low-low.ensures.width c.low-low.ensures.height on.2 c.requires.0 c.lift_nine_seven.auto.area,
+      own-rows _ _ W H _ _ refl c.low-low.ensures.width c.low-low.ensures.height on.1 on.2 c.requires.1,
     )
 
 pub spread-requires : goal.spread-requires
 spread-requires t c =
     let a = c.args in
     let on = has-next _ _ _ (sym c.has_next.ensures ∙ c.if-not-has_next.false) in
-    let W = side a.x a.width in
-    let H = side a.y a.height in (
-      own-rows _ _ W H _ _ c.save.auto.work c.low_count-w.ensures c.low_count-h.ensures on.1 on.2 c.requires.1,
-      rows-corner _ _ _ W H _ _ c.low_count-w.ensures c.low_count-h.ensures on.2 c.requires.0 c.lift_nine_seven.auto.area,
+    let W = side a.sides.x a.sides.width in
+    let H = side a.sides.y a.sides.height in (
+      own-rows _ _ W H _ _ c.save.auto.work c.low-low.ensures.width c.low-low.ensures.height on.1 on.2 c.requires.1,
+      rows-corner _ _ _ W H _ _ c.low-low.ensures.width c.low-low.ensures.height on.2 c.requires.0 c.lift_nine_seven.auto.area,
     )
 
 pub forward_levels-requires : goal.forward_levels-requires
 forward_levels-requires t c =
     let a = c.args in
     let on = has-next _ _ _ (sym c.has_next.ensures ∙ c.if-not-has_next.false) in
-    let W = side a.x a.width in
-    let H = side a.y a.height in (
+    let W = side a.sides.x a.sides.width in
+    let H = side a.sides.y a.sides.height in (
       omega arith,
       (
-        rows-corner _ _ _ W H _ _ c.low_count-w.ensures c.low_count-h.ensures on.2 c.requires.0
+        rows-corner _ _ _ W H _ _ c.low-low.ensures.width c.low-low.ensures.height on.2 c.requires.0
             (c.spread.auto.plane ∙ c.lift_nine_seven.auto.area),
-        own-rows _ _ W H _ _ c.save.auto.work c.low_count-w.ensures c.low_count-h.ensures on.1 on.2 c.requires.1,
+        own-rows _ _ W H _ _ c.save.auto.work c.low-low.ensures.width c.low-low.ensures.height on.1 on.2 c.requires.1,
         omega arith,
       ),
     )
@@ -58,10 +58,10 @@ pub returns : goal.returns
 returns t c =
     let a = c.args in
     let on = has-next _ _ _ (sym c.has_next.ensures ∙ c.if-not-has_next.false) in
-    let W = side a.x a.width in
-    let H = side a.y a.height in
+    let W = side a.sides.x a.sides.width in
+    let H = side a.sides.y a.sides.height in
     let R = c.requires.0 in
     let both = forward-step nine_seven_filter nine-seven-laws _ W H _ _ R.wide R.apart c.lift_nine_seven.ensures _ _ _ _ _ _ _ _ _ c.requires.1 on.0
-    (next-side W _ _ c.next_start-u.ensures c.low_count-w.ensures) (next-side H _ _ c.next_start-v.ensures c.low_count-h.ensures)
+    c.low-low.ensures.columns c.low-low.ensures.rows
     on.1 on.2 c.save.ensures c.spread.ensures c.forward_levels.ensures.plane_after c.forward_levels.ensures.kept_from in
     record { plane_after = both.0; kept_from = both.1 }

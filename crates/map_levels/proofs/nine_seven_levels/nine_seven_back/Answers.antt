@@ -16,7 +16,7 @@ returns-then-not-rows_even c =
 pub copy_rows-requires : goal.copy_rows-requires
 copy_rows-requires c =
     let pre = c.requires in
-    (pre.plane, pre.work, omega (arith, pre.few, counts (side c.args.x c.args.width)))
+    (pre.plane, pre.work, omega (arith, pre.few, counts (side c.args.sides.x c.args.sides.width)))
 
 pub unlift_rows-requires : goal.unlift_rows-requires
 unlift_rows-requires c =
@@ -24,7 +24,7 @@ unlift_rows-requires c =
     let pre = c.requires in
     let R = rows-kept c.copy_rows.auto.work pre.work in (
       R,
-      fetched-even _ a.stride a.across _ (side a.x a.width) (side a.y a.height) _ _ R pre.few _ c.copy_rows.ensures
+      fetched-even _ a.stride a.across _ (side a.sides.x a.sides.width) (side a.sides.y a.sides.height) _ _ R pre.few _ c.copy_rows.ensures
           (sym c.rows_even.ensures ∙ not-false _ c.if-not-rows_even.false-raw),
     )
 
@@ -37,6 +37,6 @@ returns c =
     let a = c.args in
     let pre = c.requires in
     let R = rows-kept (c.unlift_rows.auto.work ∙ c.copy_rows.auto.work) pre.work in
-    nine-made _ a.stride a.across _ (side a.x a.width) (side a.y a.height) _ _ R pre.few _ c.copy_rows.ensures
+    nine-made _ a.stride a.across _ (side a.sides.x a.sides.width) (side a.sides.y a.sides.height) _ _ R pre.few _ c.copy_rows.ensures
     (sym c.rows_even.ensures ∙ not-false _ c.if-not-rows_even.false-raw) _ _ c.unlift_rows.ensures _ c.unlift_columns.ensures.answer
     c.unlift_columns.ensures.area

@@ -15,6 +15,6 @@ pub returns : goal.returns
 returns c =
     let a = c.args in
     let R = c.requires in
-    let W = side a.x a.width in
-    let H = side a.y a.height in
+    let W = side a.sides.x a.sides.width in
+    let H = side a.sides.y a.sides.height in
     nine-seven-rows _ W H _ _ _ R.apart R.wide (nine-seven-columns _ _ _ H _ _ R c.lift_columns.ensures.area) c.lift_rows.ensures

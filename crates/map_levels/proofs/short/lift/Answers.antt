@@ -18,23 +18,23 @@ returns-then-n-lt2 c =
 pub overflow_sub-b : goal.overflow_sub-b
 overflow_sub-b c = omega arith
 
-pub predict_highs-requires : goal.predict_highs-requires
-predict_highs-requires c =
+pub change_highs-requires : goal.change_highs-requires
+change_highs-requires c =
     let a = c.args in
     lows-beside (side a.start (length a.line.now)) _ _ refl c.if-n-lt2.false c.low_count-low.ensures
 
-pub update_lows-requires : goal.update_lows-requires
-update_lows-requires c =
+pub change_lows-requires : goal.change_lows-requires
+change_lows-requires c =
     let a = c.args in
-    highs-beside (side a.start (length a.line.now)) _ _ c.predict_highs.auto.line c.if-n-lt2.false c.low_count-low.ensures
+    highs-beside (side a.start (length a.line.now)) _ _ c.change_highs.auto.line c.if-n-lt2.false c.low_count-low.ensures
 
 pub shape_of-line : goal.shape_of-line
-shape_of-line c = c.update_lows.auto.line ∙ c.predict_highs.auto.line
+shape_of-line c = c.change_lows.auto.line ∙ c.change_highs.auto.line
 
 pub returns : goal.returns
 returns c =
     let a = c.args in
     let x = a.line.now in
     let more = c.if-n-lt2.false in
-    short-lifted (side a.start (length x)) _ _ _ _ _ more c.low_count-low.ensures c.predict_highs.auto.line c.predict_highs.ensures
-    c.update_lows.ensures
+    short-lifted (side a.start (length x)) _ _ _ _ _ more c.low_count-low.ensures c.change_highs.auto.line c.change_highs.ensures
+    c.change_lows.ensures

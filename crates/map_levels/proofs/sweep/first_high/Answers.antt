@@ -33,8 +33,8 @@ shape_of-lines-then-b-eq0 c = c.lift_columns.auto.lines
 pub returns-then-b-eq0 : goal.returns-then-b-eq0
 returns-then-b-eq0 c =
     let a = c.args in
-    first-low a.first a.across (side a.x a.width) (side a.y a.height) _ _ _ _ _ c.requires.0.more c.requires.0.area.plane.wide c.requires.1
-    (made_as _ _ _ (a.y % 2) (1 - a.y % 2) _ _ (source_grid a.first a.width (heights_at a.heights.now) (at a.work.now)) _ _ refl
+    first-low a.first a.across (side a.sides.x a.sides.width) (side a.sides.y a.sides.height) _ _ _ _ _ c.requires.0.more c.requires.0.area.plane.wide c.requires.1
+    (made_as _ _ _ (a.sides.y % 2) (1 - a.sides.y % 2) _ _ (source_grid a.first a.sides.width (heights_at a.heights.now) (at a.work.now)) _ _ refl
     c.first_other.ensures.0 c.lift_columns.ensures) c.if-b-eq0.true
 
 pub put_high-requires : goal.put_high-requires
@@ -50,8 +50,8 @@ shape_of-lines c = c.lift_columns.auto.lines
 pub returns : goal.returns
 returns c =
     let a = c.args in
-    first-high a.first a.across (side a.x a.width) (side a.y a.height) _ _ _ _ _ c.requires.0.more c.requires.0.area.plane.wide c.requires.1
-    (made_as _ _ _ (a.y % 2) (1 - a.y % 2) _ _ (source_grid a.first a.width (heights_at a.heights.now) (at a.work.now)) _ _ refl
+    first-high a.first a.across (side a.sides.x a.sides.width) (side a.sides.y a.sides.height) _ _ _ _ _ c.requires.0.more c.requires.0.area.plane.wide c.requires.1
+    (made_as _ _ _ (a.sides.y % 2) (1 - a.sides.y % 2) _ _ (source_grid a.first a.sides.width (heights_at a.heights.now) (at a.work.now)) _ _ refl
     c.first_other.ensures.0
     c.lift_columns.ensures) _ c.if-b-eq0.false
     c.put_high.ensures

@@ -17,7 +17,7 @@ pub returns-then-first : goal.returns-then-first
 returns-then-first c =
     let a = c.args in
     let e = c.if-first.true in
-    laid-first _ a.across (side a.x a.width) (side a.y a.height) _ _ _ _ e (c.requires.1 e) c.load_rows.ensures
+    laid-first _ a.across (side a.sides.x a.sides.width) (side a.sides.y a.sides.height) _ _ _ _ e (c.requires.1 e) c.load_rows.ensures
 
 pub spread-requires : goal.spread-requires
 spread-requires c = let R = c.requires.0 in (R.work, R.plane)
@@ -28,4 +28,4 @@ shape_of-plane c = c.spread.auto.plane
 pub returns : goal.returns
 returns c =
     let a = c.args in
-    laid-work _ a.across (side a.x a.width) (side a.y a.height) _ _ _ _ c.if-first.false c.spread.ensures
+    laid-work _ a.across (side a.sides.x a.sides.width) (side a.sides.y a.sides.height) _ _ _ _ c.if-first.false c.spread.ensures

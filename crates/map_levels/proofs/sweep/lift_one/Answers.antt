@@ -15,7 +15,7 @@ lift_one-requires c =
 pub save_low-requires : goal.save_low-requires
 save_low-requires c = (
   rows-kept (c.lift_one.auto.area ∙ c.lay_one.auto.plane) c.requires.0.plane,
-  low-room _ (side c.args.x c.args.width) (side c.args.y c.args.height) c.requires.0.work,
+  low-room _ (side c.args.sides.x c.args.sides.width) (side c.args.sides.y c.args.sides.height) c.requires.0.work,
 )
 
 pub shape_of-plane : goal.shape_of-plane
@@ -29,5 +29,5 @@ pub returns : goal.returns
 returns c =
     let a = c.args in
     let P = c.requires.0.plane in
-    one-swept a.first a.across (side a.x a.width) (side a.y a.height) _ _ _ _ _ _ P.wide P.apart c.lay_one.ensures
+    one-swept a.first a.across (side a.sides.x a.sides.width) (side a.sides.y a.sides.height) _ _ _ _ _ _ P.wide P.apart c.lay_one.ensures
     c.lift_one.ensures c.save_low.ensures

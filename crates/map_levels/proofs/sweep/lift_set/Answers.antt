@@ -11,24 +11,24 @@ use Rattle.map_levels.proofs.sweep.lift_set.Goals as goal
 
 pub overflow_mul-n : goal.overflow_mul-n
 overflow_mul-n c =
-    let a = c.args in omega (arith, low-place (side a.y a.height) a.n c.requires.1, few _ _ _ _ c.requires.0.area.work)
+    let a = c.args in omega (arith, low-place (side a.sides.y a.sides.height) a.n c.requires.1, few _ _ _ _ c.requires.0.area.work)
 
 pub overflow_add-n : goal.overflow_add-n
 overflow_add-n c =
-    let a = c.args in omega (arith, low-place (side a.y a.height) a.n c.requires.1, few _ _ _ _ c.requires.0.area.work)
+    let a = c.args in omega (arith, low-place (side a.sides.y a.sides.height) a.n c.requires.1, few _ _ _ _ c.requires.0.area.work)
 
 pub set_columns-requires : goal.set_columns-requires
 set_columns-requires c =
     let a = c.args in
     let R = c.requires.0 in
-    (R.area.source, low-place (side a.y a.height) a.n c.requires.1, R.halves, R.lines)
+    (R.area.source, low-place (side a.sides.y a.sides.height) a.n c.requires.1, R.halves, R.lines)
 
 pub lay_line-requires : goal.lay_line-requires
 unfolding line_half max_width
 lay_line-requires c =
     let a = c.args in
     let R = c.requires.0 in
-    let k = counts (side a.y a.height) in
+    let k = counts (side a.sides.y a.sides.height) in
     let P = R.area.plane in (
       omega (arith, R.lines, c.set_columns.auto.lines),
       R.halves,
@@ -42,27 +42,27 @@ lay_line-requires c =
 pub lift_row-requires : goal.lift_row-requires
 lift_row-requires c =
     let a = c.args in
-    let k = counts (side a.y a.height) in
+    let k = counts (side a.sides.y a.sides.height) in
     let P = rows-kept c.lay_line.auto.plane c.requires.0.area.plane in
     (P.wide, row_room _ _ _ _ _ P (omega (arith, c.requires.1)))
 
 pub overflow_mul-n-2 : goal.overflow_mul-n-2
 overflow_mul-n-2 c =
     let a = c.args in
-    let k = counts (side a.y a.height) in
+    let k = counts (side a.sides.y a.sides.height) in
     omega (arith, row_room _ _ _ _ a.n c.requires.0.area.plane (omega (arith, c.requires.1)))
 
 pub overflow_mul-n-3 : goal.overflow_mul-n-3
 overflow_mul-n-3 c =
     let a = c.args in
     rw c.low_count-w.ensures
-    (omega (arith, corner-room _ (side a.x a.width) (side a.y a.height) a.n c.requires.0.area.work c.requires.1))
+    (omega (arith, corner-room _ (side a.sides.x a.sides.width) (side a.sides.y a.sides.height) a.n c.requires.0.area.work c.requires.1))
 
 pub copy_part-requires : goal.copy_part-requires
 copy_part-requires c =
     let a = c.args in
-    let W = side a.x a.width in
-    let H = side a.y a.height in
+    let W = side a.sides.x a.sides.width in
+    let H = side a.sides.y a.sides.height in
     let k = counts H in
     let l = counts W in
     let low = c.low_count-w.ensures in
@@ -73,7 +73,7 @@ copy_part-requires c =
 pub overflow_add-n-2 : goal.overflow_add-n-2
 overflow_add-n-2 c =
     let a = c.args in
-    omega (arith, low-place (side a.y a.height) a.n c.requires.1, few _ _ _ _ c.requires.0.area.work)
+    omega (arith, low-place (side a.sides.y a.sides.height) a.n c.requires.1, few _ _ _ _ c.requires.0.area.work)
 
 pub put_high-requires : goal.put_high-requires
 put_high-requires c =
@@ -100,8 +100,8 @@ returns c =
     let copied = c.copy_part in
     let made = c.set_columns in
     let a = c.args in
-    let W = side a.x a.width in
-    let H = side a.y a.height in
+    let W = side a.sides.x a.sides.width in
+    let H = side a.sides.y a.sides.height in
     λ z₀ x₀ S.
     set-done a.first a.across W H _ z₀ x₀ a.n _ _ _ S c.requires.0.more c.requires.1 c.requires.0.area.plane.wide _ made.ensures _ _ _
     (λ small. c.lay_line.ensures small _ c.lift_row.ensures) (rw c.low_count-w.ensures at copied.ensures) c.put_high.ensures

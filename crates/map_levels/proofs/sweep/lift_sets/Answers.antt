@@ -56,5 +56,5 @@ pub returns : goal.returns
 returns c =
     let a = c.args in
     let low = c.low_count-low.ensures in
-    sets_end a.first a.across (side a.x a.width) (side a.y a.height) _ (at a.plane.now) (at a.work.now) _ _ _ c.loop-n.n
+    sets_end a.first a.across (side a.sides.x a.sides.width) (side a.sides.y a.sides.height) _ (at a.plane.now) (at a.work.now) _ _ _ c.loop-n.n
     (omega (arith, low, c.loop-n-test.false)) (c.loop-n.invariant.3 (at a.plane.now) (at a.work.now) c.first_high.ensures)

@@ -14,5 +14,5 @@ use Rattle.map_levels.proofs.sweep.lift_sets.Given as goal
 abbrev pub invariant-loop-n : goal.invariant-loop-n
 invariant-loop-n l =
     (length l.lines ≡ 4 * line_half) × (length l.plane ≡ length l.initial.plane) × (length l.work ≡ length l.initial.work)
-    × ((z₀ x₀ : ℕ → ℤ) → SetsDone five_three_filter l.first l.across (side l.x l.width) (side l.y l.height) (heights_at l.heights) z₀ x₀ 0 (at l.initial.plane) (at l.initial.work) (at l.initial.lines) →
-    SetsDone five_three_filter l.first l.across (side l.x l.width) (side l.y l.height) (heights_at l.heights) z₀ x₀ l.n (at l.plane) (at l.work) (at l.lines))
+    × ((z₀ x₀ : ℕ → ℤ) → SetsDone five_three_filter l.first l.across (side l.sides.x l.sides.width) (side l.sides.y l.sides.height) (heights_at l.heights) z₀ x₀ 0 (at l.initial.plane) (at l.initial.work) (at l.initial.lines) →
+    SetsDone five_three_filter l.first l.across (side l.sides.x l.sides.width) (side l.sides.y l.sides.height) (heights_at l.heights) z₀ x₀ l.n (at l.plane) (at l.work) (at l.lines))

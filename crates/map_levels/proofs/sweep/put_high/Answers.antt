@@ -8,16 +8,16 @@ use Rattle.map_levels.proofs.GridSweep.{row_room, rows-kept}
 use Rattle.map_levels.proofs.SweepSets.{high-put, high-left}
 use Rattle.map_levels.proofs.sweep.put_high.Goals as goal
 
-pub overflow_sub-height : goal.overflow_sub-height
-overflow_sub-height c = let a = c.args in omega (arith, c.low_count-low.ensures, counts (side a.y a.height))
+pub overflow_sub-sides : goal.overflow_sub-sides
+overflow_sub-sides c = let a = c.args in omega (arith, c.low_count-low.ensures, counts (side a.sides.y a.sides.height))
 
-pub returns-then-height-low : goal.returns-then-height-low
-returns-then-height-low c =
-    λ _. let a = c.args in high-left a.n (count hi (side a.y a.height)) _ _ (omega (
+pub returns-then-sides-low : goal.returns-then-sides-low
+returns-then-sides-low c =
+    λ _. let a = c.args in high-left a.n (count hi (side a.sides.y a.sides.height)) _ _ (omega (
       arith,
       c.low_count-low.ensures,
       counts
-          (side a.y a.height),
+          (side a.sides.y a.sides.height),
     ))
 
 pub overflow_add-r : goal.overflow_add-r
@@ -28,7 +28,7 @@ lay_line-requires c =
     let a = c.args in
     let R = c.requires.2 in
     let low = c.low_count-low.ensures in
-    let k = counts (side a.y a.height) in
+    let k = counts (side a.sides.y a.sides.height) in
     (omega arith, c.requires.1, R.wide, row_room _ _ _ _ _ R (omega arith))
 
 pub lift_row-requires : goal.lift_row-requires
@@ -36,7 +36,7 @@ lift_row-requires c =
     let a = c.args in
     let R = rows-kept c.lay_line.auto.plane c.requires.2 in
     let low = c.low_count-low.ensures in
-    let k = counts (side a.y a.height) in
+    let k = counts (side a.sides.y a.sides.height) in
     (R.wide, row_room _ _ _ _ _ R (omega arith))
 
 pub shape_of-plane : goal.shape_of-plane
@@ -45,7 +45,7 @@ shape_of-plane c = c.lift_row.auto.area ∙ c.lay_line.auto.plane
 pub returns : goal.returns
 returns c =
     let a = c.args in
-    let k = counts (side a.y a.height) in
+    let k = counts (side a.sides.y a.sides.height) in
     λ small.
-    high-put _ _ a.n _ _ (count hi (side a.y a.height)) _ _ _ c.low_count-low.ensures (omega (arith, c.low_count-low.ensures))
+    high-put _ _ a.n _ _ (count hi (side a.sides.y a.sides.height)) _ _ _ c.low_count-low.ensures (omega (arith, c.low_count-low.ensures))
     (c.lay_line.ensures small _ c.lift_row.ensures)

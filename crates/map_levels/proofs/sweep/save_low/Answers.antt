@@ -10,17 +10,17 @@ use Rattle.map_levels.proofs.sweep.save_low.Goals as goal
 pub returns-then-not-has_next : goal.returns-then-not-has_next
 returns-then-not-has_next c =
     let a = c.args in
-    low-none a.across (side a.x a.width) (side a.y a.height) _ _ _ _ c.low_count-w.ensures c.low_count-h.ensures
+    low-none a.across (side a.sides.x a.sides.width) (side a.sides.y a.sides.height) _ _ _ _ c.low-low.ensures.width c.low-low.ensures.height
     (sym c.has_next.ensures ∙ not-true _ c.if-not-has_next.true-raw)
 
 pub save-requires : goal.save-requires
 save-requires c =
     let a = c.args in
-    let W = side a.x a.width in
-    let H = side a.y a.height in
+    let W = side a.sides.x a.sides.width in
+    let H = side a.sides.y a.sides.height in
     let on = has-next _ _ _ (sym c.has_next.ensures ∙ not-false _ c.if-not-has_next.false-raw) in (
-      rows-corner _ _ _ W H _ _ c.low_count-w.ensures c.low_count-h.ensures on.2 c.requires.0 refl,
-      low-rows _ W H _ _ c.low_count-w.ensures c.low_count-h.ensures on.1 on.2 c.requires.1,
+      rows-corner _ _ _ W H _ _ c.low-low.ensures.width c.low-low.ensures.height on.2 c.requires.0 refl,
+      low-rows _ W H _ _ c.low-low.ensures.width c.low-low.ensures.height on.1 on.2 c.requires.1,
     )
 
 pub shape_of-work : goal.shape_of-work
@@ -29,8 +29,8 @@ shape_of-work c = c.save.auto.work
 pub returns : goal.returns
 returns c =
     let a = c.args in
-    let W = side a.x a.width in
-    let H = side a.y a.height in
+    let W = side a.sides.x a.sides.width in
+    let H = side a.sides.y a.sides.height in
     let on = has-next _ _ _ (sym c.has_next.ensures ∙ not-false _ c.if-not-has_next.false-raw) in
-    low-saved a.across W H _ _ _ _ c.low_count-w.ensures c.low_count-h.ensures _ _ on.1 on.2
-    (low-rows _ W H _ _ c.low_count-w.ensures c.low_count-h.ensures on.1 on.2 c.requires.1) c.save.ensures
+    low-saved a.across W H _ _ _ _ c.low-low.ensures.width c.low-low.ensures.height _ _ on.1 on.2
+    (low-rows _ W H _ _ c.low-low.ensures.width c.low-low.ensures.height on.1 on.2 c.requires.1) c.save.ensures
