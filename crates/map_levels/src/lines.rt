@@ -7,6 +7,7 @@ ghost use Rattle.areas.specs.Areas.{heights_at};
 ghost use Rattle.map_levels.specs.Sweep.{line_half, line_at, place_lifted, place_ended, ColumnsMade, SmallLine, short_lifted, line_lifted, source_grid};
 
 use crate::{levels, rowwise, short};
+use areas::elements::Element;
 
 // Two lines stand in one array at fixed distances, the high one first: the compiler then needs no test whether they overlap. Of a line the even columns come
 // first, and HALF numbers further its odd ones.
@@ -22,68 +23,32 @@ fn lift_place(lines: &mut [i32], k: usize, e: i32, b: i32, c: i32)
     lines[k] = d;
 }
 
-// The same of heights p, q and r, and of numbers.
-fn lift_heights(heights: &[u16], p: usize, q: usize, r: usize, lines: &mut [i32], k: usize)
-    requires { (p < length heights.now) × (q < length heights.now) × (r < length heights.now) × (k < 2 * line_half)
-        × (4 * line_half ≤ length lines.old) }
-    ensures { at lines.new ≡
-        place_lifted k (heights_at heights.now p) (heights_at heights.now q) (heights_at heights.now r)
-        (at lines.old) }
-{
-    lift_place(
-        lines,
-        k,
-        heights[p] as i32,
-        heights[q] as i32,
-        heights[r] as i32,
-    );
-}
-
-fn lift_numbers(area: &[i32], p: usize, q: usize, r: usize, lines: &mut [i32], k: usize)
+// The same of the elements p, q and r of an area.
+fn lift_elements<T: Element>(area: &[T], p: usize, q: usize, r: usize, lines: &mut [i32], k: usize)
     requires { (p < length area.now) × (q < length area.now) × (r < length area.now) × (k < 2 * line_half) × (4 * line_half ≤ length lines.old) }
     ensures { at lines.new ≡
-        place_lifted k (at area.now p) (at area.now q) (at area.now r) (at lines.old) }
+        place_lifted k (T.read area.now p) (T.read area.now q) (T.read area.now r) (at lines.old) }
 {
-    lift_place(lines, k, area[p], area[q], area[r]);
+    lift_place(lines, k, area[p].value(), area[q].value(), area[r].value());
 }
 
-// All columns of the rows of heights that begin at places a, b and c: a pair a turn, which parts them on the way.
-fn heights_columns(heights: &[u16], a: usize, b: usize, c: usize, width: usize, lines: &mut [i32])
-    requires { (a + width ≤ length heights.now) × (b + width ≤ length heights.now) × (c + width ≤ length heights.now) × (width ≤ 2 * line_half)
-        × (4 * line_half ≤ length lines.old) }
-    ensures { ColumnsMade false width (λ i. heights_at heights.now (a + i)) (λ i. heights_at heights.now (b + i))
-        (λ i. heights_at heights.now (c + i)) (at lines.old) (at lines.new) }
-{
-    let pairs = width / 2;
-    for k in 0..pairs {
-        let i = 2 * k;
-        let j = i + 1;
-        lift_heights(heights, a + i, b + i, c + i, lines, k);
-        lift_heights(heights, a + j, b + j, c + j, lines, HALF + k);
-    }
-    let i = 2 * pairs;
-    if i < width {
-        lift_heights(heights, a + i, b + i, c + i, lines, pairs);
-    }
-}
-
-// And of numbers.
-fn numbers_columns(area: &[i32], a: usize, b: usize, c: usize, width: usize, lines: &mut [i32])
+// All columns of the rows of an area that begin at places a, b and c: a pair a turn, which parts them on the way.
+fn lift_all<T: Element>(area: &[T], a: usize, b: usize, c: usize, width: usize, lines: &mut [i32])
     requires { (a + width ≤ length area.now) × (b + width ≤ length area.now) × (c + width ≤ length area.now) × (width ≤ 2 * line_half)
         × (4 * line_half ≤ length lines.old) }
-    ensures { ColumnsMade false width (λ i. at area.now (a + i)) (λ i. at area.now (b + i))
-        (λ i. at area.now (c + i)) (at lines.old) (at lines.new) }
+    ensures { ColumnsMade false width (λ i. T.read area.now (a + i)) (λ i. T.read area.now (b + i))
+        (λ i. T.read area.now (c + i)) (at lines.old) (at lines.new) }
 {
     let pairs = width / 2;
     for k in 0..pairs {
         let i = 2 * k;
         let j = i + 1;
-        lift_numbers(area, a + i, b + i, c + i, lines, k);
-        lift_numbers(area, a + j, b + j, c + j, lines, HALF + k);
+        lift_elements(area, a + i, b + i, c + i, lines, k);
+        lift_elements(area, a + j, b + j, c + j, lines, HALF + k);
     }
     let i = 2 * pairs;
     if i < width {
-        lift_numbers(area, a + i, b + i, c + i, lines, pairs);
+        lift_elements(area, a + i, b + i, c + i, lines, pairs);
     }
 }
 
@@ -95,23 +60,13 @@ fn end_place(lines: &mut [i32], k: usize, e: i32)
     lines[2 * HALF + k] = short::update(e, lines[k], lines[k]);
 }
 
-fn heights_end(heights: &[u16], a: usize, width: usize, lines: &mut [i32])
-    requires { (a + width ≤ length heights.now) × (width ≤ 2 * line_half) × (4 * line_half ≤ length lines.old) }
-    ensures { (b c : ℕ → ℤ) → ColumnsMade true width (λ i. heights_at heights.now (a + i)) b c (at lines.old)
-        (at lines.new) }
-{
-    for i in 0..width {
-        end_place(lines, i % 2 * HALF + i / 2, heights[a + i] as i32);
-    }
-}
-
-fn numbers_end(area: &[i32], a: usize, width: usize, lines: &mut [i32])
+fn end_all<T: Element>(area: &[T], a: usize, width: usize, lines: &mut [i32])
     requires { (a + width ≤ length area.now) × (width ≤ 2 * line_half) × (4 * line_half ≤ length lines.old) }
-    ensures { (b c : ℕ → ℤ) → ColumnsMade true width (λ i. at area.now (a + i)) b c (at lines.old)
+    ensures { (b c : ℕ → ℤ) → ColumnsMade true width (λ i. T.read area.now (a + i)) b c (at lines.old)
         (at lines.new) }
 {
     for i in 0..width {
-        end_place(lines, i % 2 * HALF + i / 2, area[a + i]);
+        end_place(lines, i % 2 * HALF + i / 2, area[a + i].value());
     }
 }
 
@@ -134,10 +89,10 @@ pub fn lift_columns(
         (source_grid first width (heights_at heights.now) (at work.now) c) (at lines.old) (at lines.new) }
 {
     if first {
-        heights_columns(heights, a * width, b * width, c * width, width, lines);
+        lift_all(heights, a * width, b * width, c * width, width, lines);
         return;
     }
-    numbers_columns(work, a * width, b * width, c * width, width, lines);
+    lift_all(work, a * width, b * width, c * width, width, lines);
 }
 
 // And row a alone, the last one.
@@ -154,10 +109,10 @@ pub fn end_columns(
         (at lines.old) (at lines.new) }
 {
     if first {
-        heights_end(heights, a * width, width, lines);
+        end_all(heights, a * width, width, lines);
         return;
     }
-    numbers_end(work, a * width, width, lines);
+    end_all(work, a * width, width, lines);
 }
 
 // The line that begins at place `base` to row r of the plane, in halves: lifted there, the row is the line lifted.

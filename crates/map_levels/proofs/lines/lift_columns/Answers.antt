@@ -12,8 +12,8 @@ overflow_mul-b c = omega (arith, from_first c.args.first _ _ _ c.requires.1 c.if
 pub overflow_mul-c : goal.overflow_mul-c
 overflow_mul-c c = omega (arith, from_first c.args.first _ _ _ c.requires.2 c.if-first.true)
 
-pub heights_columns-requires : goal.heights_columns-requires
-heights_columns-requires c = (
+pub lift_all-requires : goal.lift_all-requires
+lift_all-requires c = (
   from_first c.args.first _ _ _ c.requires.0 c.if-first.true,
   from_first
       c.args.first _ _ _ c.requires.1 c.if-first.true,
@@ -24,10 +24,10 @@ heights_columns-requires c = (
 )
 
 pub shape_of-lines-then-first : goal.shape_of-lines-then-first
-shape_of-lines-then-first c = c.heights_columns.auto.lines
+shape_of-lines-then-first c = c.lift_all.auto.lines
 
 pub returns-then-first : goal.returns-then-first
-returns-then-first c = rows-first _ _ _ _ _ _ _ _ _ _ c.if-first.true c.heights_columns.ensures
+returns-then-first c = rows-first _ _ _ _ _ _ _ _ _ _ c.if-first.true c.lift_all.ensures
 
 pub overflow_mul-a-2 : goal.overflow_mul-a-2
 overflow_mul-a-2 c = omega (arith, from-work c.args.first _ _ _ c.requires.0 c.if-first.false)
@@ -38,8 +38,8 @@ overflow_mul-b-2 c = omega (arith, from-work c.args.first _ _ _ c.requires.1 c.i
 pub overflow_mul-c-2 : goal.overflow_mul-c-2
 overflow_mul-c-2 c = omega (arith, from-work c.args.first _ _ _ c.requires.2 c.if-first.false)
 
-pub numbers_columns-requires : goal.numbers_columns-requires
-numbers_columns-requires c = (
+pub lift_all-requires-2 : goal.lift_all-requires-2
+lift_all-requires-2 c = (
   from-work c.args.first _ _ _ c.requires.0 c.if-first.false,
   from-work
       c.args.first _ _ _ c.requires.1 c.if-first.false,
@@ -50,7 +50,7 @@ numbers_columns-requires c = (
 )
 
 pub shape_of-lines : goal.shape_of-lines
-shape_of-lines c = c.numbers_columns.auto.lines
+shape_of-lines c = c.lift_all-2.auto.lines
 
 pub returns : goal.returns
-returns c = rows-work _ _ _ _ _ _ _ _ _ _ c.if-first.false c.numbers_columns.ensures
+returns c = rows-work _ _ _ _ _ _ _ _ _ _ c.if-first.false c.lift_all-2.ensures
