@@ -7,64 +7,67 @@ pub const FAR: usize = 1048576;
 // A number z of the second arithmetic is held as BASE + z.
 pub const BASE: u64 = 1099511627776;
 
-// The book is one area for all that is expected: the second plane from place 0 on, an area to lift it by (OTHER), how many rows are due (DUE),
-// and the list of rows or steps (LIST).
-pub const OTHER: usize = 6160;
+// More numbers than any map that is compared has.
+pub const PLANE: usize = 6160;
 
-pub const DUE: usize = 12320;
+// Numbers that are compared, each as one of the second arithmetic.
+pub trait Number: Copy {
+    // What stands for a number past the end of an area: none that is compared.
+    const NONE: u64;
 
-pub const LIST: usize = 13360;
-
-pub const STEPS: usize = 4200;
-
-pub const BOOK: usize = 17560;
-
-// What a lent area holds where nothing should be written.
-pub const MARK: i32 = 1234567;
-
-pub const MARK_HEIGHT: u16 = 12345;
-
-// The number at a place; 0 past the end, which stands for none that is compared.
-pub fn read(a: &[u64], i: usize) -> u64 {
-    if i < a.len() {
-        return a[i];
-    }
-    0
+    fn raised(self) -> u64;
 }
 
-pub fn write(a: &mut [u64], i: usize, v: u64) {
+impl Number for u64 {
+    const NONE: u64 = 0;
+
+    fn raised(self) -> u64 {
+        self
+    }
+}
+
+impl Number for i32 {
+    const NONE: u64 = 1;
+
+    fn raised(self) -> u64 {
+        (self as i64 + 1099511627776) as u64
+    }
+}
+
+impl Number for u16 {
+    const NONE: u64 = 1;
+
+    fn raised(self) -> u64 {
+        self as u64 + BASE
+    }
+}
+
+// Numbers of areas that are lent.
+pub trait Lent: Number {
+    // What such an area holds where nothing should be written.
+    const MARK: Self;
+}
+
+impl Lent for i32 {
+    const MARK: i32 = 1234567;
+}
+
+impl Lent for u16 {
+    const MARK: u16 = 12345;
+}
+
+// The number at a place.
+pub fn read<T: Number>(a: &[T], i: usize) -> u64 {
+    if i < a.len() {
+        return a[i].raised();
+    }
+    T::NONE
+}
+
+pub fn write<T: Copy>(a: &mut [T], i: usize, v: T) {
     if i < a.len() {
         a[i] = v;
     }
-}
-
-// A number that counts something.
-pub fn read_count(a: &[u64], i: usize) -> usize {
-    read(a, i) as usize
-}
-
-// A coefficient, and a height, as a number of the second arithmetic.
-pub fn raised(c: i32) -> u64 {
-    (c as i64 + 1099511627776) as u64
-}
-
-pub fn raised_height(h: u16) -> u64 {
-    h as u64 + BASE
-}
-
-// The same at a place; 1 past the end, which stands for none either.
-pub fn read_coefficient(a: &[i32], i: usize) -> u64 {
-    if i < a.len() {
-        return raised(a[i]);
-    }
-    1
-}
-
-pub fn read_height(a: &[u16], i: usize) -> u64 {
-    if i < a.len() {
-        return raised_height(a[i]);
-    }
-    1
 }
 
 // ⌈n / 2⌉
@@ -75,20 +78,10 @@ pub fn half(n: usize) -> usize {
 // T.800, B.5: where a level's part of a side begins, or ends, of a side that begins, or ends, at coordinate c: ⌈c / 2^level⌉.
 pub fn bound(c: usize, level: usize) -> usize {
     let mut s = c;
-    let mut k = 0;
-    while k < level {
+    for _ in 0..level {
         s = half(s);
-        k += 1;
     }
     s
-}
-
-// a − b, and 0 where that is less.
-pub fn less(a: usize, b: usize) -> usize {
-    if a < b {
-        return 0;
-    }
-    a - b
 }
 
 fn product(a: usize, b: usize) -> usize
@@ -114,84 +107,29 @@ pub fn cell(width: usize, r: usize, c: usize) -> usize
     product(r, width) + c
 }
 
-fn set_mark(a: &mut [i32], i: usize) {
-    if i < a.len() {
-        a[i] = MARK;
-    }
-}
-
-fn set_height_mark(a: &mut [u16], i: usize) {
-    if i < a.len() {
-        a[i] = MARK_HEIGHT;
-    }
-}
-
-// The coefficients of an area, all marks.
-pub fn mark(a: &mut [i32]) {
-    let n = a.len();
-    let mut i = 0;
-    while i < n {
-        set_mark(a, i);
-        i += 1;
-    }
-}
-
-pub fn mark_heights(a: &mut [u16]) {
-    let n = a.len();
-    let mut i = 0;
-    while i < n {
-        set_height_mark(a, i);
-        i += 1;
-    }
-}
-
 // 1 where two numbers differ.
-pub fn differ(a: u64, b: u64) -> u64 {
-    if a == b { 0 } else { 1 }
-}
-
-pub fn differ_count(a: usize, b: usize) -> u64 {
+pub fn differ<T: PartialEq + Copy>(a: T, b: T) -> u64 {
     if a == b { 0 } else { 1 }
 }
 
 pub fn sum(a: u64, b: u64) -> u64 {
-    std::num::wrapping_add_u64(a, b)
+    a.wrapping_add(b)
 }
 
-// How many numbers of `a` are no marks from place n on.
-pub fn unmarked(a: &[i32], n: usize) -> u64 {
+// How many numbers of a lent area are no marks from place n on.
+pub fn unmarked<T: Lent>(a: &[T], n: usize) -> u64 {
     let mut found = 0;
-    let mut i = n;
-    while i < a.len() {
-        found = sum(found, differ(read_coefficient(a, i), raised(MARK)));
-        i += 1;
-    }
-    found
-}
-
-pub fn unmarked_heights(a: &[u16], n: usize) -> u64 {
-    let mut found = 0;
-    let mut i = n;
-    while i < a.len() {
-        found = sum(found, differ(read_height(a, i), raised_height(MARK_HEIGHT)));
-        i += 1;
+    for i in n..a.len() {
+        found = sum(found, differ(a[i].raised(), T::MARK.raised()));
     }
     found
 }
 
 // How many of the first n numbers of `a` differ from those of `b` from place `start` on.
-pub fn differences(a: &[i32], n: usize, b: &[u64], start: usize) -> u64 {
+pub fn differences<A: Number, B: Number>(a: &[A], n: usize, b: &[B], start: usize) -> u64 {
     let mut found = 0;
-    let mut i = 0;
-    while i < n {
-        found = sum(
-            found,
-            differ(
-                read_coefficient(a, i),
-                read(b, std::num::wrapping_add_usize(start, i)),
-            ),
-        );
-        i += 1;
+    for i in 0..n {
+        found = sum(found, differ(read(a, i), read(b, start.wrapping_add(i))));
     }
     found
 }
@@ -199,27 +137,8 @@ pub fn differences(a: &[i32], n: usize, b: &[u64], start: usize) -> u64 {
 // How many of the first n numbers of `a` are not 0.
 pub fn not_zero(a: &[i32], n: usize) -> u64 {
     let mut found = 0;
-    let mut i = 0;
-    while i < n {
-        found = sum(found, differ(read_coefficient(a, i), BASE));
-        i += 1;
-    }
-    found
-}
-
-// How many of the first n heights of `a` differ from those of `b` from place `start` on.
-pub fn height_differences(a: &[u16], n: usize, b: &[u16], start: usize) -> u64 {
-    let mut found = 0;
-    let mut i = 0;
-    while i < n {
-        found = sum(
-            found,
-            differ(
-                read_height(a, i),
-                read_height(b, std::num::wrapping_add_usize(start, i)),
-            ),
-        );
-        i += 1;
+    for i in 0..n {
+        found = sum(found, differ(read(a, i), BASE));
     }
     found
 }

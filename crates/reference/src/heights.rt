@@ -4,13 +4,32 @@ use wavelet::limits;
 use wavelet::shape::Shape;
 
 // Kinds of heights.
-const KINDS: usize = 6;
+#[derive(Clone, Copy)]
+enum Kind {
+    Any,
+    Zero,
+    Largest,
+    ZeroOrLargest,
+    Small,
+    Slope,
+}
+
+const KINDS: [Kind; KIND_COUNT] = [
+    Kind::Any,
+    Kind::Zero,
+    Kind::Largest,
+    Kind::ZeroOrLargest,
+    Kind::Small,
+    Kind::Slope,
+];
+
+const KIND_COUNT: usize = 6;
 
 // 97 sizes: 9 × 9 small ones and the 16 of `large`.
 const SIZES: usize = 97;
 
 // At every number of levels, with heights of every kind: once at origin 0,
-pub const AT_ZERO: usize = SIZES * limits::MAX_LEVELS * KINDS;
+pub const AT_ZERO: usize = SIZES * limits::MAX_LEVELS * KIND_COUNT;
 
 // and once more at origins from 0 to 3 each way.
 pub const MAPS: usize = 2 * AT_ZERO;
@@ -24,17 +43,6 @@ pub fn shape_of(width: usize, height: usize, levels: usize) -> Shape {
         x: 0,
         y: 0,
         filter: 0,
-    }
-}
-
-fn placed(s: Shape, x: u16, y: u16) -> Shape {
-    Shape {
-        width: s.width,
-        height: s.height,
-        levels: s.levels,
-        x,
-        y,
-        filter: s.filter,
     }
 }
 
@@ -61,7 +69,7 @@ fn large(i: usize, levels: usize) -> Shape {
 
 // The size and the levels of map number i at origin 0.
 fn size_at(i: usize) -> Shape {
-    let size = i / (limits::MAX_LEVELS * KINDS);
+    let size = i / (limits::MAX_LEVELS * KIND_COUNT);
     let levels = i % limits::MAX_LEVELS + 1;
     if size < 81 {
         return shape_of(size % 9 + 1, size / 9 + 1, levels);
@@ -75,7 +83,11 @@ pub fn shape_at(i: usize) -> Shape {
         return size_at(i);
     }
     let j = i - AT_ZERO;
-    placed(size_at(j), (j % 4) as u16, (j / 4 % 4) as u16)
+    Shape {
+        x: (j % 4) as u16,
+        y: (j / 4 % 4) as u16,
+        ..size_at(j)
+    }
 }
 
 // How many heights a map has.
@@ -93,71 +105,58 @@ pub fn up_to(seed: u64, n: usize, times: usize) -> usize {
     (seed % (area::FAR as u64)) as usize % (area::cell(n, times, 0) + 1)
 }
 
-// A height of a kind: any; all 0; all the largest; 0 or the largest; small ones; a slope.
-fn height(kind: usize, seed: u64, i: usize) -> u16 {
+// A height of a kind.
+fn height(kind: Kind, seed: u64, i: usize) -> u16 {
     match kind {
-        0 => (seed % 65536) as u16,
-        1 => 0,
-        2 => limits::MAX_SAMPLE as u16,
-        3 => {
+        Kind::Any => (seed % 65536) as u16,
+        Kind::Zero => 0,
+        Kind::Largest => limits::MAX_SAMPLE as u16,
+        Kind::ZeroOrLargest => {
             if seed % 2 == 0 {
                 return 0;
             }
             limits::MAX_SAMPLE as u16
         }
-        4 => (seed % 8) as u16,
-        _ => ((i % 257) * 255) as u16,
-    }
-}
-
-fn set_height(map: &mut [u16], i: usize, v: u16) {
-    if i < map.len() {
-        map[i] = v;
+        Kind::Small => (seed % 8) as u16,
+        Kind::Slope => ((i % 257) * 255) as u16,
     }
 }
 
 // The heights of map number i at the front of `map`.
 pub fn fill(map: &mut [u16], i: usize) {
-    let n = count(shape_at(i));
-    let kind = i / limits::MAX_LEVELS % KINDS;
+    let kind = KINDS[i / limits::MAX_LEVELS % KIND_COUNT];
     let mut seed = next(area::sum(i as u64, 1));
-    let mut j = 0;
-    while j < n {
+    for j in 0..count(shape_at(i)) {
         seed = next(seed);
-        set_height(map, j, height(kind, seed, j));
-        j += 1;
+        area::write(map, j, height(kind, seed, j));
     }
 }
 
 // The first n heights as numbers of the second arithmetic.
-pub fn load(map: &[u16], book: &mut [u64], n: usize) {
-    let mut j = 0;
-    while j < n {
-        area::write(book, j, area::read_height(map, j));
-        j += 1;
+pub fn load(map: &[u16], plane: &mut [u64], n: usize) {
+    for j in 0..n {
+        area::write(plane, j, area::read(map, j));
     }
 }
 
 // How many columns and rows the low-low part of a level has; of level 0 it is the map.
 pub fn columns_at(s: Shape, level: usize) -> usize {
     let x = s.x as usize;
-    let end = std::num::wrapping_add_usize(x, s.width);
-    area::less(area::bound(end, level), area::bound(x, level))
+    let end = x.wrapping_add(s.width);
+    area::bound(end, level).saturating_sub(area::bound(x, level))
 }
 
 pub fn rows_at(s: Shape, level: usize) -> usize {
     let y = s.y as usize;
-    let end = std::num::wrapping_add_usize(y, s.height);
-    area::less(area::bound(end, level), area::bound(y, level))
+    let end = y.wrapping_add(s.height);
+    area::bound(end, level).saturating_sub(area::bound(y, level))
 }
 
 // 4 × (W(0) + ... + W(L−1))
 pub fn store_length(s: Shape) -> usize {
-    let mut sum = 0;
-    let mut k = 0;
-    while k < s.levels {
-        sum = std::num::wrapping_add_usize(sum, area::cell(columns_at(s, k), 4, 0));
-        k += 1;
+    let mut sum: usize = 0;
+    for k in 0..s.levels {
+        sum = sum.wrapping_add(area::cell(columns_at(s, k), 4, 0));
     }
     sum
 }

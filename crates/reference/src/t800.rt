@@ -41,18 +41,7 @@ fn mirror(i: usize, n: usize) -> usize {
 fn held(z: u64) -> u64
     ensures { result ≤ 2199023255552 }
 {
-    if 2199023255552 < z {
-        return 2199023255552;
-    }
-    z
-}
-
-// a − b, where it is not negative: it never is.
-fn minus(a: u64, b: u64) -> u64 {
-    if a < b {
-        return 0;
-    }
-    a - b
+    z.min(2199023255552)
 }
 
 // Sample i − 2 of a line.
@@ -71,7 +60,7 @@ fn high(a: &[u64], line: Line, i: usize) -> u64
     let before = sample(a, line, i - 1);
     let after = sample(a, line, i + 1);
     let x = sample(a, line, i);
-    held(minus(x + area::BASE, (before + after) / 2))
+    held((x + area::BASE).saturating_sub((before + after) / 2))
 }
 
 // The low value at the even place i: s = x(i) + ⌊(d(i − 1) + d(i + 1) + 2) / 4⌋. Half the base comes in with the two d, and goes.
@@ -81,7 +70,7 @@ fn low(a: &[u64], line: Line, i: usize) -> u64
     let before = high(a, line, i - 1);
     let after = high(a, line, i + 1);
     let x = sample(a, line, i);
-    minus(x + (before + after + 2) / 4, area::BASE / 2)
+    (x + (before + after + 2) / 4).saturating_sub(area::BASE / 2)
 }
 
 // Whether place i of a line that starts at a coordinate has an even coordinate.
@@ -95,7 +84,7 @@ fn only(a: &[u64], line: Line, i: usize) -> u64 {
     if is_even(i, line.from) {
         return x;
     }
-    minus(2 * x, area::BASE)
+    (2 * x).saturating_sub(area::BASE)
 }
 
 // What a lifted line has at its place i, low and high values interleaved.
@@ -117,9 +106,9 @@ fn deinterleaved(i: usize, n: usize, from: usize) -> usize {
     if is_even(i, from) {
         return i / 2;
     }
-    let end = std::num::wrapping_add_usize(from, n);
-    let low = area::less(area::half(end), area::half(from));
-    std::num::wrapping_add_usize(low, i / 2)
+    let end = from.wrapping_add(n);
+    let low = area::half(end).saturating_sub(area::half(from));
+    low.wrapping_add(i / 2)
 }
 
 // A part of the plane that is lifted: its rows are `across` apart, and it has these columns and rows from these coordinates on.
@@ -143,82 +132,69 @@ fn part_at(s: Shape, level: usize) -> Part {
     }
 }
 
-// One value of the columns' lift, from the plane to the second area.
-fn lift_column_place(book: &mut [u64], p: Part, j: usize) {
-    if p.w == 0 {
-        return;
-    }
-    let r = j / p.w;
-    let c = j % p.w;
-    let line = Line {
-        start: c,
-        step: p.across,
-        count: p.h,
-        from: p.y,
-    };
-    let v = lifted(book, line, r);
-    area::write(book, area::OTHER + area::cell(p.across, r, c), v);
+// What the second arithmetic works in: the plane, and an area as large to lift it by.
+#[derive(Drop)]
+pub struct Book {
+    pub plane: [u64; area::PLANE],
+    other: [u64; area::PLANE],
 }
 
-// All columns of a part of a plane.
-fn lift_columns(book: &mut [u64], p: Part) {
-    let n = area::cell(p.w, p.h, 0);
-    let mut j = 0;
-    while j < n {
-        lift_column_place(book, p, j);
-        j += 1;
+impl Book {
+    pub fn new() -> Book {
+        Book {
+            plane: [0; area::PLANE],
+            other: [0; area::PLANE],
+        }
     }
-}
 
-// One value of the rows' lift, from the second area to where its band stands in the plane.
-fn lift_row_place(book: &mut [u64], p: Part, j: usize) {
-    if p.w == 0 {
-        return;
+    // All columns of a part of the plane, to the second area.
+    fn lift_columns(&mut self, p: Part) {
+        for r in 0..p.h {
+            for c in 0..p.w {
+                let line = Line {
+                    start: c,
+                    step: p.across,
+                    count: p.h,
+                    from: p.y,
+                };
+                let v = lifted(&self.plane, line, r);
+                area::write(&mut self.other, area::cell(p.across, r, c), v);
+            }
+        }
     }
-    let r = j / p.w;
-    let c = j % p.w;
-    let line = Line {
-        start: area::OTHER + area::cell(p.across, r, 0),
-        step: 1,
-        count: p.w,
-        from: p.x,
-    };
-    let v = lifted(book, line, c);
-    area::write(
-        book,
-        area::cell(
-            p.across,
-            deinterleaved(r, p.h, p.y),
-            deinterleaved(c, p.w, p.x),
-        ),
-        v,
-    );
-}
 
-fn lift_rows(book: &mut [u64], p: Part) {
-    let n = area::cell(p.w, p.h, 0);
-    let mut j = 0;
-    while j < n {
-        lift_row_place(book, p, j);
-        j += 1;
+    // All rows, from the second area to where their bands stand in the plane.
+    fn lift_rows(&mut self, p: Part) {
+        for r in 0..p.h {
+            let line = Line {
+                start: area::cell(p.across, r, 0),
+                step: 1,
+                count: p.w,
+                from: p.x,
+            };
+            let row = deinterleaved(r, p.h, p.y);
+            for c in 0..p.w {
+                let v = lifted(&self.other, line, c);
+                let place = area::cell(p.across, row, deinterleaved(c, p.w, p.x));
+                area::write(&mut self.plane, place, v);
+            }
+        }
     }
-}
 
-// The plane of the map that stands at the front of the book.
-pub fn transform(book: &mut [u64], s: Shape) {
-    let mut k = 0;
-    while k < s.levels {
-        let p = part_at(s, k);
-        lift_columns(book, p);
-        lift_rows(book, p);
-        k += 1;
+    // The plane of the map that stands in it.
+    fn transform(&mut self, s: Shape) {
+        for level in 0..s.levels {
+            let p = part_at(s, level);
+            self.lift_columns(p);
+            self.lift_rows(p);
+        }
     }
-}
 
-// Map number i, and its plane at the front of the book.
-pub fn prepare(i: usize, map: &mut [u16], book: &mut [u64]) {
-    let s = heights::shape_at(i);
-    heights::fill(map, i);
-    heights::load(map, book, heights::count(s));
-    transform(book, s);
+    // Map number i, and its plane.
+    pub fn prepare(&mut self, i: usize, map: &mut [u16]) {
+        let s = heights::shape_at(i);
+        heights::fill(map, i);
+        heights::load(map, &mut self.plane, heights::count(s));
+        self.transform(s);
+    }
 }

@@ -3,7 +3,7 @@ use crate::area;
 use std::io;
 use std::io::Print;
 
-#[derive(Clone, Copy)]
+#[derive(Clone, Copy, Default)]
 pub struct Tally {
     pub runs: u64,
     pub numbers: u64,
@@ -11,14 +11,6 @@ pub struct Tally {
 }
 
 impl Tally {
-    pub fn new() -> Tally {
-        Tally {
-            runs: 0,
-            numbers: 0,
-            differences: 0,
-        }
-    }
-
     // One run more.
     pub fn more(self, numbers: u64, differences: u64) -> Tally {
         Tally {
