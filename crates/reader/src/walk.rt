@@ -266,9 +266,9 @@ fn work_by(
     ensures kept { Kept ((filter_of filter).rows * w) (at stretch.old) (at stretch.new) }
 {
     if admission != 0 {
-        return back::work_tolerant(stretch, last, k, w, h, n) == 0;
+        return back::work_tolerant(stretch, last, k, w, h, n).is_ok();
     }
-    back::work_set(stretch, filter, last, k, w, h, x, y, n) == 0
+    back::work_set(stretch, filter, last, k, w, h, x, y, n).is_ok()
 }
 
 // The set of l, level k + 1, worked out in the level's own stretch, if the level has it. Its rows are low-low values of level `base` + k of the map that the

@@ -17,4 +17,4 @@ pub mod CallLaws
 pub mod PairMade
 pub mod TolerantColumns
 pub mod TolerantCalls
-mod Clauses
+pub mod Clauses

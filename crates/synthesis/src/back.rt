@@ -2,6 +2,7 @@
 ghost use Rattle.std.specs.Prelude.{◌≡◌, ◌+◌, ◌*◌, ◌≤◌, leb, ltb, eqb, length};
 ghost use Rattle.numbers.specs.Signal.{at, pick, both};
 ghost use Rattle.lifting.specs.Grid.{side};
+ghost use Rattle.refusal.specs.Numbers.{answer};
 ghost use Rattle.wavelet.specs.Order.{last_set};
 ghost use Rattle.level.specs.Tried.{failed, outcome};
 ghost use Rattle.level.specs.Rebuilding.{widest, tallest, work_answer, Kept};
@@ -13,6 +14,7 @@ ghost use Rattle.synthesis.specs.Tolerant.{tolerant_back};
 use crate::{rows, tolerant, work};
 use areas::copies;
 use level::bounds as limits;
+use refusal::Refusal;
 use wavelet::sizes;
 
 // Where the row at r of a level of w columns begins; 0 where w is too large. The row lies within those kept. Set n has the rows at 2n and 2n + 1, row r of rows
@@ -44,10 +46,7 @@ fn has_set(h: usize, y: usize, n: usize) -> bool
     requires { h ≤ tallest }
     ensures { result ≡ both (ltb 0 h) (leb n (last_set (side y h))) }
 {
-    if h == 0 {
-        return false;
-    }
-    n <= (y % 2 + (h - 1)) / 2
+    0 < h && n <= (y % 2 + (h - 1)) / 2
 }
 
 // Whether set n can be worked out in `length` numbers.
@@ -80,8 +79,8 @@ fn can_work(
 }
 
 // Set n of a level that splits w columns from x on and h rows from y on worked out in its stretch; `last` says that it is level L. Its rows are low-low values
-// of level k (k = 0: heights). 14, and zeros in the level's own numbers, where one of those that it makes does not fit or a number that is halved is odd.
-// 5, and nothing changed, where the set can not be worked out there.
+// of level k (k = 0: heights). NoMap, and zeros in the level's own numbers, where one of those that it makes does not fit or a number that is halved is odd.
+// AreaShort, and nothing changed, where the set can not be worked out there.
 pub fn work_set(
     stretch: &mut [i32],
     filter: usize,
@@ -92,11 +91,11 @@ pub fn work_set(
     x: usize,
     y: usize,
     n: usize,
-) -> u8
-    ensures answer { result ≡
+) -> Result<(), Refusal>
+    ensures answer { answer result ≡
         work_answer (workable_of filter last k (side x w) (side y h) n (length stretch.old))
         ((back_of filter).work last k (side x w) (side y h) n (at stretch.old)) }
-    ensures memory { outcome (eqb result 0) (at stretch.new) ≡
+    ensures memory { outcome (eqb (answer result) 0) (at stretch.new) ≡
         pick (workable_of filter last k (side x w) (side y h) n (length stretch.old))
         ((back_of filter).work last k (side x w) (side y h) n (at stretch.old)) failed }
     ensures kept { Kept ((filter_of filter).rows * w) (at stretch.old) (at stretch.new) }
@@ -105,21 +104,28 @@ pub fn work_set(
         ((back_of filter).work last k (side x w) (side y h) n (at stretch.old)) (at stretch.old) }
 {
     if !can_work(filter, last, k, w, h, x, y, n, stretch.len()) {
-        return 5;
+        return Err(Refusal::AreaShort);
     }
     if work::work_set(stretch, filter, last, k, w, h, x, y, n) {
-        return 0;
+        return Ok(());
     }
     let _ = copies::clear(stretch, filters::rows_kept(filter) * w);
-    14
+    Err(Refusal::NoMap)
 }
 
-// The same of a tolerant reader: the 5/3, from the origin, each row limited to its level's range as it is made. It never gives 14.
-pub fn work_tolerant(stretch: &mut [i32], last: bool, k: usize, w: usize, h: usize, n: usize) -> u8
-    ensures answer { result ≡
+// The same of a tolerant reader: the 5/3, from the origin, each row limited to its level's range as it is made. It never gives NoMap.
+pub fn work_tolerant(
+    stretch: &mut [i32],
+    last: bool,
+    k: usize,
+    w: usize,
+    h: usize,
+    n: usize,
+) -> Result<(), Refusal>
+    ensures answer { answer result ≡
         work_answer (workable_of 0 last k (side 0 w) (side 0 h) n (length stretch.old))
         (tolerant_back.work last k (side 0 w) (side 0 h) n (at stretch.old)) }
-    ensures memory { outcome (eqb result 0) (at stretch.new) ≡
+    ensures memory { outcome (eqb (answer result) 0) (at stretch.new) ≡
         pick (workable_of 0 last k (side 0 w) (side 0 h) n (length stretch.old))
         (tolerant_back.work last k (side 0 w) (side 0 h) n (at stretch.old)) failed }
     ensures kept { Kept ((filter_of 0).rows * w) (at stretch.old) (at stretch.new) }
@@ -128,11 +134,11 @@ pub fn work_tolerant(stretch: &mut [i32], last: bool, k: usize, w: usize, h: usi
         (tolerant_back.work last k (side 0 w) (side 0 h) n (at stretch.old)) (at stretch.old) }
 {
     if !can_work(0, last, k, w, h, 0, 0, n, stretch.len()) {
-        return 5;
+        return Err(Refusal::AreaShort);
     }
     if tolerant::work_set(stretch, last, k, w, h, n) {
-        return 0;
+        return Ok(());
     }
     let _ = copies::clear(stretch, filters::rows_kept(0) * w);
-    14
+    Err(Refusal::NoMap)
 }

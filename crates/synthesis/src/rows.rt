@@ -18,6 +18,7 @@ use crate::{neighbours, range};
 use areas::{lines, ranges};
 use level::sets;
 use lifting::pairs::Pair;
+use lifting::step::{Unpredict, Unupdate};
 use lifting::{line, pairs, rows, single};
 use nine_seven::{line as nine_seven_line, rows as nine_seven_rows};
 use wavelet::sizes;
@@ -57,7 +58,7 @@ pub fn undo_even(stretch: &mut [i32], filter: usize, w: usize, h: usize, y: usiz
     let a = neighbours::row_before(h, y, 1, q);
     let b = neighbours::row_after(h, y, 1, q);
     if filter == 0 {
-        rows::unupdate_row(stretch, w, w, q % 4, a % 4, b % 4);
+        let _ = rows::change_row::<Unupdate>(stretch, w, w, q % 4, a % 4, b % 4);
         return;
     }
     nine_seven_rows::unupdate_row(stretch, w, w, q % 8, a % 8, b % 8);
@@ -71,7 +72,7 @@ pub fn undo_odd(stretch: &mut [i32], filter: usize, w: usize, h: usize, y: usize
     let a = neighbours::row_before(h, y, 1, q);
     let b = neighbours::row_after(h, y, 1, q);
     if filter == 0 {
-        rows::unpredict_row(stretch, w, w, q % 4, a % 4, b % 4);
+        let _ = rows::change_row::<Unpredict>(stretch, w, w, q % 4, a % 4, b % 4);
         return;
     }
     let c = neighbours::row_before(h, y, 3, q);
@@ -96,7 +97,7 @@ pub fn make_both(stretch: &mut [i32], k: usize, w: usize, h: usize, y: usize, n:
         right: r % 4,
         before: b % 4,
     };
-    refusal::code(pairs::unlift_pair(stretch, w, w, pair, least, most)) == 0
+    pairs::unlift_pair(stretch, w, w, pair, least, most).is_ok()
 }
 
 // ---- whatever the filter
@@ -143,10 +144,7 @@ pub fn make_single(stretch: &mut [i32], filter: usize, k: usize, w: usize, q: us
 {
     let a = row_place(filter, w, q);
     let e = a + w;
-    if !single::halve_even(&mut stretch[a..e]) {
-        return false;
-    }
-    admit_row(stretch, filter, k, w, q)
+    single::halve_even(&mut stretch[a..e]) && admit_row(stretch, filter, k, w, q)
 }
 
 // The low-low row of set n from the next level's memory, which follows this one's.

@@ -73,10 +73,7 @@ pub fn unlift_set(
     ensures stretch_after { outcome result (at stretch.new) ≡ set_unlifted (columns_of filter) (side x w) (side y h) n (at stretch.old) }
     ensures kept { Kept ((filter_of filter).rows * w) (at stretch.old) (at stretch.new) }
 {
-    if !unlift_low(stretch, filter, w, h, x, y, n) {
-        return false;
-    }
-    unlift_high(stretch, filter, w, h, x, y, n)
+    unlift_low(stretch, filter, w, h, x, y, n) && unlift_high(stretch, filter, w, h, x, y, n)
 }
 
 // ---- the columns
@@ -108,10 +105,8 @@ fn make_pair(
     ensures kept { Kept ((filter_of filter).rows * w) (at stretch.old) (at stretch.new) }
 {
     rows::undo_odd(stretch, filter, w, h, y, 2 * m + 1);
-    if !rows::admit_row(stretch, filter, k, w, 2 * m + 1) {
-        return false;
-    }
-    rows::admit_row(stretch, filter, k, w, 2 * m + 2)
+    rows::admit_row(stretch, filter, k, w, 2 * m + 1)
+        && rows::admit_row(stretch, filter, k, w, 2 * m + 2)
 }
 
 // ---- the rows that set n makes
@@ -188,10 +183,8 @@ fn make_most(
         }
     }
     undo_low(stretch, filter, w, h, y, n);
-    if !make_first(stretch, filter, k, w, h, y, n) {
-        return false;
-    }
-    make_before(stretch, filter, filters::look_ahead(filter), k, w, h, y, n)
+    make_first(stretch, filter, k, w, h, y, n)
+        && make_before(stretch, filter, filters::look_ahead(filter), k, w, h, y, n)
 }
 
 // Of the last set the pairs that are nearer than the look-ahead: the 5/3 has none, the 9/7 one,
@@ -257,10 +250,7 @@ fn make_rest(
     if 2 * n + 2 < y % 2 + h {
         return true;
     }
-    if !make_own(stretch, filter, k, w, h, y, n) {
-        return false;
-    }
-    make_last(stretch, filter, k, w, h, y, n)
+    make_own(stretch, filter, k, w, h, y, n) && make_last(stretch, filter, k, w, h, y, n)
 }
 
 // The rows of set n lifted back along the row, its even row rebuilt, and the rows that it makes made.
@@ -279,10 +269,7 @@ fn make_rows(
         rows_made (columns_of filter) k w (side y h) n (even_done (columns_of filter) k w (side y h) n (at stretch.old)) }
     ensures kept { Kept ((filter_of filter).rows * w) (at stretch.old) (at stretch.new) }
 {
-    if !make_most(stretch, filter, k, w, h, y, n) {
-        return false;
-    }
-    make_rest(stretch, filter, k, w, h, y, n)
+    make_most(stretch, filter, k, w, h, y, n) && make_rest(stretch, filter, k, w, h, y, n)
 }
 
 fn make_set(
@@ -300,10 +287,7 @@ fn make_set(
     ensures stretch_after { outcome result (at stretch.new) ≡ set_made (columns_of filter) k (side x w) (side y h) n (at stretch.old) }
     ensures kept { Kept ((filter_of filter).rows * w) (at stretch.old) (at stretch.new) }
 {
-    if !unlift_set(stretch, filter, w, h, x, y, n) {
-        return false;
-    }
-    make_rows(stretch, filter, k, w, h, y, n)
+    unlift_set(stretch, filter, w, h, x, y, n) && make_rows(stretch, filter, k, w, h, y, n)
 }
 
 // The low-low row of set n, if there is one, from the next level, if there is one.

@@ -32,5 +32,5 @@ pub extern "C" fn nine_seven_work_set(
         work_left_of 1 (side x w) (workable_of 1 last k (side x w) (side y h) n (length stretch.old))
         ((back_of 1).work last k (side x w) (side y h) n (at stretch.old)) (at stretch.old) }
 {
-    back::work_set(stretch, 1, last, k, w, h, x, y, n) as u32
+    u32::from(refusal::code(back::work_set(stretch, 1, last, k, w, h, x, y, n)))
 }

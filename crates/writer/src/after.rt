@@ -7,7 +7,6 @@ use crate::{Writer, closing, draws, spare};
 use progress::levels::Level;
 
 // The row that waits is drawn; once finished and nothing waits, the levels close on.
-#[inline(always)]
 pub fn draw_and_close(s: Writer, from: Level, store: &mut [i32]) -> Writer
     requires { Drawable s (length store.old) × Reached s from }
     ensures { Drew s (at store.old) result (at store.new) }
@@ -34,7 +33,6 @@ pub fn draw_and_close(s: Writer, from: Level, store: &mut [i32]) -> Writer
 }
 
 // The row that waits is drawn; once nothing waits, the heights of the spare row go on.
-#[inline(always)]
 pub fn draw_and_move(s: Writer, from: Level, store: &mut [i32]) -> Writer
     requires { Drawable s (length store.old) × Reached s from × Spares s (length store.old) }
     ensures { DrewOn s (at store.old) result (at store.new) }

@@ -54,7 +54,6 @@ pub fn looked(s: Writer, q: Level) -> BandRow
 }
 
 // It is drawn: the next band of the set that has a row in it waits, or the set's LL row goes on.
-#[inline(always)]
 pub fn advance(s: Writer, q: Level, store: &mut [i32]) -> Wait
     requires { Drawable s (length store.old) × Reached s q }
     ensures { Left s.filter s.levels (columns_of s) (advanced s (at store.old)) result (at store.new) }

@@ -8,6 +8,7 @@ mod copies;
 mod draws;
 mod offers;
 mod questions;
+mod run_steps;
 pub mod runs;
 mod spare;
 
@@ -167,6 +168,7 @@ impl Writer {
         let mut s = self;
         let mut taken = 0;
         let mut n = offers::first(s, run.len());
+        // Stays: a turn takes as many heights as the row, the wait and the run leave, so no range or iterator tells the turns.
         while 0 < n {
             s = offers::put_heights(s, store, run, taken, n);
             taken += n;

@@ -46,10 +46,7 @@ pub fn reach(s: Writer, store: &mut [i32], column: usize) -> Writer
     ensures { Reaching s column (at store.old) result (at store.new) (length store.old) }
 {
     if column < s.width {
-        return Writer {
-            column,
-            ..s
-        };
+        return Writer { column, ..s };
     }
     let r = cascade::arrive(s.filter, store, s.levels, s.width, s.x, s.y, s.rows);
     Writer {
@@ -62,8 +59,7 @@ pub fn reach(s: Writer, store: &mut [i32], column: usize) -> Writer
     }
 }
 
-// A stretch of n heights of a run, from height `from` on; where it completes the row, what that makes. Inlined in an offer and in a run alike.
-#[inline(always)]
+// A stretch of n heights of a run, from height `from` on; where it completes the row, what that makes.
 pub fn put_heights(s: Writer, store: &mut [i32], run: &[u16], from: usize, n: usize) -> Writer
     requires { Taker s (length store.old) × (s.rows < max_height) × (s.column + n ≤ s.width) × (from + n ≤ length run.now) }
     ensures { HeightsTaken s run.now from n (at store.old) result (at store.new) (length store.old) }

@@ -12,7 +12,7 @@ ghost use Rattle.writer.specs.Runs.{named, begin, run_question, idle, run_reply,
 ghost use Rattle.writer.specs.RunSteps.{with_left, row_at, run_at, one_more, Ready, Draws, Turned, SetDrawn, Over};
 
 use crate::draws::PlacedRow;
-use crate::{Writer, after, copies, draws, offers, questions};
+use crate::{Writer, copies, draws, offers, questions, run_steps};
 use progress::levels::Level;
 use progress::{counts, levels};
 use refusal::Refusal;
@@ -51,10 +51,7 @@ struct Part {
 fn with_left(s: Writer, left: usize) -> Writer
     ensures { result ≡ with_left s left }
 {
-    Writer {
-        left,
-        ..s
-    }
+    Writer { left, ..s }
 }
 
 // A row's name at the front of an area.
@@ -122,6 +119,7 @@ fn first_rows(
     let mut left = s.left;
     let mut d = done;
     let mut next = counts::next_band(q.width, q.x, q.rows, q.y, q.set, counts::minus(left, 1));
+    // Stays: the next band is found by what the set has, and so is the end; a range would count bands that are passed over.
     while 0 < next {
         let spot = draws::waiting(with_left(s, left), q);
         if !put_row(spot, store, out, names, d) {
@@ -154,7 +152,7 @@ fn draw_set(s: Writer, store: &mut [i32], out: &mut [i32], names: &mut [u64], do
             writer: t,
         };
     }
-    let next = after::draw_and_move(t, q, store);
+    let next = run_steps::draw_and_move(t, q, store);
     Turn {
         on: true,
         done: one_more(d, spot.length),
@@ -187,7 +185,7 @@ fn take_row(s: Writer, store: &mut [i32], heights: &[u16], done: Counts) -> Turn
             rows: done.rows,
             numbers: done.numbers,
         },
-        writer: offers::put_heights(s, store, &heights[a..e], 0, n),
+        writer: run_steps::put_heights(s, store, &heights[a..e], 0, n),
     }
 }
 
@@ -228,6 +226,7 @@ fn go(s: Writer, store: &mut [i32], heights: &[u16], out: &mut [i32], names: &mu
         },
         writer: s,
     };
+    // Stays: a turn itself says whether another follows; no count or iterator is known before.
     while t.on {
         t = one_turn(t.writer, store, heights, out, names, t.done);
     }

@@ -23,17 +23,11 @@ returns-then-h-gt-TALLEST c =
     let a = c.args in
     not-workable _ _ a.last a.k (side a.x a.w) (side a.y a.h) a.n a.length (λ f. omega (arith, f.2))
 
-pub has_set-requires : goal.has_set-requires
-has_set-requires c = omega arith
-
 pub returns-then-not-has_set : goal.returns-then-not-has_set
 returns-then-not-has_set c =
     let a = c.args in
     no-set _ _ a.last a.k (side a.x a.w) (side a.y a.h) a.n a.length
     (sym c.has_set.ensures ∙ not-true _ c.if-not-has_set.true-raw)
-
-pub work_length-requires : goal.work_length-requires
-work_length-requires c = omega arith
 
 pub returns : goal.returns
 returns c =

@@ -14,9 +14,6 @@ returns-then-w-gt-WIDEST c =
     let a = c.args in
     record { place = sym (ap (λ (t : Bool). pick t (row_place_of a.filter a.w a.r) 0) (lt-leb a.w widest (omega arith))); room = omega (arith, place-room a.filter a.w 0) }
 
-pub row_place-requires : goal.row_place-requires
-row_place-requires c = omega arith
-
 pub returns : goal.returns
 unfolding row_place_of
 returns c =

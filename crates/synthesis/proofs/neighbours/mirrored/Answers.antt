@@ -9,15 +9,6 @@ use Rattle.synthesis.proofs.neighbours.mirrored.Goals as goal
 pub returns-then-p-n : goal.returns-then-p-n
 returns-then-p-n c = let a = c.args in (mirror-in a.n a.p (omega arith) c.if-p-n.true, c.if-p-n.true)
 
-pub overflow_sub-round : goal.overflow_sub-round
-overflow_sub-round c = omega arith
-
-pub overflow_mul-round : goal.overflow_mul-round
-overflow_mul-round c = omega arith
-
-pub nonzero_rem-on : goal.nonzero_rem-on
-nonzero_rem-on c = omega arith
-
 pub overflow_sub-back : goal.overflow_sub-back
 overflow_sub-back c =
     let a = c.args in

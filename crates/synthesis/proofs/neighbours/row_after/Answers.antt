@@ -11,9 +11,6 @@ use Rattle.synthesis.proofs.neighbours.row_after.Goals as goal
 pub overflow_add-less : goal.overflow_add-less
 overflow_add-less c = omega (arith, c.less.ensures)
 
-pub mirrored-requires : goal.mirrored-requires
-mirrored-requires c = omega arith
-
 pub overflow_add-result : goal.overflow_add-result
 overflow_add-result c = omega (arith, c.mirrored.ensures.1)
 

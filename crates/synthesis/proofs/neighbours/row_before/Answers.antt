@@ -20,9 +20,6 @@ less-requires-2 c = tt
 pub overflow_add-less : goal.overflow_add-less
 overflow_add-less c = omega (arith, c.less-2.ensures, c.less.ensures, c.less-i.ensures)
 
-pub mirrored-requires : goal.mirrored-requires
-mirrored-requires c = omega arith
-
 pub overflow_add-result : goal.overflow_add-result
 overflow_add-result c = omega (arith, c.mirrored.ensures.1)
 

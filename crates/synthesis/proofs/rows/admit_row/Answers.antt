@@ -8,24 +8,6 @@ use Rattle.level.proofs.AdmitLaws.{admit-is, same-range}
 use Rattle.synthesis.proofs.CallLaws.{same-lowest}
 use Rattle.synthesis.proofs.rows.admit_row.Goals as goal
 
-pub row_place-a-requires : goal.row_place-a-requires
-row_place-a-requires c = omega arith
-
-pub overflow_add-e : goal.overflow_add-e
-overflow_add-e c = omega arith
-
-pub offset_bounds-stretch-a : goal.offset_bounds-stretch-a
-offset_bounds-stretch-a c = omega arith
-
-pub slice_bounds-all_between-count : goal.slice_bounds-all_between-count
-slice_bounds-all_between-count c = omega arith
-
-pub slice_bounds-all_between-start : goal.slice_bounds-all_between-start
-slice_bounds-all_between-start c = omega arith
-
-pub slice_bounds-all_between-end : goal.slice_bounds-all_between-end
-slice_bounds-all_between-end c = omega arith
-
 pub returns : goal.returns
 returns c =
     let a = c.args in

@@ -29,12 +29,6 @@ overflow_add-from c =
     let a = c.args in
     omega (arith, c.row_place.ensures.2, ap (λ (i : ℕ). i * a.w) c.rows_kept.ensures, room_small a.filter a.w c.requires.0)
 
-pub overflow_mul-n : goal.overflow_mul-n
-overflow_mul-n c = omega arith
-
-pub row_place-to-requires : goal.row_place-to-requires
-row_place-to-requires c = omega arith
-
 pub shape_of-stretch : goal.shape_of-stretch
 shape_of-stretch c = c.interleave_down.auto.area
 

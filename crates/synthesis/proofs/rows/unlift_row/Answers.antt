@@ -7,24 +7,6 @@ use Rattle.synthesis.specs.Columns.{along_of}
 use Rattle.synthesis.proofs.FilterColumns.{rows-some}
 use Rattle.synthesis.proofs.rows.unlift_row.Goals as goal
 
-pub row_place-a-requires : goal.row_place-a-requires
-row_place-a-requires c = omega arith
-
-pub overflow_add-e : goal.overflow_add-e
-overflow_add-e c = omega arith
-
-pub offset_bounds-stretch-a : goal.offset_bounds-stretch-a
-offset_bounds-stretch-a c = omega arith
-
-pub slice_bounds-unlift_line-count : goal.slice_bounds-unlift_line-count
-slice_bounds-unlift_line-count c = omega arith
-
-pub slice_bounds-unlift_line-start : goal.slice_bounds-unlift_line-start
-slice_bounds-unlift_line-start c = omega arith
-
-pub slice_bounds-unlift_line-end : goal.slice_bounds-unlift_line-end
-slice_bounds-unlift_line-end c = omega arith
-
 pub returns : goal.returns
 returns c =
     let a = c.args in

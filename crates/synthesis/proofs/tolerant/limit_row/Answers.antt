@@ -10,24 +10,6 @@ use Rattle.synthesis.proofs.CallLaws.{same-lowest}
 use Rattle.synthesis.proofs.TolerantCalls.{limit-part}
 use Rattle.synthesis.proofs.tolerant.limit_row.Goals as goal
 
-pub row_place-a-requires : goal.row_place-a-requires
-row_place-a-requires c = omega arith
-
-pub overflow_add-e : goal.overflow_add-e
-overflow_add-e c = omega arith
-
-pub offset_bounds-stretch-a : goal.offset_bounds-stretch-a
-offset_bounds-stretch-a c = omega arith
-
-pub slice_bounds-limit_all-count : goal.slice_bounds-limit_all-count
-slice_bounds-limit_all-count c = omega arith
-
-pub slice_bounds-limit_all-start : goal.slice_bounds-limit_all-start
-slice_bounds-limit_all-start c = omega arith
-
-pub slice_bounds-limit_all-end : goal.slice_bounds-limit_all-end
-slice_bounds-limit_all-end c = omega arith
-
 pub returns : goal.returns
 returns c =
     let a = c.args in

@@ -6,15 +6,6 @@ use Rattle.synthesis.proofs.tolerant.make_before.Goals as goal
 pub returns-then-n-eq0 : goal.returns-then-n-eq0
 returns-then-n-eq0 c = let a = c.args in pair-none a.k a.w a.h a.n _ (omega arith)
 
-pub overflow_mul-n : goal.overflow_mul-n
-overflow_mul-n c = omega arith
-
-pub overflow_sub-n : goal.overflow_sub-n
-overflow_sub-n c = omega arith
-
-pub make_odd-requires : goal.make_odd-requires
-make_odd-requires c = omega arith
-
 pub shape_of-stretch : goal.shape_of-stretch
 shape_of-stretch c = c.make_odd.auto.stretch
 

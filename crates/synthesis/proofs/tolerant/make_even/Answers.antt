@@ -5,18 +5,6 @@ use native.Mathlib.Omega.{arith}
 use Rattle.synthesis.specs.Tolerant.{row_limited, even_limited}
 use Rattle.synthesis.proofs.tolerant.make_even.Goals as goal
 
-pub overflow_mul-n : goal.overflow_mul-n
-overflow_mul-n c = omega arith
-
-pub undo_even-requires : goal.undo_even-requires
-undo_even-requires c = omega arith
-
-pub overflow_mul-n-2 : goal.overflow_mul-n-2
-overflow_mul-n-2 c = omega arith
-
-pub limit_row-requires : goal.limit_row-requires
-limit_row-requires c = omega arith
-
 pub shape_of-stretch : goal.shape_of-stretch
 shape_of-stretch c = c.limit_row.auto.stretch ∙ c.undo_even.auto.stretch
 

@@ -3,21 +3,6 @@ use native.Mathlib.Omega.{arith}
 use Rattle.synthesis.proofs.TolerantCalls.{last_none, last_some}
 use Rattle.synthesis.proofs.tolerant.make_last.Goals as goal
 
-pub overflow_mul-n : goal.overflow_mul-n
-overflow_mul-n c = omega arith
-
-pub overflow_add-n : goal.overflow_add-n
-overflow_add-n c = omega arith
-
-pub overflow_mul-n-then-h-n : goal.overflow_mul-n-then-h-n
-overflow_mul-n-then-h-n c = omega arith
-
-pub overflow_add-n-then-h-n : goal.overflow_add-n-then-h-n
-overflow_add-n-then-h-n c = omega arith
-
-pub make_odd-requires : goal.make_odd-requires
-make_odd-requires c = omega arith
-
 pub shape_of-stretch : goal.shape_of-stretch
 shape_of-stretch c = c.make_odd.auto.stretch
 

@@ -4,12 +4,6 @@ use native.Mathlib.Omega.{arith}
 use Rattle.synthesis.specs.Tolerant.{row_limited, odd_limited}
 use Rattle.synthesis.proofs.tolerant.make_odd.Goals as goal
 
-pub undo_odd-requires : goal.undo_odd-requires
-undo_odd-requires c = omega arith
-
-pub limit_row-requires : goal.limit_row-requires
-limit_row-requires c = omega arith
-
 pub shape_of-stretch : goal.shape_of-stretch
 shape_of-stretch c = c.limit_row.auto.stretch ∙ c.undo_odd.auto.stretch
 

@@ -8,15 +8,6 @@ use Rattle.synthesis.specs.Tolerant.{pair_limited, last_limited}
 use Rattle.synthesis.proofs.TolerantCalls.{rows-made, all-kept}
 use Rattle.synthesis.proofs.tolerant.make_rows.Goals as goal
 
-pub make_even-requires : goal.make_even-requires
-make_even-requires c = omega arith
-
-pub make_before-requires : goal.make_before-requires
-make_before-requires c = omega arith
-
-pub make_last-requires : goal.make_last-requires
-make_last-requires c = omega arith
-
 pub shape_of-stretch : goal.shape_of-stretch
 shape_of-stretch c =
     c.make_last.auto.stretch ∙ c.make_before.auto.stretch ∙ c.make_even.auto.stretch

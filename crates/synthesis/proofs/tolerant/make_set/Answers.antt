@@ -10,9 +10,6 @@ use Rattle.synthesis.specs.Tolerant.{tolerant_columns}
 use Rattle.synthesis.proofs.WorkLaws.{set-failed, set-passed}
 use Rattle.synthesis.proofs.tolerant.make_set.Goals as goal
 
-pub unlift_set-requires : goal.unlift_set-requires
-unlift_set-requires c = omega arith
-
 pub shape_of-stretch-then-not-unlift_set : goal.shape_of-stretch-then-not-unlift_set
 shape_of-stretch-then-not-unlift_set c = c.unlift_set.auto.stretch
 
@@ -24,9 +21,6 @@ returns-then-not-unlift_set c =
           (told-no c.unlift_set.result (at c.unlift_set.new.stretch) _ c.unlift_set.ensures.stretch_after (not-true _ c.if-not-unlift_set.true-raw));
       kept = c.unlift_set.ensures.kept;
     }
-
-pub make_rows-requires : goal.make_rows-requires
-make_rows-requires c = omega arith
 
 pub shape_of-stretch : goal.shape_of-stretch
 shape_of-stretch c = c.make_rows.auto.stretch ∙ c.unlift_set.auto.stretch

@@ -12,9 +12,6 @@ pub returns-then-n-j : goal.returns-then-n-j
 returns-then-n-j c = let a = c.args in
     record { stretch_after = before-none (columns_of a.filter) a.k a.w (side a.y a.h) a.n _ a.j c.if-n-j.true; kept = kept-none _ _ }
 
-pub make_pair-requires : goal.make_pair-requires
-make_pair-requires c = omega arith
-
 pub shape_of-stretch : goal.shape_of-stretch
 shape_of-stretch c = c.make_pair.auto.stretch
 

@@ -5,12 +5,6 @@ use Rattle.synthesis.proofs.WorkLaws.{first-none, first-made}
 use Rattle.synthesis.specs.Columns.{columns_of}
 use Rattle.synthesis.proofs.work.make_first.Goals as goal
 
-pub overflow_mul-n : goal.overflow_mul-n
-overflow_mul-n c = omega arith
-
-pub admit_row-requires : goal.admit_row-requires
-admit_row-requires c = omega arith
-
 pub returns-then-own_even : goal.returns-then-own_even
 returns-then-own_even c =
     let a = c.args in

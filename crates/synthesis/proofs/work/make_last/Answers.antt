@@ -10,27 +10,9 @@ use Rattle.synthesis.specs.Columns.{columns_of}
 use Rattle.synthesis.proofs.FilterColumns.{columns-laws}
 use Rattle.synthesis.proofs.work.make_last.Goals as goal
 
-pub overflow_add-y : goal.overflow_add-y
-overflow_add-y c = omega arith
-
-pub overflow_mul-n : goal.overflow_mul-n
-overflow_mul-n c = omega arith
-
-pub overflow_add-n : goal.overflow_add-n
-overflow_add-n c = omega arith
-
 pub returns-then-y-h : goal.returns-then-y-h
 returns-then-y-h c = let a = c.args in
     record { stretch_after = last_none (columns_of a.filter) a.k a.w (side a.y a.h) a.n _ c.if-y-h.true; kept = kept-none _ _ }
-
-pub overflow_mul-n-then-is_single : goal.overflow_mul-n-then-is_single
-overflow_mul-n-then-is_single c = omega arith
-
-pub overflow_add-n-then-is_single : goal.overflow_add-n-then-is_single
-overflow_add-n-then-is_single c = omega arith
-
-pub make_single-requires : goal.make_single-requires
-make_single-requires c = omega arith
 
 pub shape_of-stretch-then-is_single : goal.shape_of-stretch-then-is_single
 shape_of-stretch-then-is_single c = c.make_single.auto.stretch
@@ -44,25 +26,10 @@ returns-then-is_single c =
       kept = c.make_single.ensures.kept;
     }
 
-pub overflow_mul-n-2 : goal.overflow_mul-n-2
-overflow_mul-n-2 c = omega arith
-
-pub overflow_add-n-2 : goal.overflow_add-n-2
-overflow_add-n-2 c = omega arith
-
 pub undo_odd-requires : goal.undo_odd-requires
 undo_odd-requires c =
     let a = c.args in
     omega (arith, others (side a.y a.h) a.n (omega arith) (sym c.is_single.ensures ∙ c.if-is_single.false))
-
-pub overflow_mul-n-3 : goal.overflow_mul-n-3
-overflow_mul-n-3 c = omega arith
-
-pub overflow_add-n-3 : goal.overflow_add-n-3
-overflow_add-n-3 c = omega arith
-
-pub admit_row-requires : goal.admit_row-requires
-admit_row-requires c = omega arith
 
 pub shape_of-stretch : goal.shape_of-stretch
 shape_of-stretch c = c.undo_odd.auto.stretch

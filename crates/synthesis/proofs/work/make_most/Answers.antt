@@ -3,7 +3,6 @@ use mathlib.Core.Path.{◌∙◌, ap}
 use Prim.Native.Nat.{ℕ}
 use native.Mathlib.Omega.{arith}
 use lib.ListN.{length}
-use borrow.Author.Tests.{not-true, not-false}
 use Rattle.numbers.specs.Signal.{at}
 use Rattle.lifting.specs.Grid.{side}
 use Rattle.level.proofs.WorkLaws.{told-no, told-yes}
@@ -32,37 +31,31 @@ returns-then-n-gt0 c =
     let a = c.args in
     stretch_after-kept (zero-most a.k a.w (side a.y a.h) a.n _ a.filter _ _ c.if-filter-eq0.true (c.make_both.ensures.stretch_after, c.make_both.ensures.kept))
 
-pub undo_low-requires : goal.undo_low-requires
-undo_low-requires c = omega arith
+pub shape_of-stretch-else-make_first : goal.shape_of-stretch-else-make_first
+shape_of-stretch-else-make_first c = c.undo_low.auto.stretch
 
-pub make_first-requires : goal.make_first-requires
-make_first-requires c = omega arith
-
-pub shape_of-stretch-then-not-make_first : goal.shape_of-stretch-then-not-make_first
-shape_of-stretch-then-not-make_first c = c.undo_low.auto.stretch
-
-pub returns-then-not-make_first : goal.returns-then-not-make_first
-returns-then-not-make_first c =
+pub returns-else-make_first : goal.returns-else-make_first
+returns-else-make_first c =
     let a = c.args in
     let C = columns_of a.filter in
     let H = side a.y a.h in
     let y = at c.undo_low.new.stretch in
     let e = done-is a.k a.w H a.n (at a.stretch.now) a.filter y c.undo_low.ensures in
-    record {
-      stretch_after = most-failed C a.k a.w H a.n y (told-no c.make_first.result y _ c.make_first.ensures (not-true _ c.if-not-make_first.true-raw))
+    rw c.if-make_first.false (record {
+      stretch_after = most-failed C a.k a.w H a.n y (told-no c.make_first.result y _ c.make_first.ensures c.if-make_first.false)
           ∙ ap (most_made C a.k a.w H a.n) e;
       kept = kept-is _ _ _ _ (done-kept C (columns-laws a.filter) a.k a.w H a.n _) e;
-    }
+    })
 
 pub make_before-requires : goal.make_before-requires
 make_before-requires c =
     omega (arith, c.look_ahead.ensures, ahead-some c.args.filter)
 
-pub shape_of-stretch : goal.shape_of-stretch
-shape_of-stretch c = c.make_before.auto.stretch ∙ c.undo_low.auto.stretch
+pub shape_of-stretch-then-make_first : goal.shape_of-stretch-then-make_first
+shape_of-stretch-then-make_first c = c.make_before.auto.stretch ∙ c.undo_low.auto.stretch
 
-pub returns : goal.returns
-returns c =
+pub returns-then-make_first : goal.returns-then-make_first
+returns-then-make_first c =
     let a = c.args in
     let C = columns_of a.filter in
     let H = side a.y a.h in
@@ -70,7 +63,7 @@ returns c =
     let e = done-is a.k a.w H a.n (at a.stretch.now) a.filter y c.undo_low.ensures in
     record {
       stretch_after = c.make_before.ensures.stretch_after ∙ ap (λ (j : ℕ). pair_before C j a.k a.w H a.n y) c.look_ahead.ensures
-          ∙ most-passed C a.k a.w H a.n y (told-yes c.make_first.result y _ c.make_first.ensures (not-false _ c.if-not-make_first.false-raw))
+          ∙ most-passed C a.k a.w H a.n y (told-yes c.make_first.result y _ c.make_first.ensures c.if-make_first.true)
           ∙ ap (most_made C a.k a.w H a.n) e;
       kept = kept-both _ _ _ _ (kept-is _ _ _ _ (done-kept C (columns-laws a.filter) a.k a.w H a.n _) e) c.make_before.ensures.kept;
     }

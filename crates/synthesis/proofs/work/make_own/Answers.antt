@@ -10,9 +10,6 @@ pub returns-then-filter-eq0 : goal.returns-then-filter-eq0
 returns-then-filter-eq0 c = let a = c.args in
     record { stretch_after = own-none a.k a.w (side a.y a.h) a.n _ a.filter c.if-filter-eq0.true; kept = kept-none _ _ }
 
-pub make_before-requires : goal.make_before-requires
-make_before-requires c = omega arith
-
 pub shape_of-stretch : goal.shape_of-stretch
 shape_of-stretch c = c.make_before.auto.stretch
 

@@ -1,7 +1,6 @@
 -- `synthesis::work::make_rows` meets its contract: most rows and the rest, as long as they fit. Assumes nothing.
 use mathlib.Core.Path.{◌∙◌}
 use native.Mathlib.Omega.{arith}
-use borrow.Author.Tests.{not-true, not-false}
 use Rattle.numbers.specs.Signal.{at}
 use Rattle.lifting.specs.Grid.{side}
 use Rattle.level.proofs.WorkLaws.{told-no, told-yes}
@@ -10,33 +9,27 @@ use Rattle.synthesis.specs.Columns.{columns_of}
 use Rattle.synthesis.proofs.WorkLaws.{rows-failed, rows-passed}
 use Rattle.synthesis.proofs.work.make_rows.Goals as goal
 
-pub make_most-requires : goal.make_most-requires
-make_most-requires c = omega arith
+pub shape_of-stretch-else-make_most : goal.shape_of-stretch-else-make_most
+shape_of-stretch-else-make_most c = c.make_most.auto.stretch
 
-pub shape_of-stretch-then-not-make_most : goal.shape_of-stretch-then-not-make_most
-shape_of-stretch-then-not-make_most c = c.make_most.auto.stretch
-
-pub returns-then-not-make_most : goal.returns-then-not-make_most
-returns-then-not-make_most c =
+pub returns-else-make_most : goal.returns-else-make_most
+returns-else-make_most c =
     let a = c.args in
-    record {
+    rw c.if-make_most.false (record {
       stretch_after = rows-failed (columns_of a.filter) a.k a.w (side a.y a.h) a.n _
-          (told-no c.make_most.result (at c.make_most.new.stretch) _ c.make_most.ensures.stretch_after (not-true _ c.if-not-make_most.true-raw));
+          (told-no c.make_most.result (at c.make_most.new.stretch) _ c.make_most.ensures.stretch_after c.if-make_most.false);
       kept = c.make_most.ensures.kept;
-    }
+    })
 
-pub make_rest-requires : goal.make_rest-requires
-make_rest-requires c = omega arith
+pub shape_of-stretch-then-make_most : goal.shape_of-stretch-then-make_most
+shape_of-stretch-then-make_most c = c.make_rest.auto.stretch ∙ c.make_most.auto.stretch
 
-pub shape_of-stretch : goal.shape_of-stretch
-shape_of-stretch c = c.make_rest.auto.stretch ∙ c.make_most.auto.stretch
-
-pub returns : goal.returns
-returns c =
+pub returns-then-make_most : goal.returns-then-make_most
+returns-then-make_most c =
     let a = c.args in
     record {
       stretch_after = c.make_rest.ensures.stretch_after
           ∙ rows-passed (columns_of a.filter) a.k a.w (side a.y a.h) a.n _ _
-          (told-yes c.make_most.result (at c.make_most.new.stretch) _ c.make_most.ensures.stretch_after (not-false _ c.if-not-make_most.false-raw));
+          (told-yes c.make_most.result (at c.make_most.new.stretch) _ c.make_most.ensures.stretch_after c.if-make_most.true);
       kept = kept-both _ _ _ _ c.make_most.ensures.kept c.make_rest.ensures.kept;
     }

@@ -1,7 +1,6 @@
 -- `synthesis::work::make_set` meets its contract: along the rows, then the rows made. Assumes nothing.
 use mathlib.Core.Path.{◌∙◌}
 use native.Mathlib.Omega.{arith}
-use borrow.Author.Tests.{not-true, not-false}
 use Rattle.numbers.specs.Signal.{at}
 use Rattle.lifting.specs.Grid.{side}
 use Rattle.level.proofs.WorkLaws.{told-no, told-yes}
@@ -10,33 +9,27 @@ use Rattle.synthesis.specs.Columns.{columns_of}
 use Rattle.synthesis.proofs.WorkLaws.{set-failed, set-passed}
 use Rattle.synthesis.proofs.work.make_set.Goals as goal
 
-pub unlift_set-requires : goal.unlift_set-requires
-unlift_set-requires c = omega arith
+pub shape_of-stretch-else-unlift_set : goal.shape_of-stretch-else-unlift_set
+shape_of-stretch-else-unlift_set c = c.unlift_set.auto.stretch
 
-pub shape_of-stretch-then-not-unlift_set : goal.shape_of-stretch-then-not-unlift_set
-shape_of-stretch-then-not-unlift_set c = c.unlift_set.auto.stretch
-
-pub returns-then-not-unlift_set : goal.returns-then-not-unlift_set
-returns-then-not-unlift_set c =
+pub returns-else-unlift_set : goal.returns-else-unlift_set
+returns-else-unlift_set c =
     let a = c.args in
-    record {
+    rw c.if-unlift_set.false (record {
       stretch_after = set-failed (columns_of a.filter) a.k (side a.x a.w) (side a.y a.h) a.n _
-          (told-no c.unlift_set.result (at c.unlift_set.new.stretch) _ c.unlift_set.ensures.stretch_after (not-true _ c.if-not-unlift_set.true-raw));
+          (told-no c.unlift_set.result (at c.unlift_set.new.stretch) _ c.unlift_set.ensures.stretch_after c.if-unlift_set.false);
       kept = c.unlift_set.ensures.kept;
-    }
+    })
 
-pub make_rows-requires : goal.make_rows-requires
-make_rows-requires c = omega arith
+pub shape_of-stretch-then-unlift_set : goal.shape_of-stretch-then-unlift_set
+shape_of-stretch-then-unlift_set c = c.make_rows.auto.stretch ∙ c.unlift_set.auto.stretch
 
-pub shape_of-stretch : goal.shape_of-stretch
-shape_of-stretch c = c.make_rows.auto.stretch ∙ c.unlift_set.auto.stretch
-
-pub returns : goal.returns
-returns c =
+pub returns-then-unlift_set : goal.returns-then-unlift_set
+returns-then-unlift_set c =
     let a = c.args in
     record {
       stretch_after = c.make_rows.ensures.stretch_after
           ∙ set-passed (columns_of a.filter) a.k (side a.x a.w) (side a.y a.h) a.n _ _
-          (told-yes c.unlift_set.result (at c.unlift_set.new.stretch) _ c.unlift_set.ensures.stretch_after (not-false _ c.if-not-unlift_set.false-raw));
+          (told-yes c.unlift_set.result (at c.unlift_set.new.stretch) _ c.unlift_set.ensures.stretch_after c.if-unlift_set.true);
       kept = kept-both _ _ _ _ c.unlift_set.ensures.kept c.make_rows.ensures.kept;
     }

@@ -8,12 +8,6 @@ use Rattle.synthesis.proofs.work.undo_low.Goals as goal
 pub returns-then-n-y : goal.returns-then-n-y
 returns-then-n-y c = let a = c.args in rw (low_first (side a.y a.h) a.n (omega arith)) refl
 
-pub overflow_mul-n : goal.overflow_mul-n
-overflow_mul-n c = omega arith
-
-pub undo_even-requires : goal.undo_even-requires
-undo_even-requires c = omega arith
-
 pub shape_of-stretch : goal.shape_of-stretch
 shape_of-stretch c = c.undo_even.auto.stretch
 

@@ -8,15 +8,6 @@ use Rattle.synthesis.specs.Columns.{along_of}
 use Rattle.filters.specs.Filters.{filter_of}
 use Rattle.synthesis.proofs.work.unlift_high.Goals as goal
 
-pub overflow_add-y : goal.overflow_add-y
-overflow_add-y c = omega arith
-
-pub overflow_mul-n : goal.overflow_mul-n
-overflow_mul-n c = omega arith
-
-pub overflow_add-n : goal.overflow_add-n
-overflow_add-n c = omega arith
-
 pub returns-then-y-h : goal.returns-then-y-h
 returns-then-y-h c = let a = c.args in
     record {
@@ -24,15 +15,6 @@ returns-then-y-h c = let a = c.args in
           c.if-y-h.true;
       kept = kept-none _ _;
     }
-
-pub overflow_mul-n-2 : goal.overflow_mul-n-2
-overflow_mul-n-2 c = omega arith
-
-pub overflow_add-n-2 : goal.overflow_add-n-2
-overflow_add-n-2 c = omega arith
-
-pub unlift_row-requires : goal.unlift_row-requires
-unlift_row-requires c = omega arith
 
 pub shape_of-stretch : goal.shape_of-stretch
 shape_of-stretch c = c.unlift_row.auto.stretch

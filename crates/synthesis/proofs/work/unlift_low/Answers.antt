@@ -16,12 +16,6 @@ returns-then-n-y c = let a = c.args in
       kept = kept-none _ _;
     }
 
-pub overflow_mul-n : goal.overflow_mul-n
-overflow_mul-n c = omega arith
-
-pub unlift_row-requires : goal.unlift_row-requires
-unlift_row-requires c = omega arith
-
 pub shape_of-stretch : goal.shape_of-stretch
 shape_of-stretch c = c.unlift_row.auto.stretch
 

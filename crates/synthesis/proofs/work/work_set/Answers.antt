@@ -7,12 +7,6 @@ use Rattle.level.proofs.KeptLaws.{kept-both}
 use Rattle.synthesis.specs.Columns.{columns_of}
 use Rattle.synthesis.proofs.work.work_set.Goals as goal
 
-pub take_low-requires : goal.take_low-requires
-take_low-requires c = omega arith
-
-pub make_set-requires : goal.make_set-requires
-make_set-requires c = omega arith
-
 pub shape_of-stretch : goal.shape_of-stretch
 shape_of-stretch c = c.make_set.auto.stretch ∙ c.take_low.auto.stretch
 

@@ -29,6 +29,6 @@ shape_of-store c = c.advance-r.auto.store
 pub returns : goal.returns
 returns c =
     elim c.else-s.branch [
-      else-s-via-else-s w ↦ drew-open c.args.s _ _ _ c.advance-r.ensures w.if-s.false
-    | else-s-via-then-s+else-r-eq0 w ↦ drew-waits c.args.s _ _ _ c.advance-r.ensures w.if-s.true (omega arith)
+      | else-s-via-else-s w ↦ drew-open c.args.s _ _ _ c.advance-r.ensures w.if-s.false
+      | else-s-via-then-s+else-r-eq0 w ↦ drew-waits c.args.s _ _ _ c.advance-r.ensures w.if-s.true (omega arith)
     ]

@@ -25,6 +25,6 @@ shape_of-store c = c.draw_and_close-t.auto.store
 pub returns : goal.returns
 returns c =
     elim c.else-t-eq0.branch [
-      else-t-eq0-via-else-t-eq0 w ↦ drew-still _ _ _ _ c.draw_and_close-t.ensures (omega arith)
-    | else-t-eq0-via-then-t-eq0+else-t-gt0 w ↦ drew-none _ _ _ _ c.draw_and_close-t.ensures _ c.requires.2 (omega arith) (omega arith)
+      | else-t-eq0-via-else-t-eq0 w ↦ drew-still _ _ _ _ c.draw_and_close-t.ensures (omega arith)
+      | else-t-eq0-via-then-t-eq0+else-t-gt0 w ↦ drew-none _ _ _ _ c.draw_and_close-t.ensures _ c.requires.2 (omega arith) (omega arith)
     ]

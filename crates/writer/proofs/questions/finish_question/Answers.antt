@@ -23,8 +23,8 @@ returns-then-s-eq0 c =
     let h = sym c.in_ok-state_question.ensures in
     let g = sym c.in_ok-open_question.ensures in
     elim c.then-s-eq0.branch [
-      then-s-eq0-via-then-s-eq0 w ↦ finish-none _ _ h g w.if-s-eq0.true
-    | then-s-eq0-via-else-s-eq0+then-s-gt0 w ↦ finish-begun _ _ h g (omega arith) w.if-s-gt0.true
+      | then-s-eq0-via-then-s-eq0 w ↦ finish-none _ _ h g w.if-s-eq0.true
+      | then-s-eq0-via-else-s-eq0+then-s-gt0 w ↦ finish-begun _ _ h g (omega arith) w.if-s-gt0.true
     ]
 
 pub returns : goal.returns

@@ -31,6 +31,6 @@ pub returns : goal.returns
 returns c =
     let h = sym c.in_ok-state_question.ensures in
     elim c.else-k-gt0.branch [
-      else-k-gt0-via-else-k-gt0 w ↦ offer-empty _ _ _ h c.if-s.false (omega arith)
-    | else-k-gt0-via-then-k-gt0+else-is_full w ↦ offer-passes _ _ _ _ w.is_full.ensures h c.if-s.false w.if-is_full.false
+      | else-k-gt0-via-else-k-gt0 w ↦ offer-empty _ _ _ h c.if-s.false (omega arith)
+      | else-k-gt0-via-then-k-gt0+else-is_full w ↦ offer-passes _ _ _ _ w.is_full.ensures h c.if-s.false w.if-is_full.false
     ]

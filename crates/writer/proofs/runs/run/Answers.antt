@@ -46,10 +46,10 @@ returns c = let a = c.args in
     let q : run_question a.s (length a.store.now) (length a.heights.now) ≡ 0 = sym c.in_ok-run_question.ensures in
     let t = c.go-t in
     let e : run_reply a.s (length a.store.now) a.heights.now (length a.out.now) (at a.store.now) (at a.out.now) a.names.now
-        ≡ gives (run_at t.result.done t.result.writer (at t.new.store) (at t.new.out) t.new.names) = elim c.if-nothing_done.branch [
-      then-nothing_done+in_ok-idle w ↦ run_none a.s (length a.store.now) a.heights.now (length a.out.now) (at a.store.now) (at a.out.now) a.names.now _
+    ≡ gives (run_at t.result.done t.result.writer (at t.new.store) (at t.new.out) t.new.names) = elim c.if-nothing_done.branch [
+      | then-nothing_done+in_ok-idle w ↦ run_none a.s (length a.store.now) a.heights.now (length a.out.now) (at a.store.now) (at a.out.now) a.names.now _
           c.go-t.ensures q _ w.in_ok-idle.ensures _ c.nothing_done.ensures w.if-nothing_done.true refl
-    | else-nothing_done w ↦ run-went a.s (length a.store.now) a.heights.now (length a.out.now) (at a.store.now) (at a.out.now) a.names.now _
+      | else-nothing_done w ↦ run-went a.s (length a.store.now) a.heights.now (length a.out.now) (at a.store.now) (at a.out.now) a.names.now _
           c.go-t.ensures q _ c.nothing_done.ensures w.if-nothing_done.false
     ] in
     record { result_value = sym (ap (seen progress) e); store_after = sym (ap (left_by (λ p. p.world.store) (at a.store.now)) e); out_after = sym (ap (left_by (λ p. p.area) (at a.out.now)) e); names_after = sym (ap (left_by (λ p. p.names) a.names.now) e) }

@@ -47,6 +47,6 @@ pub returns : goal.returns
 returns c =
     let h = sym c.in_ok-state_question.ensures in
     elim c.else-k-gt0.branch [
-      else-k-gt0-via-else-k-gt0 w ↦ empty _ _ _ h (omega arith)
-    | else-k-gt0-via-then-k-gt0+else-s w ↦ unfinished _ _ _ h (omega arith) w.if-s.false
+      | else-k-gt0-via-else-k-gt0 w ↦ empty _ _ _ h (omega arith)
+      | else-k-gt0-via-then-k-gt0+else-s w ↦ unfinished _ _ _ h (omega arith) w.if-s.false
     ]
