@@ -8,3 +8,4 @@ mod place;
 mod put;
 pub mod rows;
 pub mod sample;
+pub mod step;

@@ -2,152 +2,60 @@
 // odd counts. A line of one number or none is as the 5/3 has it.
 ghost use Rattle.std.specs.Prelude.{◌≡◌, ◌+◌, ◌-◌, ◌<◌, ◌≤◌, length, set, leb};
 ghost use Rattle.numbers.specs.Signal.{at, pick, both};
-ghost use Rattle.numbers.specs.Word.{wrap32};
 ghost use Rattle.lifting.specs.Grid.{side};
 ghost use Rattle.lifting.specs.GridHalves.{has_line_in};
-ghost use Rattle.lifting.specs.Passes.{lows_changed};
-ghost use Rattle.nine_seven.specs.NineSeven.{predicted, unpredicted, updated, unupdated};
 ghost use Rattle.nine_seven.specs.Memory.{lifted_in_place, unlifted_in_place, forward_into, backward_into};
 ghost use Rattle.nine_seven.specs.Passes.{high_by, highs_between};
 
+use crate::step::{Predict, Unpredict, Unupdate, Update, WideStep};
 use crate::{near, place, put};
 use areas::lines;
 use lifting::line as five_three;
+use lifting::passes::change_lows;
 
 // ---- the high numbers of a line in halves. Those near an end, which may go by mirrored numbers, stand outside the loop that becomes vector code
 
-fn predict_end(line: &mut [i32], low: usize, o: usize, n: usize)
+fn change_end<S: WideStep>(line: &mut [i32], low: usize, o: usize, n: usize)
     requires { (0 < low) × (low + n < length line.old) × (o ≤ 1) × (n + o ≤ low) }
-    ensures { line.new ≡ set line.old (low + n)
-        (high_by (predicted wrap32) o low (length line.old) (at line.old) n) }
+    ensures { line.new ≡ set line.old (low + n) (high_by S.op o low (length line.old) (at line.old) n) }
 {
     let a = place::left(low, o, n);
     let b = near::nearest(low, n + o);
     let c = place::far_left(low, o, n);
     let e = place::far_right(low, line.len() - low, o, n);
-    place::predict_at(line, low + n, a, b, c, e);
+    place::step_at::<S>(line, low + n, a, b, c, e);
 }
 
-fn predict_ends(line: &mut [i32], low: usize, o: usize, from: usize, to: usize)
+fn change_ends<S: WideStep>(line: &mut [i32], low: usize, o: usize, from: usize, to: usize)
     requires { (0 < low) × (low + to ≤ length line.old) × (o ≤ 1) × (to + o ≤ low + 1) × (from ≤ to) }
-    ensures { at line.new ≡ highs_between (predicted wrap32) o low (length line.old) from to (at line.old) }
+    ensures { at line.new ≡ highs_between S.op o low (length line.old) from to (at line.old) }
 {
-    let mut n = from;
-    while n < to {
-        predict_end(line, low, o, n);
-        n += 1;
+    for n in from..to {
+        change_end::<S>(line, low, o, n);
     }
 }
 
-fn predict_inner(line: &mut [i32], low: usize, o: usize, from: usize, to: usize)
+fn change_inner<S: WideStep>(line: &mut [i32], low: usize, o: usize, from: usize, to: usize)
     requires { (2 ≤ from) × (low + to < length line.old) × (o ≤ 1) × (to + o < low) × (from ≤ to) }
-    ensures { at line.new ≡ highs_between (predicted wrap32) o low (length line.old) from to (at line.old) }
+    ensures { at line.new ≡ highs_between S.op o low (length line.old) from to (at line.old) }
 {
-    let mut n = from;
-    while n < to {
-        place::predict_at(line, low + n, n + o - 1, n + o, n + o - 2, n + o + 1);
-        n += 1;
+    for n in from..to {
+        place::step_at::<S>(line, low + n, n + o - 1, n + o, n + o - 2, n + o + 1);
     }
 }
 
-fn predict_highs(line: &mut [i32], low: usize, o: usize)
+fn change_highs<S: WideStep>(line: &mut [i32], low: usize, o: usize)
     requires { (0 < low) × (low < length line.old) × (o ≤ 1) × (low + low ≤ length line.old + o) × (length line.old + o ≤ low + low + 1) }
-    ensures { at line.new ≡ highs_between (predicted wrap32) o low (length line.old) 0 (length line.old - low)
-        (at line.old) }
+    ensures { at line.new ≡ highs_between S.op o low (length line.old) 0 (length line.old - low) (at line.old) }
 {
     let high = line.len() - low;
     if high < 4 {
-        predict_ends(line, low, o, 0, high);
+        change_ends::<S>(line, low, o, 0, high);
         return;
     }
-    predict_ends(line, low, o, 0, 2);
-    predict_inner(line, low, o, 2, high - 2);
-    predict_ends(line, low, o, high - 2, high);
-}
-
-fn unpredict_end(line: &mut [i32], low: usize, o: usize, n: usize)
-    requires { (0 < low) × (low + n < length line.old) × (o ≤ 1) × (n + o ≤ low) }
-    ensures { line.new ≡ set line.old (low + n)
-        (high_by (unpredicted wrap32) o low (length line.old) (at line.old) n) }
-{
-    let a = place::left(low, o, n);
-    let b = near::nearest(low, n + o);
-    let c = place::far_left(low, o, n);
-    let e = place::far_right(low, line.len() - low, o, n);
-    place::unpredict_at(line, low + n, a, b, c, e);
-}
-
-fn unpredict_ends(line: &mut [i32], low: usize, o: usize, from: usize, to: usize)
-    requires { (0 < low) × (low + to ≤ length line.old) × (o ≤ 1) × (to + o ≤ low + 1) × (from ≤ to) }
-    ensures { at line.new ≡ highs_between (unpredicted wrap32) o low (length line.old) from to (at line.old) }
-{
-    let mut n = from;
-    while n < to {
-        unpredict_end(line, low, o, n);
-        n += 1;
-    }
-}
-
-fn unpredict_inner(line: &mut [i32], low: usize, o: usize, from: usize, to: usize)
-    requires { (2 ≤ from) × (low + to < length line.old) × (o ≤ 1) × (to + o < low) × (from ≤ to) }
-    ensures { at line.new ≡ highs_between (unpredicted wrap32) o low (length line.old) from to (at line.old) }
-{
-    let mut n = from;
-    while n < to {
-        place::unpredict_at(line, low + n, n + o - 1, n + o, n + o - 2, n + o + 1);
-        n += 1;
-    }
-}
-
-fn unpredict_highs(line: &mut [i32], low: usize, o: usize)
-    requires { (0 < low) × (low < length line.old) × (o ≤ 1) × (low + low ≤ length line.old + o) × (length line.old + o ≤ low + low + 1) }
-    ensures { at line.new ≡ highs_between (unpredicted wrap32) o low (length line.old) 0 (length line.old - low)
-        (at line.old) }
-{
-    let high = line.len() - low;
-    if high < 4 {
-        unpredict_ends(line, low, o, 0, high);
-        return;
-    }
-    unpredict_ends(line, low, o, 0, 2);
-    unpredict_inner(line, low, o, 2, high - 2);
-    unpredict_ends(line, low, o, high - 2, high);
-}
-
-// ---- the low numbers: each number n by its high neighbours n + o - 1 and n + o; the first and the last may have one, which counts twice
-
-fn update_lows(line: &mut [i32], low: usize, o: usize)
-    requires { (0 < low) × (low < length line.old) × (o ≤ 1) × (length line.old ≤ low + low + o) × (low + low + o ≤ length line.old + 1) }
-    ensures { at line.new ≡ lows_changed (updated wrap32) o low (length line.old) (at line.old) }
-{
-    let high = line.len() - low;
-    let end = high - o;
-    place::update_at(line, 0, low, low + near::nearest(high, o));
-    let mut n = 1;
-    while n < end {
-        place::update_at(line, n, low + n + o - 1, low + n + o);
-        n += 1;
-    }
-    if n < low {
-        place::update_at(line, n, low + high - 1, low + high - 1);
-    }
-}
-
-fn unupdate_lows(line: &mut [i32], low: usize, o: usize)
-    requires { (0 < low) × (low < length line.old) × (o ≤ 1) × (length line.old ≤ low + low + o) × (low + low + o ≤ length line.old + 1) }
-    ensures { at line.new ≡ lows_changed (unupdated wrap32) o low (length line.old) (at line.old) }
-{
-    let high = line.len() - low;
-    let end = high - o;
-    place::unupdate_at(line, 0, low, low + near::nearest(high, o));
-    let mut n = 1;
-    while n < end {
-        place::unupdate_at(line, n, low + n + o - 1, low + n + o);
-        n += 1;
-    }
-    if n < low {
-        place::unupdate_at(line, n, low + high - 1, low + high - 1);
-    }
+    change_ends::<S>(line, low, o, 0, 2);
+    change_inner::<S>(line, low, o, 2, high - 2);
+    change_ends::<S>(line, low, o, high - 2, high);
 }
 
 // ---- a line in halves, in place
@@ -163,8 +71,8 @@ pub fn lift(line: &mut [i32], start: usize)
     }
     let b = start % 2;
     let low = near::lows(n, start);
-    predict_highs(line, low, 1 - b);
-    update_lows(line, low, b);
+    change_highs::<Predict>(line, low, 1 - b);
+    change_lows::<Update>(line, low, b);
 }
 
 // The way back: low and high values in place to the line in halves. 14, and nothing changed, for an only high value that is odd.
@@ -179,8 +87,8 @@ pub fn unlift(line: &mut [i32], start: usize) -> u8
     }
     let b = start % 2;
     let low = near::lows(n, start);
-    unupdate_lows(line, low, b);
-    unpredict_highs(line, low, 1 - b);
+    change_lows::<Unupdate>(line, low, b);
+    change_highs::<Unpredict>(line, low, 1 - b);
     0
 }
 

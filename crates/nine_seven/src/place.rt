@@ -1,44 +1,19 @@
-// The lifting steps on one place of an area, changed by others, and which low numbers a high one goes by.
+// A lifting step on one place of an area, changed by others, and which low numbers a high one goes by.
 // The module is private: only the loops of this crate, which meet what is required, can call it.
 ghost use Rattle.std.specs.Prelude.{◌≡◌, ◌+◌, ◌-◌, ◌<◌, ◌≤◌, length, set};
 ghost use Rattle.numbers.specs.Signal.{at};
-ghost use Rattle.numbers.specs.Word.{wrap32};
 ghost use Rattle.lifting.specs.Passes.{near};
 ghost use Rattle.nine_seven.specs.Passes.{far_left, far_right};
-ghost use Rattle.nine_seven.specs.NineSeven.{predicted, unpredicted, updated, unupdated};
 
-use crate::{near, sample};
+use crate::near;
+use crate::step::WideStep;
 
-pub fn predict_at(area: &mut [i32], p: usize, a: usize, b: usize, c: usize, e: usize)
+// A high number at place p, by any step.
+pub fn step_at<S: WideStep>(area: &mut [i32], p: usize, a: usize, b: usize, c: usize, e: usize)
     requires { (p < length area.old) × (a < length area.old) × (b < length area.old) × (c < length area.old) × (e < length area.old) }
-    ensures { area.new ≡ set area.old p (predicted wrap32 (at area.old p) (at area.old a)
-        (at area.old b) (at area.old c) (at area.old e)) }
+    ensures { area.new ≡ set area.old p (S.op (at area.old p) (at area.old a) (at area.old b) (at area.old c) (at area.old e)) }
 {
-    area[p] = sample::predict(area[p], area[a], area[b], area[c], area[e]);
-}
-
-pub fn unpredict_at(area: &mut [i32], p: usize, a: usize, b: usize, c: usize, e: usize)
-    requires { (p < length area.old) × (a < length area.old) × (b < length area.old) × (c < length area.old) × (e < length area.old) }
-    ensures { area.new ≡ set area.old p (unpredicted wrap32 (at area.old p) (at area.old a)
-        (at area.old b) (at area.old c) (at area.old e)) }
-{
-    area[p] = sample::unpredict(area[p], area[a], area[b], area[c], area[e]);
-}
-
-pub fn update_at(area: &mut [i32], p: usize, a: usize, b: usize)
-    requires { (p < length area.old) × (a < length area.old) × (b < length area.old) }
-    ensures { area.new ≡ set area.old p (updated wrap32 (at area.old p) (at area.old a)
-        (at area.old b)) }
-{
-    area[p] = sample::update(area[p], area[a], area[b]);
-}
-
-pub fn unupdate_at(area: &mut [i32], p: usize, a: usize, b: usize)
-    requires { (p < length area.old) × (a < length area.old) × (b < length area.old) }
-    ensures { area.new ≡ set area.old p (unupdated wrap32 (at area.old p) (at area.old a)
-        (at area.old b)) }
-{
-    area[p] = sample::unupdate(area[p], area[a], area[b]);
+    area[p] = S::step(area[p], area[a], area[b], area[c], area[e]);
 }
 
 // Of `low` low numbers the one before high number n. Each of these by itself, so that it goes into the loops over the ends of a line,

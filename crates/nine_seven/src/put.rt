@@ -57,10 +57,8 @@ fn put_ends(coefficients: &[i32], out: &mut [i32], low: usize, start: usize, fro
     ensures { at out.new ≡ line_put (side start (length coefficients.now)) from to (at coefficients.now)
         (at out.old) }
 {
-    let mut q = from;
-    while q < to {
+    for q in from..to {
         out[q] = line_at(coefficients, low, start, q);
-        q += 1;
     }
 }
 
@@ -112,14 +110,12 @@ fn put_inner(
     let mut e0 = even_of(coefficients, low, start, from - 1);
     let mut e1 = even_of(coefficients, low, start, from);
     let mut e2 = even_of(coefficients, low, start, from + 1);
-    let mut n = from;
-    while n < to {
+    for n in from..to {
         let e3 = next_even(coefficients, n + 2, high + n + 1);
         put_pair(coefficients, out, high + n, 2 * n + b, e0, e1, e2, e3);
         e0 = e1;
         e1 = e2;
         e2 = e3;
-        n += 1;
     }
 }
 

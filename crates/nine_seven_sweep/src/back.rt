@@ -101,10 +101,8 @@ pub fn unlift_rows(area: &mut [i32], stride: usize, width: usize, y: usize, heig
     ensures { at area.new ≡ columns_back stride width (side y height) (at area.old) }
 {
     let last = height - near::lows(height, y) + 1 - y % 2;
-    let mut n = 0;
-    while n < last {
+    for n in 0..last {
         unlift_turn(area, stride, width, y, height, n);
-        n += 1;
     }
     unlift_turn(area, stride, width, y, height, last);
 }

@@ -73,10 +73,8 @@ pub fn lift_rows(area: &mut [i32], stride: usize, width: usize, y: usize, height
     ensures { at area.new ≡ columns_lifted stride width (side y height) (at area.old) }
 {
     let end = near::lows(height, y) + 1 + y % 2;
-    let mut n = 0;
-    while n < end {
+    for n in 0..end {
         predict_next(area, stride, width, y, height, n);
         update_behind(area, stride, width, y, height, n);
-        n += 1;
     }
 }

@@ -19,8 +19,8 @@ returns-then-n-lt2 c =
 pub overflow_sub-b : goal.overflow_sub-b
 overflow_sub-b c = omega arith
 
-pub predict_highs-requires : goal.predict_highs-requires
-predict_highs-requires c =
+pub change_highs-requires : goal.change_highs-requires
+change_highs-requires c =
     let a = c.args in
     let S = side a.start (length a.line.now) in
     let s = some S (omega arith) in
@@ -28,22 +28,22 @@ predict_highs-requires c =
     let e = c.lows-low.ensures in
     (omega arith, omega arith, omega arith, omega arith, omega arith)
 
-pub update_lows-requires : goal.update_lows-requires
-update_lows-requires c =
+pub change_lows-requires : goal.change_lows-requires
+change_lows-requires c =
     let a = c.args in
     let S = side a.start (length a.line.now) in
     let s = some S (omega arith) in
     let d = beside-highs S in
     let e = c.lows-low.ensures in
-    let k = c.predict_highs.auto.line in
+    let k = c.change_highs.auto.line in
     (omega arith, omega arith, omega arith, omega arith, omega arith)
 
 pub shape_of-line : goal.shape_of-line
-shape_of-line c = c.update_lows.auto.line ∙ c.predict_highs.auto.line
+shape_of-line c = c.change_lows.auto.line ∙ c.change_highs.auto.line
 
 pub returns : goal.returns
 returns c =
     let a = c.args in
     let x = a.line.now in
     let S = side a.start (length x) in
-    cc (c.update_lows.ensures, c.predict_highs.ensures, c.predict_highs.auto.line, c.lows-low.ensures, lifted-is S (at x) (omega arith))
+    cc (c.change_lows.ensures, c.change_highs.ensures, c.change_highs.auto.line, c.lows-low.ensures, lifted-is S (at x) (omega arith))

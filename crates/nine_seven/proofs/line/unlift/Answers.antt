@@ -22,8 +22,8 @@ returns-then-n-lt2 c =
     let y = at a.line.now in
     record { value = c.code.ensures ∙ c.unlift.ensures.value; line_after = c.unlift.ensures.line_after ∙ ap (λ (z : ℕ → ℤ). pick (has_line_in S y) z y) (unlifted-short S (omega arith) y) }
 
-pub unupdate_lows-requires : goal.unupdate_lows-requires
-unupdate_lows-requires c =
+pub change_lows-requires : goal.change_lows-requires
+change_lows-requires c =
     let a = c.args in
     let S = side a.start (length a.line.now) in
     let s = some S (omega arith) in
@@ -34,18 +34,18 @@ unupdate_lows-requires c =
 pub overflow_sub-b : goal.overflow_sub-b
 overflow_sub-b c = omega arith
 
-pub unpredict_highs-requires : goal.unpredict_highs-requires
-unpredict_highs-requires c =
+pub change_highs-requires : goal.change_highs-requires
+change_highs-requires c =
     let a = c.args in
     let S = side a.start (length a.line.now) in
     let s = some S (omega arith) in
     let d = beside-lows S in
     let e = c.lows-low.ensures in
-    let k = c.unupdate_lows.auto.line in
+    let k = c.change_lows.auto.line in
     (omega arith, omega arith, omega arith, omega arith, omega arith)
 
 pub shape_of-line : goal.shape_of-line
-shape_of-line c = c.unpredict_highs.auto.line ∙ c.unupdate_lows.auto.line
+shape_of-line c = c.change_highs.auto.line ∙ c.change_lows.auto.line
 
 pub returns : goal.returns
 returns c =
@@ -57,9 +57,9 @@ returns c =
       value = simp has;
       line_after = simp has
           (cc (
-            c.unpredict_highs.ensures,
-            c.unupdate_lows.ensures,
-            c.unupdate_lows.auto.line,
+            c.change_highs.ensures,
+            c.change_lows.ensures,
+            c.change_lows.auto.line,
             c.lows-low.ensures,
             unlifted-is S (at x)
                 (omega arith),

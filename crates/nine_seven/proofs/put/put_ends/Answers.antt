@@ -13,17 +13,8 @@ loop-q-init c = place-start _ _ _ _ _ c.requires.2 (omega arith)
 pub line_at-requires : goal.line_at-requires
 line_at-requires c = let p = c.requires in (p.0, p.1, omega arith)
 
-pub offset_bounds-out-q : goal.offset_bounds-out-q
-offset_bounds-out-q c = omega arith
-
 pub bounds-out-q : goal.bounds-out-q
 bounds-out-q c = let size = c.loop-q.invariant.swept.size in omega arith
-
-pub overflow_add-q : goal.overflow_add-q
-overflow_add-q c = omega arith
-
-pub loop-q-smaller : goal.loop-q-smaller
-loop-q-smaller c = omega arith
 
 pub loop-q-preserved : goal.loop-q-preserved
 loop-q-preserved c =

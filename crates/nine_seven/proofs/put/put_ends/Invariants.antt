@@ -10,6 +10,3 @@ use Rattle.nine_seven.proofs.put.put_ends.Given as goal
 
 abbrev pub invariant-loop-q : goal.invariant-loop-q
 invariant-loop-q l = Placed (side l.start (length l.coefficients)) (at l.coefficients) l.initial.out l.from l.to l.q l.out
-
-abbrev pub decreases-loop-q : goal.decreases-loop-q
-decreases-loop-q l = l.to - l.q

@@ -12,12 +12,6 @@ use Rattle.lifting.proofs.GridLaws.{beside-lows}
 use Rattle.nine_seven.proofs.PutLaws.{Carried, put-below, long, carry-turn, carry-end}
 use Rattle.nine_seven.proofs.put.put_inner.Goals as goal
 
-pub overflow_add-high : goal.overflow_add-high
-overflow_add-high c = omega arith
-
-pub overflow_sub-from : goal.overflow_sub-from
-overflow_sub-from c = omega arith
-
 pub even_of-e0-requires : goal.even_of-e0-requires
 even_of-e0-requires c =
     let a = c.args in
@@ -31,9 +25,6 @@ even_of-e1-requires c =
     let d = beside-lows (side a.start (length a.coefficients.now)) in
     let e = c.requires.0 in
     (e, c.requires.1, omega arith)
-
-pub overflow_add-from : goal.overflow_add-from
-overflow_add-from c = omega arith
 
 pub even_of-e2-requires : goal.even_of-e2-requires
 even_of-e2-requires c =
@@ -61,26 +52,8 @@ loop-n-init c =
       swept = start a.out.now _ _ (λ j b. put-below S (2 * a.from + a.start % 2) (2 * a.to + a.start % 2) y (at a.out.now) j b);
     }
 
-pub overflow_add-n : goal.overflow_add-n
-overflow_add-n c = omega arith
-
-pub overflow_add-high-in-loop-n : goal.overflow_add-high-in-loop-n
-overflow_add-high-in-loop-n c = omega arith
-
-pub overflow_add-high-in-loop-n-2 : goal.overflow_add-high-in-loop-n-2
-overflow_add-high-in-loop-n-2 c = omega arith
-
 pub next_even-e3-requires : goal.next_even-e3-requires
 next_even-e3-requires c = let h = c.loop-n.invariant in (omega arith, omega arith)
-
-pub overflow_add-high-in-loop-n-3 : goal.overflow_add-high-in-loop-n-3
-overflow_add-high-in-loop-n-3 c = omega arith
-
-pub overflow_mul-n : goal.overflow_mul-n
-overflow_mul-n c = omega arith
-
-pub overflow_add-n-in-loop-n : goal.overflow_add-n-in-loop-n
-overflow_add-n-in-loop-n c = omega arith
 
 pub put_pair-requires : goal.put_pair-requires
 put_pair-requires c =
@@ -88,12 +61,6 @@ put_pair-requires c =
     let size = h.swept.size in
     let far = long _ _ _ h.lows h.least in
     (omega arith, omega arith)
-
-pub overflow_add-n-in-loop-n-2 : goal.overflow_add-n-in-loop-n-2
-overflow_add-n-in-loop-n-2 c = omega arith
-
-pub loop-n-smaller : goal.loop-n-smaller
-loop-n-smaller c = omega arith
 
 pub loop-n-preserved : goal.loop-n-preserved
 loop-n-preserved c =

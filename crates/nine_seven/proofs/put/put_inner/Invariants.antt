@@ -16,6 +16,3 @@ use Rattle.nine_seven.proofs.put.put_inner.Given as goal
 abbrev pub invariant-loop-n : goal.invariant-loop-n
 invariant-loop-n l =
     Carried (side l.start (length l.coefficients)) (at l.coefficients) l.initial.out l.low l.from l.to l.n l.e0 l.e1 l.e2 l.out
-
-abbrev pub decreases-loop-n : goal.decreases-loop-n
-decreases-loop-n l = l.to - l.n

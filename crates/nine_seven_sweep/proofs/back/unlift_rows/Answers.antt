@@ -1,5 +1,5 @@
 use mathlib.Core.Path.{◌∙◌}
-use Rattle.nine_seven_sweep.proofs.LoopLaws.{lower-count, lowering, lower-next, lower-less, lower-room, lower-again, lower-done, lower-all}
+use Rattle.nine_seven_sweep.proofs.LoopLaws.{lower-count, lowering, lower-room, lower-again, lower-done, lower-all}
 use Rattle.nine_seven_sweep.proofs.back.unlift_rows.Goals as goal
 
 pub overflow_sub-last : goal.overflow_sub-last
@@ -19,12 +19,6 @@ unlift_turn-requires c =
     let v = c.loop-n.invariant in
     let m = lower-room v _ v.within in
     (v.more, m.0, m.1)
-
-pub overflow_add-n : goal.overflow_add-n
-overflow_add-n c = lower-next c.loop-n.invariant c.loop-n-test.true
-
-pub loop-n-smaller : goal.loop-n-smaller
-loop-n-smaller c = lower-less c.loop-n.invariant c.loop-n-test.true
 
 pub loop-n-preserved : goal.loop-n-preserved
 loop-n-preserved c =

@@ -1,4 +1,4 @@
-use Rattle.nine_seven_sweep.proofs.LoopLaws.{raise-count, raising, raise-next, raise-less, raise-room, raise-again, raise-done}
+use Rattle.nine_seven_sweep.proofs.LoopLaws.{raise-count, raising, raise-room, raise-again, raise-done}
 use Rattle.nine_seven_sweep.proofs.forth.lift_rows.Goals as goal
 
 pub overflow_add-end : goal.overflow_add-end
@@ -17,12 +17,6 @@ pub update_behind-requires : goal.update_behind-requires
 update_behind-requires c =
     let v = c.loop-n.invariant in
     (v.more, raise-room v c.loop-n-test.true)
-
-pub overflow_add-n : goal.overflow_add-n
-overflow_add-n c = raise-next c.loop-n.invariant c.loop-n-test.true
-
-pub loop-n-smaller : goal.loop-n-smaller
-loop-n-smaller c = raise-less c.loop-n.invariant c.loop-n-test.true
 
 pub loop-n-preserved : goal.loop-n-preserved
 loop-n-preserved c =
