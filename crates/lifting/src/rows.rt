@@ -3,13 +3,11 @@
 // the area or is wider than the stride.
 ghost use Rattle.std.specs.Prelude.{◌≡◌, ◌+◌, ◌*◌, ◌<◌, length};
 ghost use Rattle.numbers.specs.Signal.{at, pick};
-ghost use Rattle.numbers.specs.Word.{wrap32};
-ghost use Rattle.lifting.specs.Line.{predicted, unpredicted, updated, unupdated};
 ghost use Rattle.refusal.specs.Numbers.{answer};
 ghost use Rattle.lifting.specs.Rows.{row_fits, rows_fit, rows_changed};
 
 use crate::place;
-use crate::step::{Predict, Step, Unpredict, Unupdate, Update};
+use crate::step::Step;
 use refusal::Refusal;
 
 // Whether row `row` lies within n numbers: by division, so that no product can overflow.
@@ -69,64 +67,4 @@ pub fn change_row<S: Step>(
         place::step_at::<S>(area, t + i, l + i, r + i);
     }
     Ok(())
-}
-
-pub fn predict_row(
-    area: &mut [i32],
-    stride: usize,
-    width: usize,
-    target: usize,
-    left: usize,
-    right: usize,
-) -> u8
-    ensures value { result ≡ pick (rows_fit (length area.old) stride width target left right) 0 5 }
-    ensures area_after { at area.new ≡ rows_changed (predicted wrap32) (length area.old) stride width target left right
-        (at area.old) }
-{
-    refusal::code(change_row::<Predict>(area, stride, width, target, left, right))
-}
-
-pub fn update_row(
-    area: &mut [i32],
-    stride: usize,
-    width: usize,
-    target: usize,
-    left: usize,
-    right: usize,
-) -> u8
-    ensures value { result ≡ pick (rows_fit (length area.old) stride width target left right) 0 5 }
-    ensures area_after { at area.new ≡ rows_changed (updated wrap32) (length area.old) stride width target left right
-        (at area.old) }
-{
-    refusal::code(change_row::<Update>(area, stride, width, target, left, right))
-}
-
-pub fn unupdate_row(
-    area: &mut [i32],
-    stride: usize,
-    width: usize,
-    target: usize,
-    left: usize,
-    right: usize,
-) -> u8
-    ensures value { result ≡ pick (rows_fit (length area.old) stride width target left right) 0 5 }
-    ensures area_after { at area.new ≡ rows_changed (unupdated wrap32) (length area.old) stride width target left right
-        (at area.old) }
-{
-    refusal::code(change_row::<Unupdate>(area, stride, width, target, left, right))
-}
-
-pub fn unpredict_row(
-    area: &mut [i32],
-    stride: usize,
-    width: usize,
-    target: usize,
-    left: usize,
-    right: usize,
-) -> u8
-    ensures value { result ≡ pick (rows_fit (length area.old) stride width target left right) 0 5 }
-    ensures area_after { at area.new ≡ rows_changed (unpredicted wrap32) (length area.old) stride width target left right
-        (at area.old) }
-{
-    refusal::code(change_row::<Unpredict>(area, stride, width, target, left, right))
 }
