@@ -216,6 +216,7 @@ fn write_some(s: Saver, row: &[i32], out: &mut [u8], at: usize) -> Turn
     }
 }
 
+// Stays: a `while`, since a turn goes on by as many bytes as it wrote.
 // Piece after piece, until the area is full, the file is over or a row is to be begun that no file has.
 fn run(s: Saver, plane: &[i32], out: &mut [u8]) -> Result<Turn, Refusal>
     requires { Inside s }

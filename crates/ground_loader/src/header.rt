@@ -5,6 +5,7 @@ ghost use Rattle.ground_loader.specs.Loader.{shape_of};
 
 use reader::Reader;
 
+// Stays: the saver's bytes a second time, since a reader's numbers are wider than a shape's, and one function of seven numbers is no plainer.
 // A byte of it.
 pub fn byte_at(s: Reader, step: usize, place: usize) -> u8
     requires { (place < 24) × (s.filter < 256) × (s.levels < 256) × (step < 256) }

@@ -8,6 +8,7 @@ use crate::bytes;
 // The least number of twenty digits; ten times it is beyond 64 bits.
 const TWENTY_DIGITS: usize = 10000000000000000000;
 
+// Stays: a `while`, since its limit grows tenfold and a range would count turns that nothing reads.
 // How many digits a number has. Limits are multiplied, as a division for each digit takes longer.
 pub fn digits(n: usize) -> usize
     ensures { result ≡ length (numeral n) }
@@ -40,6 +41,7 @@ fn last_digit(n: usize) -> u8
     b'0' + (n % 10) as u8
 }
 
+// Stays: a `while`, since what is left falls tenfold and a range would need the number of digits first.
 // The digits of a number, the last one right before place `end`; answers where they begin.
 fn put_digits(n: usize, out: &mut [u8], end: usize) -> usize
     requires { (length (numeral n) ≤ end) × (end ≤ length out.old) }
