@@ -437,20 +437,12 @@ impl Reader {
         ensures { result ≡ moved_to self drawn (place_of self.filter (rows self) drawn (spot p.level p.set p.band)) }
     {
         Reader {
-            width: self.width,
-            height: self.height,
-            levels: self.levels,
-            x: self.x,
-            y: self.y,
             drawn,
             level: p.level,
             back: steps::back_of(self, drawn, p),
             band: p.band,
             ended: false,
-            filter: self.filter,
-            stop: self.stop,
-            spare: self.spare,
-            admission: self.admission,
+            ..self
         }
     }
 
@@ -469,20 +461,8 @@ impl Reader {
             store,
         );
         Reader {
-            width: self.width,
-            height: self.height,
-            levels: self.levels,
-            x: self.x,
-            y: self.y,
-            drawn: self.drawn,
-            level: self.level,
-            back: self.back,
-            band: self.band,
             ended: true,
-            filter: self.filter,
-            stop: self.stop,
-            spare: self.spare,
-            admission: self.admission,
+            ..self
         }
     }
 }
