@@ -46,6 +46,7 @@ use wavelet::shape::Shape;
 // With a `stop` (document 02, Q-6; 0: none) it reads the low-low part of that level of a map: size, origin and levels are the low-low part's, a level is
 // counted from the stop, and `spare` are the numbers that the map's line store has beside its own. No levels: its rows are fed and drawn one after another.
 // `admission` says what becomes of a value outside its level's range: 0, it ends the reader (14); 1, it is limited to the range (document 02, Q-10).
+// Stays: `ended`, and numbers for band, filter and admission: the caller's array holds any number there, and each call's contract speaks of every one.
 #[derive(Clone, Copy)]
 pub struct Reader {
     pub width: usize,

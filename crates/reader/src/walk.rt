@@ -211,6 +211,7 @@ pub fn half_place(filter: usize, x: usize, w: usize, n: usize, band: usize) -> u
 }
 
 // A band row put into the half row where it belongs, in the stretch of l, level k + 1.
+// Stays: as `run_steps::put_row`, for speed.
 pub fn put_row(
     filter: usize,
     x: usize,
