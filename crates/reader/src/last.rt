@@ -99,20 +99,12 @@ pub fn moved(s: Reader, drawn: usize, band: usize) -> Reader
     ensures { result ≡ last.moved_to s drawn band }
 {
     Reader {
-        width: s.width,
-        height: s.height,
-        levels: s.levels,
-        x: s.x,
-        y: s.y,
         drawn,
         level: 0,
         back: 0,
         band,
         ended: false,
-        filter: s.filter,
-        stop: s.stop,
-        spare: s.spare,
-        admission: s.admission,
+        ..s
     }
 }
 

@@ -46,6 +46,7 @@ use wavelet::shape::Shape;
 // With a `stop` (document 02, Q-6; 0: none) it reads the low-low part of that level of a map: size, origin and levels are the low-low part's, a level is
 // counted from the stop, and `spare` are the numbers that the map's line store has beside its own. No levels: its rows are fed and drawn one after another.
 // `admission` says what becomes of a value outside its level's range: 0, it ends the reader (14); 1, it is limited to the range (document 02, Q-10).
+// Stays: `ended`, and numbers for band, filter and admission: the caller's array holds any number there, and each call's contract speaks of every one.
 #[derive(Clone, Copy)]
 pub struct Reader {
     pub width: usize,
@@ -437,20 +438,12 @@ impl Reader {
         ensures { result ≡ moved_to self drawn (place_of self.filter (rows self) drawn (spot p.level p.set p.band)) }
     {
         Reader {
-            width: self.width,
-            height: self.height,
-            levels: self.levels,
-            x: self.x,
-            y: self.y,
             drawn,
             level: p.level,
             back: steps::back_of(self, drawn, p),
             band: p.band,
             ended: false,
-            filter: self.filter,
-            stop: self.stop,
-            spare: self.spare,
-            admission: self.admission,
+            ..self
         }
     }
 
@@ -469,20 +462,8 @@ impl Reader {
             store,
         );
         Reader {
-            width: self.width,
-            height: self.height,
-            levels: self.levels,
-            x: self.x,
-            y: self.y,
-            drawn: self.drawn,
-            level: self.level,
-            back: self.back,
-            band: self.band,
             ended: true,
-            filter: self.filter,
-            stop: self.stop,
-            spare: self.spare,
-            admission: self.admission,
+            ..self
         }
     }
 }

@@ -38,11 +38,8 @@ pub fn limit_row(row: &[i32], out: &mut [u16])
     ensures { heights_at out.new ≡
         fronted (length row.now) (λ c. limited (at row.now c)) (heights_at out.old) }
 {
-    let n = row.len();
-    let mut i = 0;
-    while i < n {
+    for i in 0..row.len() {
         limit_at(row, i, out, i);
-        i += 1;
     }
 }
 
@@ -58,14 +55,12 @@ fn interleave_limited(row: &[i32], start: usize, out: &mut [u16])
     let even = rows::evens(n, start);
     let odd = rows::odds(n, start);
     let end = n / 2;
-    let mut j = 0;
-    while j < end {
+    for j in 0..end {
         limit_at(row, even + j, out, 2 * j);
         limit_at(row, odd + j, out, 2 * j + 1);
-        j += 1;
     }
-    if 2 * j < n {
-        limit_at(row, even + j, out, 2 * j);
+    if 2 * end < n {
+        limit_at(row, even + end, out, 2 * end);
     }
 }
 

@@ -7,7 +7,8 @@ ghost use Rattle.wavelet.specs.Shape.{columns as columns_of, rows as rows_of};
 ghost use Rattle.filters.specs.Filters.{filter_of};
 ghost use Rattle.filters.specs.Figures.{store_by, streamable};
 ghost use Rattle.reader.specs.State.{columns, needs, draw_due};
-ghost use Rattle.reader.specs.Questions.{counts_inside, counts_fit, stop_fits, admission_fits, store_fits, run_fits, set_up_question, size_question, stop_question};
+ghost use Rattle.reader.specs.Questions.{counts_inside, counts_fit, stop_fits, admission_fits, store_fits, run_fits};
+ghost use Rattle.reader.specs.Questions.{set_up_question, size_question, stop_question};
 ghost use Rattle.reader.specs.Inside.{Counts, Due, store_question, row_question};
 
 use crate::walk::Next;
@@ -136,7 +137,8 @@ pub fn level_question(map: Shape, level: usize) -> Result<(), Refusal>
 
 // Question 5 of a set-up: is a line store of `length` numbers long enough for the map?
 fn room_question(map: Shape, length: usize) -> Result<(), Refusal>
-    ensures { answer result ≡ ask (leb (pick (streamable map.filter (columns_of map) map.levels) (store_by map.filter (columns_of map) map.levels) 0) length) 5 0 }
+    ensures { answer result ≡
+        ask (leb (pick (streamable map.filter (columns_of map) map.levels) (store_by map.filter (columns_of map) map.levels) 0) length) 5 0 }
 {
     if length < filters::store_length(map.filter as usize, map.width, map.x as usize, map.levels) {
         return Err(Refusal::AreaShort);

@@ -270,6 +270,7 @@ fn go(s: Reader, p: Place, store: &mut [i32], run: &[i32], out: &mut [u16]) -> T
         done: Tally { used: 0, rows: 0 },
         place: p,
     };
+    // Stays: only the turns show how many there are, so a `for` has nothing to count.
     while t.on {
         let q = t.place;
         let d = t.done;

@@ -200,6 +200,7 @@ pub fn feed_row(s: Reader, store: &mut [i32], n: Next, complete: bool, run: &[i3
 }
 
 // Where the reader goes on after the set of n is worked out: to the next finer level, if a row is made that waits, else to the next set.
+// Stays: as `run_steps::put_row`, for speed.
 fn spot_past(s: Reader, n: Next) -> Spot
     requires { Counts s × Due s n × (0 < n.spot.level) }
     ensures { Is (past s.filter (columns s) (rows s) s.levels (n.spot.level - 1) n.spot.set) result }

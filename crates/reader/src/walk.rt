@@ -68,8 +68,7 @@ pub fn level_at(
     let mut top = y;
     let mut bottom = y + height;
     let mut row = drawn;
-    let mut i = 0;
-    while i < k {
+    for _i in 0..k {
         let n = sets::set_of(filter, top, bottom - top, row);
         row = sets::row_below(top, n);
         columns += right - left;
@@ -77,7 +76,6 @@ pub fn level_at(
         right = sizes::next_start(right);
         top = sizes::next_start(top);
         bottom = sizes::next_start(bottom);
-        i += 1;
     }
     let h = bottom - top;
     let n = sets::set_of(filter, top, h, row);
@@ -98,15 +96,7 @@ pub fn at_set(l: Level, n: usize) -> Level
     ensures { (result.start ≡ l.start) × (result.x ≡ l.x) × (result.width ≡ l.width) × (result.y ≡ l.y) × (result.height ≡ l.height) × (result.set ≡ n) ×
         (result.last ≡ l.last) }
 {
-    Level {
-        start: l.start,
-        x: l.x,
-        width: l.width,
-        y: l.y,
-        height: l.height,
-        set: n,
-        last: l.last,
-    }
+    Level { set: n, ..l }
 }
 
 // Level k, at the set that waits while l, level k + 1, is at its own.
@@ -185,22 +175,20 @@ pub fn next_up(
         IsLevel filter (side x width) (side y height) drawn (level - 1) l }
     ensures { IsNext filter (side x width) (side y height) drawn (next_up filter (side x width) (side y height) levels level l.set band) result }
 {
-    let mut k = level;
     let mut m = l;
     let mut b = band;
-    while 0 < k {
-        let c = band_at(filter, x, width, y, height, levels, drawn, k - 1, m, b);
+    for k in (0..level).rev() {
+        let c = band_at(filter, x, width, y, height, levels, drawn, k, m, b);
         if c < 4 {
             return Next {
                 spot: Spot {
-                    level: k,
+                    level: k + 1,
                     set: m.set,
                     band: c,
                 },
                 at: m,
             };
         }
-        k -= 1;
         b = 1;
         if 0 < k {
             m = finer(filter, x, width, y, height, drawn, k, m);
@@ -223,6 +211,7 @@ pub fn half_place(filter: usize, x: usize, w: usize, n: usize, band: usize) -> u
 }
 
 // A band row put into the half row where it belongs, in the stretch of l, level k + 1.
+// Stays: as `run_steps::put_row`, for speed.
 pub fn put_row(
     filter: usize,
     x: usize,
@@ -336,10 +325,8 @@ pub fn work_due(
         settled admission filter base (side x width) (side y height) levels to from l.set (at store.old) }
     ensures kept { Kept (store_by filter (side x width) levels) (at store.old) (at store.new) }
 {
-    let mut k = from;
     let mut m = l;
-    while to < k {
-        k -= 1;
+    for k in (to..from).rev() {
         if !work_at(
             admission, filter, base, x, width, y, height, levels, drawn, store, k, m,
         ) {

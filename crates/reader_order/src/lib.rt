@@ -39,9 +39,8 @@ fn seek_row(s: Shape, d: usize, from: Spot) -> Place
     requires { from.level ≤ s.levels }
     ensures { result ≡ seek s (s.height - d) d (spot from.level from.set from.band) }
 {
-    let mut drawn = d;
     let mut q = from;
-    while drawn < s.height {
+    for drawn in d..s.height {
         let n = walk::next_up(s, q);
         if 0 < n.level {
             return Place {
@@ -51,8 +50,7 @@ fn seek_row(s: Shape, d: usize, from: Spot) -> Place
                 band: n.band,
             };
         }
-        drawn += 1;
-        q = walk::begin_row(s, drawn);
+        q = walk::begin_row(s, drawn + 1);
     }
     nowhere()
 }

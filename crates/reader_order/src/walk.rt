@@ -51,11 +51,9 @@ pub fn next_up(s: Shape, q: Spot) -> Spot
     requires { q.level ≤ s.levels }
     ensures { Is (next_up s.filter (columns s) (rows s) s.levels q.level q.set q.band) result }
 {
-    let mut k = q.level;
     let mut n = q.set;
     let mut b = q.band;
-    while 0 < k {
-        k -= 1;
+    for k in (0..q.level).rev() {
         let v = sides_at(s, k);
         let c = band_at(s, k, v, n, b);
         if c < 4 {

@@ -36,14 +36,13 @@ pub fn descend_from(
     ensures { spot result.level result.set result.band ≡
         descend filter (levels - level) level (side v.x v.width) (side v.y v.height) n row }
 {
-    let mut k = level;
     let mut wx = v.x;
     let mut w = v.width;
     let mut hy = v.y;
     let mut h = v.height;
     let mut m = n;
     let mut r = row;
-    while k < levels {
+    for k in level..levels {
         let s = sets::sets_before(filter, hy, h, r);
         if !sets::goes_down(filter, w, hy, h, r, s) {
             return Spot {
@@ -65,10 +64,9 @@ pub fn descend_from(
         wx = sizes::next_start(wx);
         h = sizes::low_count(hy, h);
         hy = sizes::next_start(hy);
-        k += 1;
     }
     Spot {
-        level: k,
+        level: if level < levels { levels } else { level },
         set: m,
         band: 0,
     }

@@ -1,11 +1,12 @@
 // The figure of document 02, Q-10: no height that a tolerant reader rebuilds from a rounded plane is off by more.
-ghost use Rattle.std.specs.Prelude.{◌≡◌, ◌≤◌, eqb};
-ghost use Rattle.numbers.specs.Signal.{pick};
+ghost use Rattle.std.specs.Prelude.{◌≡◌, ◌≤◌, IfOk};
+ghost use Rattle.refusal.specs.Numbers.{answer};
 ghost use Rattle.wavelet.specs.Limits.{max_levels};
 ghost use Rattle.tolerance.specs.Figure.{half_up, level_error};
 ghost use Rattle.rounding.specs.Figure.{max_step, error_bound};
 ghost use Rattle.rounding.specs.Calls.{bound_question};
 
+use refusal::Refusal;
 use wavelet::limits;
 
 // The largest step.
@@ -42,25 +43,22 @@ fn bound_of(levels: usize, step: usize) -> usize
 {
     let e = step - 1;
     let mut f = 0;
-    let mut k = 0;
-    while k < levels {
+    for _k in 0..levels {
         f = level_error(e, f);
-        k += 1;
     }
     f
 }
 
-// The same as a call: 0, or 4 or 20, and then the bound is left as it was.
-pub fn error_bound(levels: usize, step: usize, bound: &mut usize) -> u8
-    ensures value { result ≡ bound_question levels step }
-    ensures bound_after { bound.new ≡ pick (eqb result 0) (error_bound levels step) bound.old }
+// The same as a call. The questions are 4 and 20.
+pub fn error_bound(levels: usize, step: usize) -> Result<usize, Refusal>
+    ensures value { answer result ≡ bound_question levels step }
+    ensures bound { IfOk result (λ b. b ≡ error_bound levels step) }
 {
     if !limits::is_within(levels, limits::MAX_LEVELS) {
-        return 4;
+        return Err(Refusal::BadLevels);
     }
     if !limits::is_within(step, MAX_STEP) {
-        return 20;
+        return Err(Refusal::BadStep);
     }
-    *bound = bound_of(levels, step);
-    0
+    Ok(bound_of(levels, step))
 }

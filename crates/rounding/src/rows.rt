@@ -16,10 +16,8 @@ fn round_between(plane: &mut [i32], first: usize, end: usize, q: Reciprocal)
     requires { Divides q × (end ≤ length plane.old) }
     ensures { at plane.new ≡ rounded_from q.step first end (at plane.old) }
 {
-    let mut i = first;
-    while i < end {
+    for i in first..end {
         plane[i] = step::rounded(plane[i], q);
-        i += 1;
     }
 }
 
@@ -38,10 +36,8 @@ pub fn round_rows(plane: &mut [i32], width: usize, height: usize, levels: usize,
     let q = step::reciprocal_of(step as u32);
     let low = sizes::size_at(levels, 0, width);
     let top = sizes::size_at(levels, 0, height);
-    let mut r = 0;
-    while r < height {
+    for r in 0..height {
         let from = r * width;
         round_between(plane, from + first_of(r, top, low), from + width, q);
-        r += 1;
     }
 }

@@ -13,28 +13,19 @@ pub struct Reciprocal {
 }
 
 // 31 bits, and as many as the step has.
+#[tactic(auto, unfolding(crate::specs::Step::shift_of))]
 fn shift_of(step: u32) -> u32
     ensures { result ≡ shift_of step }
 {
-    if step <= 1 {
-        return 31;
+    match step {
+        0..=1 => 31,
+        2 => 32,
+        3..=4 => 33,
+        5..=8 => 34,
+        9..=16 => 35,
+        17..=32 => 36,
+        _ => 37,
     }
-    if step <= 2 {
-        return 32;
-    }
-    if step <= 4 {
-        return 33;
-    }
-    if step <= 8 {
-        return 34;
-    }
-    if step <= 16 {
-        return 35;
-    }
-    if step <= 32 {
-        return 36;
-    }
-    37
 }
 
 pub fn reciprocal_of(step: u32) -> Reciprocal

@@ -4,7 +4,8 @@ ghost use Rattle.turns.specs.Answers.{of_changed, of_turn};
 ghost use Rattle.states.specs.WriterAnswers.{number};
 ghost use Rattle.states.specs.TurnsState.{is_turns, turns_of, turns_words, changed_words, turn_words, reader_of};
 
-use turns::{Changed, Turn, Turns};
+use refusal::Refusal;
+use turns::Turns;
 
 // Is this the state array of a turn-giver?
 pub fn is_turns(s: &[u64; 4]) -> bool
@@ -34,35 +35,39 @@ pub fn pack_turns(t: Turns, s: &mut [u64; 4])
 }
 
 // The answer to a mark or a clear in the caller's numbers.
-pub fn pack_changed(answer: Changed, s: &mut [u64; 4]) -> u32
+pub fn pack_changed(answer: Result<Turns, Refusal>, s: &mut [u64; 4]) -> u32
     ensures value { result ≡ number (of_changed answer) }
     ensures s_after { s.new ≡ changed_words (of_changed answer) s.old }
 {
     match answer {
-        Changed::Passed(t) => {
+        Ok(t) => {
             pack_turns(t, s);
             0
         }
-        Changed::Refused(no) => no as u32,
+        Err(why) => why.number() as u32,
     }
 }
 
 // A turn, and the reader that it serves; 16 for Nothing.
-pub fn pack_turn(answer: Turn, s: &mut [u64; 4], reader: &mut usize) -> u32
+pub fn pack_turn(
+    answer: Result<Option<(usize, Turns)>, Refusal>,
+    s: &mut [u64; 4],
+    reader: &mut usize,
+) -> u32
     ensures value { result ≡ number (of_turn answer) }
     ensures s_after { s.new ≡ turn_words (of_turn answer) s.old }
     ensures reader_after { reader.new ≡ reader_of (of_turn answer) reader.old }
 {
     match answer {
-        Turn::Reader(n, t) => {
+        Ok(Some((n, t))) => {
             pack_turns(t, s);
             *reader = n;
             0
         }
-        Turn::Nothing => {
+        Ok(None) => {
             *reader = 16;
             0
         }
-        Turn::Refused(no) => no as u32,
+        Err(why) => why.number() as u32,
     }
 }

@@ -6,6 +6,8 @@ ghost use Rattle.rounding.specs.Rounding.{rounded_plane};
 ghost use Rattle.rounding.specs.Figure.{error_bound};
 ghost use Rattle.rounding.specs.Calls.{round_question, bound_question};
 
+use rounding::error;
+
 // A plane by the 5/3, from the origin, its HL, LH and HH values rounded toward zero to multiples of a step. The questions are 2, 3, 4, 20 and 5.
 pub fn terrain_round(
     plane: &mut [i32],
@@ -26,5 +28,11 @@ pub fn terrain_error_bound(levels: usize, step: usize, bound: &mut usize) -> u32
     ensures value { result ≡ bound_question levels step }
     ensures bound_after { bound.new ≡ pick (eqb result 0) (error_bound levels step) bound.old }
 {
-    rounding::error::error_bound(levels, step, bound) as u32
+    match error::error_bound(levels, step) {
+        Ok(most) => {
+            *bound = most;
+            0
+        }
+        Err(why) => why.number() as u32,
+    }
 }

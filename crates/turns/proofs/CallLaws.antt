@@ -9,11 +9,10 @@ use Rattle.numbers.specs.Signal.{pick}
 use Rattle.numbers.proofs.Sweep as sweep
 use Rattle.calls.specs.Lists.{gives, refused, unless}
 use Rattle.turns.specs.declared.Turns.{Turns}
-use Rattle.turns.specs.Marks.{readers, all_marked, marked}
-use Rattle.turns.specs.Order.{Served, reader, nobody, number_of, next_after}
+use Rattle.turns.specs.Marks.{all_marked, marked}
+use Rattle.turns.specs.Order.{Served, reader, nobody, next_after}
 use Rattle.turns.specs.Answers.{a_reader, nothing}
 use Rattle.turns.specs.Calls.{in_range, change_question, turn_question, lent, turn_reply}
-use Rattle.turns.proofs.OrderLaws.{found-wants}
 
 module _ (t : Turns) where
   -- a turn-giver in its ranges
@@ -72,24 +71,10 @@ module _ (t : Turns) where
   unfolding turn_reply turn_question
   turn-yes e = rw e refl
 
-  -- r is the number of whom the search gave; a reader's is not 16
-  module _ (r : ℕ) (is : r ≡ number_of (next_after (marked t.marks) t.last)) (e : in_range t ≡ true) where
-    small : (n : ℕ) → next_after (marked t.marks) t.last ≡ reader n → n < readers
-    small n h = (found-wants (marked t.marks) t.last n h).0
+  -- whom the search gave
+  module _ (e : in_range t ≡ true) where
+    pub turn-nothing : nobody ≡ next_after (marked t.marks) t.last → gives nothing ≡ turn_reply t
+    turn-nothing is = ap (λ s. gives (lent t s)) is ∙ sym (turn-yes e)
 
-    pub turn-nothing : r ≡ 16 → gives nothing ≡ turn_reply t
-    turn-nothing h = go (next_after (marked t.marks) t.last) refl ∙ sym (turn-yes e)
-      where
-        go : (s : Served) → next_after (marked t.marks) t.last ≡ s → gives nothing ≡ gives (lent t (next_after (marked t.marks) t.last))
-        go nobody g = ap (λ s. gives (lent t s)) (sym g)
-        go (reader n) g = absurd (let k : r ≡ n = is ∙ ap number_of g in omega (arith, small n g))
-
-    pub turn-reader : (r ≡ 16 → ⊥) → gives (a_reader r (record { marks = t.marks; last = r })) ≡ turn_reply t
-    turn-reader h = go (next_after (marked t.marks) t.last) refl ∙ sym (turn-yes e)
-      where
-        go : (s : Served) → next_after (marked t.marks) t.last ≡ s →
-            gives (a_reader r (record { marks = t.marks; last = r })) ≡ gives (lent t (next_after (marked t.marks) t.last))
-        go nobody g = absurd (h (is ∙ ap number_of g))
-        go (reader n) g =
-            let k : r ≡ n = is ∙ ap number_of g in
-            ap (λ m. gives (a_reader m (record { marks = t.marks; last = m }))) k ∙ ap (λ s. gives (lent t s)) (sym g)
+    pub turn-reader : (r : ℕ) → reader r ≡ next_after (marked t.marks) t.last → gives (a_reader r (record { marks = t.marks; last = r })) ≡ turn_reply t
+    turn-reader r is = ap (λ s. gives (lent t s)) is ∙ sym (turn-yes e)

@@ -1,5 +1,5 @@
 -- The order of turns. Document 02, Q-11: "the next reader, in circular order after the last one served, that wants a band row."
-use Rattle.std.specs.Prelude.{Bool, ℕ, zero, suc, ◌+◌, ◌%◌}
+use Rattle.std.specs.Prelude.{Bool, ℕ, zero, suc, ◌+◌, ◌%◌, Option, Some, None}
 use Rattle.numbers.specs.Signal.{pick}
 use Rattle.turns.specs.Marks.{readers}
 
@@ -17,7 +17,7 @@ first_from wants (suc k) r = pick (wants (r % readers)) (reader (r % readers)) (
 unfoldable pub next_after : (ℕ → Bool) → ℕ → Served
 next_after wants last = first_from wants readers (last + 1)
 
--- as a number: 16 is nobody
-abbrev pub number_of : Served → ℕ
-number_of (reader n) = n
-number_of nobody = readers
+-- as the code has it
+abbrev pub served : Option ℕ → Served
+served (Some n) = reader n
+served None = nobody

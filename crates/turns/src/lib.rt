@@ -4,8 +4,11 @@
 mod order;
 
 ghost use Rattle.std.specs.Prelude.{◌≡◌};
+ghost use Rattle.refusal.specs.Numbers.{answer};
 ghost use Rattle.turns.specs.Answers.{of_changed, of_turn};
 ghost use Rattle.turns.specs.Calls.{fresh, in_range, change_question, mark_reply, clear_reply, turn_reply};
+
+use refusal::Refusal;
 
 // The marks, bit n that of reader n, and the reader served last; docs/STATE.md gives their ranges.
 #[derive(Clone, Copy)]
@@ -13,20 +16,6 @@ pub struct Turns {
     pub marks: usize,
     // 15 before any was: the first turn looks from reader 0 on
     pub last: usize,
-}
-
-#[derive(Clone, Copy)]
-pub enum Changed {
-    Passed(Turns),
-    Refused(u8),
-}
-
-#[derive(Clone, Copy)]
-pub enum Turn {
-    // the reader that is served, and the turn-giver then
-    Reader(usize, Turns),
-    Nothing,
-    Refused(u8),
 }
 
 // Are the numbers in their ranges? Question 1.
@@ -40,16 +29,16 @@ fn in_range(t: Turns) -> bool
 }
 
 // The questions of marking and clearing: 1 of the state, then 21 of the reader's number.
-fn change_question(t: Turns, reader: usize) -> u8
-    ensures { result ≡ change_question t reader }
+fn change_question(t: Turns, reader: usize) -> Result<(), Refusal>
+    ensures { answer result ≡ change_question t reader }
 {
     if !in_range(t) {
-        return 1;
+        return Err(Refusal::BadState);
     }
     if order::LAST < reader {
-        return 21;
+        return Err(Refusal::BadReader);
     }
-    0
+    Ok(())
 }
 
 impl Turns {
@@ -64,50 +53,43 @@ impl Turns {
     }
 
     // A reader wants a band row, until its mark is cleared. The questions are 1 and 21.
-    pub fn mark(self, reader: usize) -> Changed
+    pub fn mark(self, reader: usize) -> Result<Turns, Refusal>
         ensures { of_changed result ≡ mark_reply self reader }
     {
-        let no = change_question(self, reader);
-        if no != 0 {
-            return Changed::Refused(no);
-        }
-        Changed::Passed(Turns {
+        change_question(self, reader)?;
+        Ok(Turns {
             marks: order::with_mark(self.marks, reader),
-            last: self.last,
+            ..self
         })
     }
 
     // It wants none. The questions are 1 and 21.
-    pub fn clear(self, reader: usize) -> Changed
+    pub fn clear(self, reader: usize) -> Result<Turns, Refusal>
         ensures { of_changed result ≡ clear_reply self reader }
     {
-        let no = change_question(self, reader);
-        if no != 0 {
-            return Changed::Refused(no);
-        }
-        Changed::Passed(Turns {
+        change_question(self, reader)?;
+        Ok(Turns {
             marks: order::without_mark(self.marks, reader),
-            last: self.last,
+            ..self
         })
     }
 
     // The next turn: the first marked reader in circular order after the one served last, or Nothing. No mark is cleared. The question is 1.
-    pub fn give(self) -> Turn
+    pub fn give(self) -> Result<Option<(usize, Turns)>, Refusal>
         ensures { of_turn result ≡ turn_reply self }
     {
         if !in_range(self) {
-            return Turn::Refused(1);
+            return Err(Refusal::BadState);
         }
-        let reader = order::first_marked(self.marks, self.last);
-        if reader == order::READERS {
-            return Turn::Nothing;
+        match order::first_marked(self.marks, self.last) {
+            Some(reader) => Ok(Some((
+                reader,
+                Turns {
+                    last: reader,
+                    ..self
+                },
+            ))),
+            None => Ok(None),
         }
-        Turn::Reader(
-            reader,
-            Turns {
-                marks: self.marks,
-                last: reader,
-            },
-        )
     }
 }

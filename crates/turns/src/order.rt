@@ -1,7 +1,7 @@
 // Marks as the bits of a number, and the search in circular order.
 ghost use Rattle.std.specs.Prelude.{◌≡◌, ◌≤◌, ◌<◌, ◌^◌};
 ghost use Rattle.turns.specs.Marks.{readers, all_marked, marked, with_mark, without_mark};
-ghost use Rattle.turns.specs.Order.{next_after, number_of};
+ghost use Rattle.turns.specs.Order.{next_after, served};
 
 // The readers, the last of them, and all of their marks.
 pub const READERS: usize = 16;
@@ -48,18 +48,16 @@ pub fn without_mark(marks: usize, reader: usize) -> usize
     marks
 }
 
-// The first marked reader of the sixteen after `last`, which comes last itself; 16 where none is marked.
-pub fn first_marked(marks: usize, last: usize) -> usize
+// The first marked reader of the sixteen after `last`, which comes last itself.
+pub fn first_marked(marks: usize, last: usize) -> Option<usize>
     requires { last < readers }
-    ensures { result ≡ number_of (next_after (marked marks) last) }
+    ensures { served result ≡ next_after (marked marks) last }
 {
-    let mut i = 0;
-    while i < READERS {
+    for i in 0..READERS {
         let reader = (last + 1 + i) % READERS;
         if is_marked(marks, reader) {
-            return reader;
+            return Some(reader);
         }
-        i += 1;
     }
-    READERS
+    None
 }

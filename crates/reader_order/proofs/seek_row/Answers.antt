@@ -22,9 +22,6 @@ returns-then-n-gt0 c =
     (omega (arith, c.if-n-gt0.true, c.next_up-n.ensures.level))
     ∙ l.invariant.1
 
-pub loop-drawn-smaller : goal.loop-drawn-smaller
-loop-drawn-smaller c = omega arith
-
 pub loop-drawn-preserved : goal.loop-drawn-preserved
 loop-drawn-preserved c =
     let l = c.loop-drawn in

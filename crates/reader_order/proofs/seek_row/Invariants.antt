@@ -8,7 +8,4 @@ use Rattle.reader_order.proofs.seek_row.Given as goal
 abbrev pub invariant-loop-drawn : goal.invariant-loop-drawn
 invariant-loop-drawn l =
     (l.q.level ≤ l.s.levels)
-    × (seek l.s (l.s.height - l.drawn) l.drawn (spot l.q.level l.q.set l.q.band) ≡ seek l.s (l.s.height - l.initial.drawn) l.initial.drawn (spot l.initial.q.level l.initial.q.set l.initial.q.band))
-
-abbrev pub decreases-loop-drawn : goal.decreases-loop-drawn
-decreases-loop-drawn l = l.s.height - l.drawn
+    × (seek l.s (l.s.height - l.drawn) l.drawn (spot l.q.level l.q.set l.q.band) ≡ seek l.s (l.s.height - l.d) l.d (spot l.initial.q.level l.initial.q.set l.initial.q.band))

@@ -22,36 +22,8 @@ loop-j-init c =
       omega arith,
       halves-front (side args.start (length args.row.now)) _ _ c.evens-even.ensures c.odds-odd.ensures,
       omega arith,
-      omega arith,
       start-heights args.out.now _ 0 (λ j lt. absurd (omega arith)),
     )
-
-pub overflow_add-even : goal.overflow_add-even
-overflow_add-even c = omega arith
-
-pub overflow_mul-j : goal.overflow_mul-j
-overflow_mul-j c = omega arith
-
-pub limit_at-requires : goal.limit_at-requires
-limit_at-requires c = omega arith
-
-pub overflow_add-odd : goal.overflow_add-odd
-overflow_add-odd c = omega arith
-
-pub overflow_mul-j-in-loop-j : goal.overflow_mul-j-in-loop-j
-overflow_mul-j-in-loop-j c = omega arith
-
-pub overflow_add-j : goal.overflow_add-j
-overflow_add-j c = omega arith
-
-pub limit_at-requires-in-loop-j : goal.limit_at-requires-in-loop-j
-limit_at-requires-in-loop-j c = omega arith
-
-pub overflow_add-j-in-loop-j : goal.overflow_add-j-in-loop-j
-overflow_add-j-in-loop-j c = omega arith
-
-pub loop-j-smaller : goal.loop-j-smaller
-loop-j-smaller c = omega arith
 
 pub loop-j-preserved : goal.loop-j-preserved
 loop-j-preserved c =
@@ -62,42 +34,30 @@ loop-j-preserved c =
       inv.1,
       inv.2,
       inv.3,
-      omega arith,
-      c.limit_at-in-loop-j.auto.out ∙ c.limit_at.auto.out ∙ inv.5,
+      c.limit_at-in-loop-j.auto.out ∙ c.limit_at.auto.out ∙ inv.4,
       rw (c.limit_at-in-loop-j.ensures, c.limit_at.ensures)
-          (lay-turn (side args.start (length x)) limited (at x) _ _ _ inv.3 _ c.loop-j.j _ inv.0 inv.6 (omega arith)),
+          (lay-turn (side args.start (length x)) limited (at x) _ _ _ inv.3 _ c.loop-j.j _ inv.0 inv.5 (omega arith)),
     )
 
-pub overflow_mul-j-2 : goal.overflow_mul-j-2
-overflow_mul-j-2 c = omega arith
+pub shape_of-out-then-end-n : goal.shape_of-out-then-end-n
+shape_of-out-then-end-n c = c.limit_at-then-end-n.auto.out ∙ c.loop-j.invariant.4
 
-pub overflow_add-even-then-j-n : goal.overflow_add-even-then-j-n
-overflow_add-even-then-j-n c = omega arith
-
-pub overflow_mul-j-then-j-n : goal.overflow_mul-j-then-j-n
-overflow_mul-j-then-j-n c = omega arith
-
-pub limit_at-requires-then-j-n : goal.limit_at-requires-then-j-n
-limit_at-requires-then-j-n c = omega arith
-
-pub shape_of-out-then-j-n : goal.shape_of-out-then-j-n
-shape_of-out-then-j-n c = c.limit_at-then-j-n.auto.out ∙ c.loop-j.invariant.5
-
-pub returns-then-j-n : goal.returns-then-j-n
-returns-then-j-n c =
+pub returns-then-end-n : goal.returns-then-end-n
+returns-then-end-n c =
     let args = c.args in
     let x = args.row.now in
     let inv = c.loop-j.invariant in
     let S = side args.start (length x) in
-    let made = lay-last S limited (at x) _ _ _ inv.3 _ c.loop-j.j _ inv.0 inv.6 (omega arith) in
-    (finish-drawn S limited (at x) _ _ c.loop-j.j c.limit_at-then-j-n.new.out _ made c.limit_at-then-j-n.ensures
+    let made = lay-last S limited (at x) _ _ _ inv.3 _ c.loop-j.j _ inv.0 inv.5 (omega arith) in
+    let e : length x / 2 ≡ c.loop-j.j = omega arith in
+    (finish-drawn S limited (at x) _ _ c.loop-j.j c.limit_at-then-end-n.new.out _ made (rw e at c.limit_at-then-end-n.ensures)
     (omega arith))
 
-pub shape_of-out-else-j-n : goal.shape_of-out-else-j-n
-shape_of-out-else-j-n c = c.loop-j.invariant.5
+pub shape_of-out-else-end-n : goal.shape_of-out-else-end-n
+shape_of-out-else-end-n c = c.loop-j.invariant.4
 
-pub returns-else-j-n : goal.returns-else-j-n
-returns-else-j-n c =
+pub returns-else-end-n : goal.returns-else-end-n
+returns-else-end-n c =
     let inv = c.loop-j.invariant in
     let args = c.args in
-    (finish-heights c.loop-j.out inv.6 (λ j le. front_rest _ _ _ j (omega arith)))
+    (finish-heights c.loop-j.out inv.5 (λ j le. front_rest _ _ _ j (omega arith)))

@@ -17,8 +17,5 @@ use Rattle.reader.proofs.limited.interleave_limited.Given as goal
 
 abbrev pub invariant-loop-j : goal.invariant-loop-j
 invariant-loop-j l =
-    (length l.row ≤ length l.initial.out) × (l.n ≡ length l.row) × (l.end ≡ length l.row / 2) × Halves (side l.start (length l.row)) 0 l.even l.odd × (l.j ≤ l.end)
+    (length l.row ≤ length l.initial.out) × (l.n ≡ length l.row) × (l.end ≡ length l.row / 2) × Halves (side l.start (length l.row)) 0 l.even l.odd
     × (length l.out ≡ length l.initial.out) × Swept (length l.initial.out) (laid (side l.start (length l.row)) limited (at l.row) (heights_at l.initial.out)) (heights_at l.initial.out) (2 * l.j) (wholes l.out)
-
-abbrev pub decreases-loop-j : goal.decreases-loop-j
-decreases-loop-j l = l.end - l.j

@@ -12,31 +12,20 @@ use Rattle.reader.specs.Limited.{limited}
 use Rattle.reader.proofs.limited.limit_row.Goals as goal
 
 pub loop-i-init : goal.loop-i-init
-loop-i-init c = (c.requires, refl, omega arith, refl, start-heights c.args.out.now _ 0 (λ j lt. absurd (omega arith)))
-
-pub limit_at-requires : goal.limit_at-requires
-limit_at-requires c = omega arith
-
-pub overflow_add-i : goal.overflow_add-i
-overflow_add-i c = omega arith
-
-pub loop-i-smaller : goal.loop-i-smaller
-loop-i-smaller c = omega arith
+loop-i-init c = (c.requires, refl, start-heights c.args.out.now _ 0 (λ j lt. absurd (omega arith)))
 
 pub loop-i-preserved : goal.loop-i-preserved
 loop-i-preserved c =
     let l = c.loop-i in (
       l.invariant.0,
-      l.invariant.1,
-      omega arith,
-      c.limit_at.auto.out ∙ l.invariant.3,
-      rw c.limit_at.ensures (store _ l.invariant.4 (omega arith) (sym (front_at _ _ _ l.i (omega arith)))),
+      c.limit_at.auto.out ∙ l.invariant.1,
+      rw c.limit_at.ensures (store _ l.invariant.2 (omega arith) (sym (front_at _ _ _ l.i (omega arith)))),
     )
 
 pub shape_of-out : goal.shape_of-out
-shape_of-out c = c.loop-i.invariant.3
+shape_of-out c = c.loop-i.invariant.1
 
 pub returns : goal.returns
 returns c =
     let l = c.loop-i in
-    finish-heights l.out l.invariant.4 (λ j le. front_rest _ _ _ j (omega arith))
+    finish-heights l.out l.invariant.2 (λ j le. front_rest _ _ _ j (omega arith))

@@ -14,8 +14,5 @@ use Rattle.reader.proofs.limited.limit_row.Given as goal
 
 abbrev pub invariant-loop-i : goal.invariant-loop-i
 invariant-loop-i l =
-    (length l.row ≤ length l.initial.out) × (l.n ≡ length l.row) × (l.i ≤ l.n) × (length l.out ≡ length l.initial.out)
+    (length l.row ≤ length l.initial.out) × (length l.out ≡ length l.initial.out)
     × Swept (length l.initial.out) (fronted (length l.row) (λ c. limited (at l.row c)) (heights_at l.initial.out)) (heights_at l.initial.out) l.i (wholes l.out)
-
-abbrev pub decreases-loop-i : goal.decreases-loop-i
-decreases-loop-i l = l.n - l.i

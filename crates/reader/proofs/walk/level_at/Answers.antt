@@ -14,42 +14,34 @@ pub overflow_add-bottom : goal.overflow_add-bottom
 overflow_add-bottom c = omega arith
 
 pub loop-i-init : goal.loop-i-init
-loop-i-init c = (omega arith, omega arith, omega arith, omega arith, omega arith, ends-start _ _ _ _ (omega arith))
+loop-i-init c = (omega arith, omega arith, omega arith, omega arith, ends-start _ _ _ _ (omega arith))
 
 pub overflow_sub-bottom : goal.overflow_sub-bottom
-overflow_sub-bottom c = let a = c.loop-i.invariant.5 in omega (arith, a.down)
+overflow_sub-bottom c = let a = c.loop-i.invariant.4 in omega (arith, a.down)
 
 pub overflow_sub-columns : goal.overflow_sub-columns
-overflow_sub-columns c = let a = c.loop-i.invariant.5 in omega (arith, a.across)
+overflow_sub-columns c = let a = c.loop-i.invariant.4 in omega (arith, a.across)
 
 pub overflow_add-columns : goal.overflow_add-columns
 unfolding max_levels
 overflow_add-columns c =
-    let a = c.loop-i.invariant.5.walked in
+    let a = c.loop-i.invariant.4.walked in
     let args = c.args in
-    omega (arith, a.narrow, a.passed, widths-le (side args.x args.width) c.loop-i.i)
-
-pub overflow_add-i : goal.overflow_add-i
-unfolding max_levels
-overflow_add-i c = omega arith
-
-pub loop-i-smaller : goal.loop-i-smaller
-loop-i-smaller c = omega arith
+    omega (arith, a.narrow, a.passed, widths-le (side args.x args.width) c.loop-i._i)
 
 pub loop-i-preserved : goal.loop-i-preserved
 loop-i-preserved c =
     let inv = c.loop-i.invariant in (
-      omega arith,
+      inv.0,
       inv.1,
       inv.2,
       inv.3,
-      inv.4,
-      ends_on _ _ _ _ _ _ _ _ _ _ _ inv.3 inv.5 _ _ _ _ _ _ c.set_of-n.ensures c.row_below-row.ensures c.next_start-left.ensures
+      ends_on _ _ _ _ _ _ _ _ _ _ _ inv.2 inv.4 _ _ _ _ _ _ c.set_of-n.ensures c.row_below-row.ensures c.next_start-left.ensures
           c.next_start-right.ensures c.next_start-top.ensures c.next_start-bottom.ensures,
     )
 
 pub overflow_sub-h : goal.overflow_sub-h
-overflow_sub-h c = let a = c.loop-i.invariant.5 in omega (arith, a.down)
+overflow_sub-h c = let a = c.loop-i.invariant.4 in omega (arith, a.down)
 
 pub overflow_mul-result : goal.overflow_mul-result
 unfolding max_levels
@@ -57,16 +49,16 @@ overflow_mul-result c =
     let args = c.args in
     omega (
       arith,
-      begins-small args.filter c.rows_kept-rows.result (side args.x args.width) c.loop-i.i c.loop-i.columns c.rows_kept-rows.ensures
-          c.loop-i.invariant.5.walked.passed (omega arith),
+      begins-small args.filter c.rows_kept-rows.result (side args.x args.width) c.loop-i._i c.loop-i.columns c.rows_kept-rows.ensures
+          c.loop-i.invariant.4.walked.passed (omega arith),
     )
 
 pub overflow_sub-result : goal.overflow_sub-result
-overflow_sub-result c = let a = c.loop-i.invariant.5 in omega (arith, a.across)
+overflow_sub-result c = let a = c.loop-i.invariant.4 in omega (arith, a.across)
 
 pub returns : goal.returns
 returns c =
     let a = c.args in
-    let e : c.loop-i.i ≡ a.k = omega arith in
-    walked-level a.filter _ (side a.x a.width) (side a.y a.height) a.drawn a.k _ _ _ _ _ _ _ c.loop-i.invariant.3 e
-    c.loop-i.invariant.5.walked c.set_of-n-2.result c.set_of-n-2.ensures c.rows_kept-rows.ensures
+    let e : c.loop-i._i ≡ a.k = omega arith in
+    walked-level a.filter _ (side a.x a.width) (side a.y a.height) a.drawn a.k _ _ _ _ _ _ _ c.loop-i.invariant.2 e
+    c.loop-i.invariant.4.walked c.set_of-n-2.result c.set_of-n-2.ensures c.rows_kept-rows.ensures

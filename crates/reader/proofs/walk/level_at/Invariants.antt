@@ -10,8 +10,5 @@ use Rattle.reader.proofs.walk.level_at.Given as goal
 
 abbrev pub invariant-loop-i : goal.invariant-loop-i
 invariant-loop-i l =
-    (l.i ≤ l.k) × (l.k ≤ max_levels) × (l.width ≤ 2 ^ 16) × (l.height < 2 ^ 32) × (l.drawn ≤ l.height)
-    × Ends l.filter (side l.x l.width) (side l.y l.height) l.drawn l.i l.columns l.left l.right l.top l.bottom l.row
-
-abbrev pub decreases-loop-i : goal.decreases-loop-i
-decreases-loop-i l = l.k - l.i
+    (l.k ≤ max_levels) × (l.width ≤ 2 ^ 16) × (l.height < 2 ^ 32) × (l.drawn ≤ l.height)
+    × Ends l.filter (side l.x l.width) (side l.y l.height) l.drawn l._i l.columns l.left l.right l.top l.bottom l.row

@@ -12,9 +12,6 @@ use Rattle.reader.proofs.walk.next_up.Given as goal
 
 abbrev pub invariant-loop-k : goal.invariant-loop-k
 invariant-loop-k l =
-    Small (side l.x l.width) (side l.y l.height) l.drawn × (l.k ≤ l.level) × (l.level ≤ max_levels)
+    Small (side l.x l.width) (side l.y l.height) l.drawn × (l.level ≤ max_levels)
     × (0 < l.k → IsLevel l.filter (side l.x l.width) (side l.y l.height) l.drawn (l.k - 1) l.m)
     × (next_up l.filter (side l.x l.width) (side l.y l.height) l.levels l.k l.m.set l.b ≡ next_up l.filter (side l.x l.width) (side l.y l.height) l.levels l.level l.initial.m.set l.band)
-
-abbrev pub decreases-loop-k : goal.decreases-loop-k
-decreases-loop-k l = l.k

@@ -21,9 +21,6 @@ use Rattle.reader.proofs.walk.work_due.Goals as goal
 pub loop-k-init : goal.loop-k-init
 loop-k-init c = let p = c.requires in (p.0, p.1, p.2, p.4, refl, p.3, refl, kept-none _ _, p.5)
 
-pub overflow_sub-k : goal.overflow_sub-k
-overflow_sub-k c = let l = c.loop-k in (step_down _ l.k _ c.loop-k-test.true l.invariant.2).0
-
 pub work_at-requires : goal.work_at-requires
 work_at-requires c =
     let l = c.loop-k in
@@ -49,9 +46,6 @@ finer-m-requires c =
     let down = step_down _ l.k _ c.loop-k-test.true inv.2 in
     (inv.0, inv.5 down.0, c.if-k-gt0.true, omega (arith, down.2, inv.1, levels-most c.args.filter))
 
-pub loop-k-smaller-then-k-gt0 : goal.loop-k-smaller-then-k-gt0
-loop-k-smaller-then-k-gt0 c = omega arith
-
 pub loop-k-preserved-then-k-gt0 : goal.loop-k-preserved-then-k-gt0
 loop-k-preserved-then-k-gt0 c =
     let l = c.loop-k in
@@ -69,9 +63,6 @@ loop-k-preserved-then-k-gt0 c =
       kept-both _ _ _ _ inv.7 c.work_at.ensures.kept,
       inv.8,
     )
-
-pub loop-k-smaller : goal.loop-k-smaller
-loop-k-smaller c = omega arith
 
 pub loop-k-preserved : goal.loop-k-preserved
 loop-k-preserved c =

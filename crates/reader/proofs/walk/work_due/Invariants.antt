@@ -29,6 +29,3 @@ invariant-loop-k l =
     ≡ settled l.admission l.filter l.base (side l.x l.width) (side l.y l.height) l.levels l.to l.from l.initial.m.set (at l.initial.store))
     × Kept (store_by l.filter (side l.x l.width) l.levels) (at l.initial.store) (at l.store)
     × Admits l.admission l.filter l.base (side l.x l.width) (side l.y l.height)
-
-abbrev pub decreases-loop-k : goal.decreases-loop-k
-decreases-loop-k l = l.k

@@ -6,16 +6,10 @@ use Rattle.reader_order.proofs.walk.next_up.Goals as goal
 pub loop-k-init : goal.loop-k-init
 loop-k-init c = (c.requires, refl)
 
-pub overflow_sub-k : goal.overflow_sub-k
-overflow_sub-k c = omega arith
-
 pub band_at-c-requires : goal.band_at-c-requires
 band_at-c-requires c =
     let l = c.loop-k in
     (c.sides_at-v.ensures, omega (arith, c.loop-k-test.true, l.invariant.0))
-
-pub overflow_add-result : goal.overflow_add-result
-overflow_add-result c = omega arith
 
 pub returns-then-c-lt4 : goal.returns-then-c-lt4
 returns-then-c-lt4 c =
@@ -26,13 +20,10 @@ pub waits-n-requires : goal.waits-n-requires
 waits-n-requires c =
     c.sides_at-v.ensures
 
-pub loop-k-smaller : goal.loop-k-smaller
-loop-k-smaller c = omega arith
-
 pub loop-k-preserved : goal.loop-k-preserved
 loop-k-preserved c =
     let l = c.loop-k in (
-      omega (arith, l.invariant.0),
+      l.invariant.0,
       up-finer _ _ _ _ l.k l.b _ l.n _ c.loop-k-test.true c.band_at-c.ensures (omega arith) c.waits-n.ensures ∙ l.invariant.1,
     )
 

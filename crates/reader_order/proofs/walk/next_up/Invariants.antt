@@ -7,8 +7,5 @@ use Rattle.reader_order.proofs.walk.next_up.Given as goal
 
 abbrev pub invariant-loop-k : goal.invariant-loop-k
 invariant-loop-k l =
-    (l.k ≤ l.s.levels)
-    × (next_up l.s.filter (columns l.s) (rows l.s) l.s.levels l.k l.n l.b ≡ next_up l.s.filter (columns l.s) (rows l.s) l.s.levels l.initial.k l.initial.n l.initial.b)
-
-abbrev pub decreases-loop-k : goal.decreases-loop-k
-decreases-loop-k l = l.k
+    (l.fn.q.level ≤ l.s.levels)
+    × (next_up l.s.filter (columns l.s) (rows l.s) l.s.levels l.k l.n l.b ≡ next_up l.s.filter (columns l.s) (rows l.s) l.s.levels l.fn.q.level l.initial.n l.initial.b)

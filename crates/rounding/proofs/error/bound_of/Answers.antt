@@ -12,31 +12,24 @@ overflow_sub-e c = c.requires.1
 
 pub loop-k-init : goal.loop-k-init
 unfolding max_step
-loop-k-init c = (omega arith, omega (arith, c.requires), omega arith, sym (after_none _))
+loop-k-init c = (omega (arith, c.requires), omega arith, sym (after_none _))
 
 pub level_error-f-requires : goal.level_error-f-requires
 unfolding max_levels
-level_error-f-requires c = (omega (arith, c.loop-k.invariant.1), omega (arith, c.loop-k.invariant, c.requires.0))
-
-pub overflow_add-k : goal.overflow_add-k
-overflow_add-k c = record { fits = omega arith }
-
-pub loop-k-smaller : goal.loop-k-smaller
-loop-k-smaller c = omega arith
+level_error-f-requires c = (omega (arith, c.loop-k.invariant.0), omega (arith, c.loop-k.invariant, c.requires.0))
 
 pub loop-k-preserved : goal.loop-k-preserved
 loop-k-preserved c =
     let h = c.loop-k in
     let i = h.invariant in (
-      omega arith,
-      i.1,
-      omega (arith, c.level_error-f.ensures, level-small (c.args.step - 1) h.f i.1, i.2),
-      c.level_error-f.ensures ∙ ap (level_error (c.args.step - 1)) i.3 ∙ sym (after_next _ _),
+      i.0,
+      omega (arith, c.level_error-f.ensures, level-small (c.args.step - 1) h.f i.0, i.1),
+      c.level_error-f.ensures ∙ ap (level_error (c.args.step - 1)) i.2 ∙ sym (after_next _ _),
     )
 
 pub returns : goal.returns
 unfolding error_bound
 returns c =
     let i = c.loop-k.invariant in
-    let e : c.loop-k.k ≡ c.args.levels = omega (arith, i.0) in
-    i.3 ∙ ap (error_after (c.args.step - 1)) e
+    let e : c.loop-k._k ≡ c.args.levels = omega arith in
+    i.2 ∙ ap (error_after (c.args.step - 1)) e

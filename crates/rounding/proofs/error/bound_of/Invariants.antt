@@ -5,7 +5,4 @@ use Rattle.tolerance.specs.Figure.{error_after}
 use Rattle.rounding.proofs.error.bound_of.Given as goal
 
 abbrev pub invariant-loop-k : goal.invariant-loop-k
-invariant-loop-k l = (l.k ≤ l.levels) × (l.e ≤ 63) × (l.f ≤ 332 * l.k) × (l.f ≡ error_after (l.step - 1) l.k)
-
-abbrev pub decreases-loop-k : goal.decreases-loop-k
-decreases-loop-k l = l.levels - l.k
+invariant-loop-k l = (l.e ≤ 63) × (l.f ≤ 332 * l._k) × (l.f ≡ error_after (l.step - 1) l._k)

@@ -9,12 +9,12 @@ use Rattle.rounding.proofs.error.error_bound.Goals as goal
 
 pub returns-then-not-is_within : goal.returns-then-not-is_within
 unfolding max_levels
-returns-then-not-is_within c = record { value = no-levels _ _ (sym c.is_within.ensures ∙ not-true _ c.if-not-is_within.true-raw); bound_after = refl }
+returns-then-not-is_within c = record { value = no-levels _ _ (sym c.is_within.ensures ∙ not-true _ c.if-not-is_within.true-raw); bound = tt }
 
 pub returns-then-not-is_within-2 : goal.returns-then-not-is_within-2
 unfolding max_levels max_step
 returns-then-not-is_within-2 c =
-    record { value = no_bound _ _ (sym c.is_within.ensures ∙ not-false _ c.if-not-is_within.false-raw) (sym c.is_within-2.ensures ∙ not-true _ c.if-not-is_within-2.true-raw); bound_after = refl }
+    record { value = no_bound _ _ (sym c.is_within.ensures ∙ not-false _ c.if-not-is_within.false-raw) (sym c.is_within-2.ensures ∙ not-true _ c.if-not-is_within-2.true-raw); bound = tt }
 
 pub bound_of-requires : goal.bound_of-requires
 unfolding max_levels max_step
@@ -26,4 +26,4 @@ bound_of-requires c =
 pub returns : goal.returns
 unfolding max_levels max_step
 returns c =
-    record { value = both_yes _ _ (sym c.is_within.ensures ∙ not-false _ c.if-not-is_within.false-raw) (sym c.is_within-2.ensures ∙ not-false _ c.if-not-is_within-2.false-raw); bound_after = c.bound_of.ensures }
+    record { value = both_yes _ _ (sym c.is_within.ensures ∙ not-false _ c.if-not-is_within.false-raw) (sym c.is_within-2.ensures ∙ not-false _ c.if-not-is_within-2.false-raw); bound = c.bound_of.ensures }

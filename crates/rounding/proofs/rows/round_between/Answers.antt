@@ -8,49 +8,41 @@ use Rattle.rounding.proofs.rows.round_between.Goals as goal
 
 pub loop-i-init : goal.loop-i-init
 loop-i-init c = (
-  omega arith,
   c.requires.1,
   c.requires.0,
   start _ _ _ (λ j lt. from-before _ _ _ _ j lt),
 )
 
 pub offset_bounds-plane-i : goal.offset_bounds-plane-i
-offset_bounds-plane-i c = let h = c.loop-i.invariant in record { fits = omega (arith, h.1) }
+offset_bounds-plane-i c = let h = c.loop-i.invariant in record { fits = omega (arith, h.0) }
 
 pub slice_copy_out-rounded : goal.slice_copy_out-rounded
-slice_copy_out-rounded c = let h = c.loop-i.invariant in omega (arith, h.1, h.3.size)
+slice_copy_out-rounded c = let h = c.loop-i.invariant in omega (arith, h.0, h.2.size)
 
 pub rounded-requires : goal.rounded-requires
-rounded-requires c = c.loop-i.invariant.2
+rounded-requires c = c.loop-i.invariant.1
 
 pub offset_bounds-plane-i-in-loop-i : goal.offset_bounds-plane-i-in-loop-i
-offset_bounds-plane-i-in-loop-i c = let h = c.loop-i.invariant in record { fits = omega (arith, h.1) }
+offset_bounds-plane-i-in-loop-i c = let h = c.loop-i.invariant in record { fits = omega (arith, h.0) }
 
 pub bounds-plane-i : goal.bounds-plane-i
-bounds-plane-i c = let h = c.loop-i.invariant in omega (arith, h.1, h.3.size)
-
-pub overflow_add-i : goal.overflow_add-i
-overflow_add-i c = omega arith
-
-pub loop-i-smaller : goal.loop-i-smaller
-loop-i-smaller c = omega arith
+bounds-plane-i c = let h = c.loop-i.invariant in omega (arith, h.0, h.2.size)
 
 pub loop-i-preserved : goal.loop-i-preserved
 loop-i-preserved c =
     let h = c.loop-i in
     let i = h.invariant in
     let x = c.args in (
-      omega (arith, i.0),
+      i.0,
       i.1,
-      i.2,
-      store _ i.3 (omega (arith, i.1))
+      store _ i.2 (omega (arith, i.0))
           (read_back _ c.rounded.type_inv ∙ c.rounded.ensures
-          ∙ ap (toward_zero x.q.step) (read_back _ c.rounded-arg-1.given ∙ i.3.rest h.i (omega arith))
-          ∙ sym (from_at _ _ _ _ h.i i.0 (omega arith))),
+          ∙ ap (toward_zero x.q.step) (read_back _ c.rounded-arg-1.given ∙ i.2.rest h.i (omega arith))
+          ∙ sym (from_at _ _ _ _ h.i (omega arith) (omega arith))),
     )
 
 pub shape_of-plane : goal.shape_of-plane
-shape_of-plane c = c.loop-i.invariant.3.size
+shape_of-plane c = c.loop-i.invariant.2.size
 
 pub returns : goal.returns
-returns c = finish c.loop-i.invariant.3 (λ j le. from_past _ _ _ _ j (omega arith))
+returns c = finish c.loop-i.invariant.2 (λ j le. from_past _ _ _ _ j (omega arith))

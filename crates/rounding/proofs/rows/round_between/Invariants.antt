@@ -8,8 +8,5 @@ use Rattle.rounding.proofs.rows.round_between.Given as goal
 
 abbrev pub invariant-loop-i : goal.invariant-loop-i
 invariant-loop-i l =
-    (l.first ≤ l.i) × (l.end ≤ length l.initial.plane) × Divides l.q
+    (l.end ≤ length l.initial.plane) × Divides l.q
     × Swept (length l.initial.plane) (rounded_from l.q.step l.first l.end (at l.initial.plane)) (at l.initial.plane) l.i l.plane
-
-abbrev pub decreases-loop-i : goal.decreases-loop-i
-decreases-loop-i l = l.end - l.i

@@ -42,12 +42,6 @@ round_between-requires c =
     let i = c.loop-r.invariant in
     (i.divides, omega (arith, room, i.swept.size))
 
-pub overflow_add-r : goal.overflow_add-r
-overflow_add-r c = record { fits = omega arith }
-
-pub loop-r-smaller : goal.loop-r-smaller
-loop-r-smaller c = omega arith
-
 pub loop-r-preserved : goal.loop-r-preserved
 loop-r-preserved c =
     let i = c.loop-r.invariant in

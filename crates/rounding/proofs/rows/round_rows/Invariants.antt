@@ -5,6 +5,3 @@ use Rattle.rounding.proofs.rows.round_rows.Given as goal
 
 abbrev pub invariant-loop-r : goal.invariant-loop-r
 invariant-loop-r l = Rounded l.initial.plane l.width l.height l.levels l.step l.q l.low l.top l.r l.plane
-
-abbrev pub decreases-loop-r : goal.decreases-loop-r
-decreases-loop-r l = l.height - l.r

@@ -1,6 +1,5 @@
--- `give` meets its contract: 16 is nobody, since no reader has that number. Assumes nothing.
-use mathlib.Core.Path.{sym, ◌∙◌}
-use native.Mathlib.Omega.{arith}
+-- `give` meets its contract: by the search. Assumes nothing.
+use Rattle.std.proofs.Common.{sym, ◌∙◌, arith}
 use borrow.Author.Tests.{not-true, not-false}
 use Rattle.turns.proofs.CallLaws.{ranges, turn-no, turn-nothing, turn-reader}
 use Rattle.turns.proofs.Turns.give.Goals as goal
@@ -8,13 +7,13 @@ use Rattle.turns.proofs.Turns.give.Goals as goal
 pub returns-then-not-in_range : goal.returns-then-not-in_range
 returns-then-not-in_range c = turn-no _ (sym c.in_range.ensures ∙ not-true _ c.if-not-in_range.true-raw)
 
-pub first_marked-reader-requires : goal.first_marked-reader-requires
-first_marked-reader-requires c = omega (arith, (ranges _ (sym c.in_range.ensures ∙ not-false _ c.if-not-in_range.false-raw)).1)
+pub first_marked-requires : goal.first_marked-requires
+first_marked-requires c = omega (arith, (ranges _ (sym c.in_range.ensures ∙ not-false _ c.if-not-in_range.false-raw)).1)
 
-pub returns-then-reader-eq-READERS : goal.returns-then-reader-eq-READERS
-returns-then-reader-eq-READERS c =
-    turn-nothing _ _ c.first_marked-reader.ensures (sym c.in_range.ensures ∙ not-false _ c.if-not-in_range.false-raw) c.if-reader-eq-READERS.true
+pub returns-in-None : goal.returns-in-None
+returns-in-None c =
+    turn-nothing _ (sym c.in_range.ensures ∙ not-false _ c.if-not-in_range.false-raw) c.in-None.ensures
 
-pub returns : goal.returns
-returns c =
-    turn-reader _ _ c.first_marked-reader.ensures (sym c.in_range.ensures ∙ not-false _ c.if-not-in_range.false-raw) c.if-reader-eq-READERS.false
+pub returns-in-Some : goal.returns-in-Some
+returns-in-Some c =
+    turn-reader _ (sym c.in_range.ensures ∙ not-false _ c.if-not-in_range.false-raw) _ c.in-Some.ensures
