@@ -106,9 +106,7 @@ impl Listing {
         }
         match self.input.end() {
             Ok(next) => states::finish(next, self.writer, store, row),
-            Err(Incomplete::Short) => {
-                states::refuse(self.input, self.writer, Refusal::BadInput.number())
-            }
+            Err(Incomplete::Short) => { states::refuse(self.input, self.writer, Refusal::BadInput) }
             Err(Incomplete::Before) => self,
         }
     }

@@ -3,23 +3,25 @@
 ghost use Rattle.std.specs.Prelude.{◌≡◌, length};
 ghost use Rattle.numbers.specs.Signal.{at};
 ghost use Rattle.level.specs.Level.{Memory};
+ghost use Rattle.refusal.specs.Numbers.{number};
 ghost use Rattle.listing.specs.States.{state_of, listed, Leaves, refused_to, draw_state, begin_state, offer_state, finish_state, read_state, value_part, advance_state};
 
 use crate::line::Line;
 use crate::listing::Listing;
 use pgm::input::{Input, Step};
+use refusal::Refusal;
 use wavelet::limits;
 use wavelet::shape::Shape;
 use writer::Writer;
 
-// A refusal, whatever its number: no more is read.
-pub fn refuse(input: Input, writer: Writer, number: u8) -> Listing
-    ensures { result ≡ refused_to input writer number }
+// A refusal, whatever it is: no more is read.
+pub fn refuse(input: Input, writer: Writer, why: Refusal) -> Listing
+    ensures { result ≡ refused_to input writer (number why) }
 {
     Listing {
         input: input.at_phase(4),
         writer,
-        line: Line::refused(number as usize),
+        line: Line::refused(why.number() as usize),
     }
 }
 
@@ -45,7 +47,7 @@ pub fn draw(input: Input, writer: Writer, store: &mut [i32], row: &mut [i32]) ->
             writer,
             line: Line::none(),
         },
-        Err(why) => refuse(input, writer, why.number()),
+        Err(why) => refuse(input, writer, why),
     }
 }
 
@@ -71,7 +73,7 @@ fn begin(input: Input, writer: Writer, width: usize, height: usize, store: &mut 
             writer: fresh,
             line: Line::size(width, height, levels),
         },
-        Err(why) => refuse(input, writer, why.number()),
+        Err(why) => refuse(input, writer, why),
     }
 }
 
@@ -83,7 +85,7 @@ fn offer(input: Input, writer: Writer, height: u16, store: &mut [i32], row: &mut
     let run = [height; 1];
     match writer.offer(store, &run) {
         Ok(taken) => draw(input, taken.writer, store, row),
-        Err(why) => refuse(input, writer, why.number()),
+        Err(why) => refuse(input, writer, why),
     }
 }
 
@@ -94,7 +96,7 @@ pub fn finish(input: Input, writer: Writer, store: &mut [i32], row: &mut [i32]) 
 {
     match writer.finish(store) {
         Ok(next) => draw(input, next, store, row),
-        Err(why) => refuse(input, writer, why.number()),
+        Err(why) => refuse(input, writer, why),
     }
 }
 
@@ -114,7 +116,7 @@ pub fn read(listing: Listing, byte: u8, store: &mut [i32], row: &mut [i32]) -> L
         },
         Ok(Step::Begun(next, width, height)) => begin(next, writer, width, height, store),
         Ok(Step::Height(next, height)) => offer(next, writer, height, store, row),
-        Err(why) => refuse(input, writer, why.number()),
+        Err(why) => refuse(input, writer, why),
     }
 }
 
