@@ -67,7 +67,14 @@ pub fn put(
 }
 
 // Set n is made, the row that completes it being there: a set is made of the rows at two coordinates, 2n and 2n + 1 past the last even one not after y.
-pub fn make(filter: usize, store: &mut [i32], w: usize, x: usize, y: usize, n: usize) -> Result<(), Refusal>
+pub fn make(
+    filter: usize,
+    store: &mut [i32],
+    w: usize,
+    x: usize,
+    y: usize,
+    n: usize,
+) -> Result<(), Refusal>
     ensures value { answer result ≡ pick (level_fits filter (length store.old) (side x w)) 0 5 }
     ensures store_after { at store.new ≡ pick (level_fits filter (length store.old) (side x w))
         ((kind_of filter).make (side x w) y n (at store.old)) (at store.old) }
@@ -102,7 +109,14 @@ pub fn close(
 
 // The LL row of set n, lifted along the row, becomes row q of the next level, whose stretch is the one after: the row at coordinate q past the last even one
 // that is not after the next level's start.
-pub fn deliver(filter: usize, store: &mut [i32], w: usize, x: usize, n: usize, q: usize) -> Result<(), Refusal>
+pub fn deliver(
+    filter: usize,
+    store: &mut [i32],
+    w: usize,
+    x: usize,
+    n: usize,
+    q: usize,
+) -> Result<(), Refusal>
     ensures value { answer result ≡ pick (next_fits filter (length store.old) (side x w)) 0 5 }
     ensures store_after { at store.new ≡ pick (next_fits filter (length store.old) (side x w))
         (delivered filter (side x w) n q (at store.old)) (at store.old) }

@@ -69,7 +69,14 @@ fn heights_fit(w: usize, column: usize, n: usize, all: usize, from: usize) -> bo
 
 // Heights `from` to `from + n` of a run are put into a row, from column `column` on. Refused, and nothing is changed, where the row has not as many columns
 // or the run not as many heights.
-pub fn put(row: &mut [i32], x: usize, column: usize, run: &[u16], from: usize, n: usize) -> Result<(), Refusal>
+pub fn put(
+    row: &mut [i32],
+    x: usize,
+    column: usize,
+    run: &[u16],
+    from: usize,
+    n: usize,
+) -> Result<(), Refusal>
     ensures value { answer result ≡ pick (heights_fit (length row.old) column n (length run.now) from) 0 5 }
     ensures row_after { at row.new ≡ pick (heights_fit (length row.old) column n (length run.now) from)
         (heights_put (side x (length row.old)) column n (λ j. height_at run.now (from + j)) (at row.old)) (at row.old) }

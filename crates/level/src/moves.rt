@@ -31,7 +31,13 @@ fn part_fits(n: usize, from: usize, to: usize, v: usize) -> bool
 }
 
 // The v numbers from place `from` on, a row that starts at coordinate `start`, deinterleaved into its halves from place `to` on, past what is read.
-pub fn deinterleave_row(store: &mut [i32], from: usize, to: usize, start: usize, v: usize) -> Result<(), Refusal>
+pub fn deinterleave_row(
+    store: &mut [i32],
+    from: usize,
+    to: usize,
+    start: usize,
+    v: usize,
+) -> Result<(), Refusal>
     ensures value { answer result ≡ pick (both (leb (from + v) to) (leb (to + v) (length store.old))) 0 5 }
     ensures store_after { at store.new ≡ pick (both (leb (from + v) to) (leb (to + v) (length store.old)))
         (spliced to v (deinterleaved_into (side start v) (λ i. at store.old (from + i)) (at store.old)) (at store.old))

@@ -69,11 +69,7 @@ pub fn pack_writer(w: Writer, s: &mut [u64; 16])
 }
 
 // An offer's answer in the caller's numbers: those words that an offer changes, since the others stand there already, and the heights taken.
-pub fn pack_offered(
-    answer: Result<Taken, Refusal>,
-    s: &mut [u64; 16],
-    taken: &mut usize,
-) -> u32
+pub fn pack_offered(answer: Result<Taken, Refusal>, s: &mut [u64; 16], taken: &mut usize) -> u32
     ensures value { result ≡ number (of_offered answer) }
     ensures s_after { (s.new ≡ took_words (of_offered answer) s.old) × (length s.old ≡ 16) }
     ensures taken_after { taken.new ≡ taken_of (of_offered answer) taken.old }
@@ -124,11 +120,7 @@ pub fn pack_drawn(
 }
 
 // A run's answer: the whole array, and the counts.
-pub fn pack_ran(
-    answer: Result<Ran, Refusal>,
-    s: &mut [u64; 16],
-    counts: &mut [u64; 3],
-) -> u32
+pub fn pack_ran(answer: Result<Ran, Refusal>, s: &mut [u64; 16], counts: &mut [u64; 3]) -> u32
     ensures value { result ≡ number (of_ran answer) }
     ensures s_after { s.new ≡ ran_words (of_ran answer) s.old }
     ensures counts_after { counts.new ≡ counts_of (of_ran answer) counts.old }

@@ -3,22 +3,6 @@ ghost use Rattle.std.specs.Prelude.{◌≡◌, eqb};
 ghost use Rattle.numbers.specs.Signal.{pick};
 ghost use Rattle.ground_file.specs.Header.{header_number, header_words, header_in};
 
-// A shape and a step as seven numbers.
-fn put(head: Header, numbers: &mut [u64; 7])
-    ensures { numbers.new ≡ header_words head.shape head.step }
-{
-    let shape = head.shape;
-    *numbers = [
-        shape.width as u64,
-        shape.height as u64,
-        shape.levels as u64,
-        shape.x as u64,
-        shape.y as u64,
-        shape.filter as u64,
-        head.step as u64,
-    ];
-}
-
 // The shape and the step that the first 24 bytes of a file say, as seven numbers. The questions are 5, 22, 2, 3, 18, 4 and 20; a no leaves these.
 #[unsafe(no_mangle)]
 pub extern "C" fn terrain_file_header(bytes: &[u8], header: &mut [u64; 7]) -> u32

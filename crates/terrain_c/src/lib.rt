@@ -1,5 +1,6 @@
 // The C interface, declared in include/terrain.h: `terrain`'s calls, exported one by one with the same promise. Written by tools/exports.
 #![tactic(auto)]
+
 mod file_calls;
 mod fixed_form;
 mod line;

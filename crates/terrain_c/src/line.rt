@@ -40,7 +40,11 @@ pub extern "C" fn terrain_ccsds_line_forward(line: &[i32], start: usize, out: &m
 }
 
 #[unsafe(no_mangle)]
-pub extern "C" fn terrain_ccsds_line_backward(coefficients: &[i32], start: usize, out: &mut [i32]) -> u32
+pub extern "C" fn terrain_ccsds_line_backward(
+    coefficients: &[i32],
+    start: usize,
+    out: &mut [i32],
+) -> u32
     ensures value { result ≡ pick (leb (length coefficients.now) (length out.old))
         (pick (has_line_in (side start (length coefficients.now)) (at coefficients.now)) 0 14) 5 }
     ensures out_after { at out.new ≡ pick (both (leb (length coefficients.now) (length out.old))

@@ -17,7 +17,11 @@ use wavelet::shape::Shape;
 
 // A fresh reader. The questions are 2, 3, 18, 4 and 5.
 #[unsafe(no_mangle)]
-pub extern "C" fn terrain_reader_set_up(state: &mut [u64; 16], shape: Shape, store: &mut [i32]) -> u32
+pub extern "C" fn terrain_reader_set_up(
+    state: &mut [u64; 16],
+    shape: Shape,
+    store: &mut [i32],
+) -> u32
     ensures value { result ≡
         number
         (set_up_reply shape.filter (columns shape) (rows shape) shape.levels
@@ -70,7 +74,12 @@ pub extern "C" fn terrain_tolerant_set_up(
 
 // The columns and rows of a level's low-low part. The questions are 2, 3, 18, 4 and 17.
 #[unsafe(no_mangle)]
-pub extern "C" fn terrain_level_size(shape: Shape, level: usize, across: &mut usize, down: &mut usize) -> u32
+pub extern "C" fn terrain_level_size(
+    shape: Shape,
+    level: usize,
+    across: &mut usize,
+    down: &mut usize,
+) -> u32
     ensures value { result ≡ size_number (sizing shape.filter (columns shape) (rows shape) shape.levels level) }
     ensures across_after { across.new ≡ columns_of (sizing shape.filter (columns shape) (rows shape) shape.levels level) across.old }
     ensures down_after { down.new ≡ rows_of (sizing shape.filter (columns shape) (rows shape) shape.levels level) down.old }

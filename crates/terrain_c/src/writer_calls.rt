@@ -30,41 +30,13 @@ pub extern "C" fn terrain_reader_store_length(shape: Shape) -> usize
     terrain::writer_calls::terrain_reader_store_length(shape)
 }
 
-// A call's answer that is the writer then, in the caller's numbers.
-fn pack_next(answer: Result<Writer, Refusal>, state: &mut [u64; 16]) -> u32
-    ensures value { result ≡ number (of_set_up answer) }
-    ensures state_after { state.new ≡ state_of (of_set_up answer) state.old }
-{
-    match answer {
-        Ok(writer) => {
-            writer_state::pack_writer(writer, state);
-            0
-        }
-        Err(why) => u32::from(why.number()),
-    }
-}
-
-// A look's answer: the row that waits, all zeros where none does.
-fn pack_look(answer: Result<Option<BandRow>, Refusal>, row: &mut [u64; 4]) -> u32
-    ensures value { result ≡ number (of_look answer) }
-    ensures row_after { row.new ≡ look_of (of_look answer) row.old }
-{
-    match answer {
-        Ok(Some(r)) => {
-            *row = [r.level as u64, r.band as u64, r.row as u64, r.length as u64];
-            0
-        }
-        Ok(None) => {
-            *row = [0, 0, 0, 0];
-            0
-        }
-        Err(why) => u32::from(why.number()),
-    }
-}
-
 // A fresh writer. The questions are 2, 18, 4 and 5. The height is not read.
 #[unsafe(no_mangle)]
-pub extern "C" fn terrain_writer_set_up(state: &mut [u64; 16], shape: Shape, store: &mut [i32]) -> u32
+pub extern "C" fn terrain_writer_set_up(
+    state: &mut [u64; 16],
+    shape: Shape,
+    store: &mut [i32],
+) -> u32
     ensures value { result ≡ number (set_up_reply shape.filter (columns shape) shape.y shape.levels (length store.old)) }
     ensures state_after { state.new ≡
         state_of (set_up_reply shape.filter (columns shape) shape.y shape.levels (length store.old)) state.old }
