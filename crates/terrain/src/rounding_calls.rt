@@ -20,7 +20,8 @@ pub fn terrain_round(
     ensures plane_after { at plane.new ≡
         passed result (width * height) (rounded_plane levels width height step (at plane.old)) (at plane.old) }
 {
-    rounding::round(plane, width, height, levels, step) as u32
+    let answer = rounding::round(plane, width, height, levels, step);
+    refusal::code(answer) as u32
 }
 
 // How far off a height can be that a tolerant reader draws from such a plane. The questions are 4 and 20; a no leaves the bound.

@@ -7,6 +7,7 @@ ghost use Rattle.strokes.specs.Strokes.{mend_question, mended_plane};
 
 use strokes::rectangle::Rectangle;
 
+// Stays: the arguments of the C call as they are, by document 02
 // The plane of a map mended after a stroke in a rectangle, by the 5/3 from the origin; the heights are the new ones. The questions are 2, 3, 4, 5 and 19.
 pub fn terrain_map_mend(
     heights: &[u16],
@@ -23,5 +24,6 @@ pub fn terrain_map_mend(
         (mended_plane levels width height rectangle (heights_at heights.now) (at plane.old)) (at plane.old) }
     ensures work_after { at work.new ≡ passed result (width * height) zeros (at work.old) }
 {
-    strokes::mend(heights, width, height, levels, rectangle, plane, work) as u32
+    let answer = strokes::mend(heights, width, height, levels, rectangle, plane, work);
+    refusal::code(answer) as u32
 }

@@ -7,7 +7,7 @@ use Rattle.strokes.proofs.mend_map.Goals as goal
 pub returns : goal.returns
 returns c =
     let a = c.args in
-    let n = a.width * a.height in
+    let n = a.s.width * a.s.height in
     record {
       plane_after = c.mend_window.ensures;
       work_after = cleared-part n (n - 0) a.work.now c.mend_window.new.work _ (omega arith) c.requires.3

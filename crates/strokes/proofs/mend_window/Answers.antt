@@ -26,19 +26,19 @@ widened-rows-requires c =
 pub load-requires : goal.load-requires
 load-requires c =
     let p = c.requires in
-    let w = map-window c.args.q p.0 p.4 c.widened-columns.ensures c.widened-rows.ensures in
+    let w = map-window c.args.s.rectangle p.0 p.4 c.widened-columns.ensures c.widened-rows.ensures in
     window-load w p.0 p.1 p.3
 
 pub mend_levels-requires : goal.mend_levels-requires
 mend_levels-requires c =
     let p = c.requires in
-    let w = map-window c.args.q p.0 p.4 c.widened-columns.ensures c.widened-rows.ensures in
+    let w = map-window c.args.s.rectangle p.0 p.4 c.widened-columns.ensures c.widened-rows.ensures in
     window-levels w p.0 p.2 (omega (arith, c.load.auto.work, p.3))
 
 pub returns : goal.returns
 returns c =
     let p = c.requires in
     let fits : (i : ℕ) → get_or c.args.heights.now i 0 < 65536 = λ i. omega (arith, c.type_inv.heights i) in
-    let w = map-window c.args.q p.0 p.4 c.widened-columns.ensures c.widened-rows.ensures in
-    window-mended w p.0 c.args.heights.now _ _ _ _ c.args.q fits c.widened-columns.ensures c.widened-rows.ensures
+    let w = map-window c.args.s.rectangle p.0 p.4 c.widened-columns.ensures c.widened-rows.ensures in
+    window-mended w p.0 c.args.heights.now _ _ _ _ c.args.s.rectangle fits c.widened-columns.ensures c.widened-rows.ensures
     c.load.ensures c.mend_levels.ensures

@@ -1,5 +1,5 @@
 -- `error::error_bound` meets its contract: its two questions, and then the figure. Assumes nothing.
-use mathlib.Core.Path.{refl, sym, ◌∙◌}
+use mathlib.Core.Path.{sym, ◌∙◌}
 use borrow.Author.Tests.{not-true, not-false}
 use Rattle.wavelet.specs.Limits.{max_levels}
 use Rattle.wavelet.proofs.QuestionLaws.{within-true}

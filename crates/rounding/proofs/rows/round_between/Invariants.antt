@@ -1,5 +1,5 @@
 -- `rows::round_between` meets its contract: a sweep from the first place to the end. Assumes nothing.
-use Prim.Native.Nat.{◌-◌, ◌≤◌}
+use Prim.Native.Nat.{◌≤◌}
 use lib.ListN.{length}
 use Rattle.numbers.specs.Signal.{at}
 use Rattle.numbers.proofs.Sweep.{Swept}

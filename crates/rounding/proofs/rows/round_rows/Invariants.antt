@@ -1,5 +1,4 @@
 -- `rows::round_rows` meets its contract: a row a turn, by `rounded-turn`. Assumes nothing.
-use Prim.Native.Nat.{◌-◌}
 use Rattle.rounding.proofs.RoundLaws.{Rounded}
 use Rattle.rounding.proofs.rows.round_rows.Given as goal
 
