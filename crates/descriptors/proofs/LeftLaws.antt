@@ -4,33 +4,32 @@ use mathlib.Core.Bool.{Bool, true, false}
 use mathlib.Core.List.{List, [], ◌∷◌, ◌++◌, append-nil}
 use Prim.Native.Nat.{ℕ, zero, suc, ◌+◌, ◌-◌, ◌≤◌, ◌<◌}
 use native.Mathlib.Omega.{arith}
-use native.Mathlib.Nat.{min-le_right}
-use borrow.Author.Tests.{leb-true, le-leb, lt-leb}
-use lib.Dec.{eqb}
-use lib.IntN.{ℤ, pos, negsuc}
-use lib.Signed.{lt_z}
+use borrow.Author.Tests.{leb-true, le-leb, lt-leb, eq-eqb}
+use Rattle.std.specs.Prelude.{cond, eqb, Option, Some, None, IfSome}
 use lib.ListN.{length, take, drop, length-drop}
 use lib.Seq.{drop-nil, take-nil, length-take-le}
-use Rattle.io.specs.Counts.{clamp_len}
-use Rattle.descriptors.specs.Left.{left_in, Within, used_of, reads_now, came, Fills, keeps, reads}
+use Rattle.descriptors.specs.Left.{left_in, Within, used_of, reads_now, count_of, is_end, is_failed, came, Fills, keeps, reads}
 use Rattle.descriptors.specs.declared.input.Left.{Left}
+use Rattle.descriptors.specs.declared.input.Came.TheVariants as coming
 use Rattle.descriptors.specs.declared.input.Filled.{Filled}
 
-pub fills-read : {w : Bool} {l : Left} {c c' : List ℕ} {r : Filled} (got : ℤ) → reads_now w l ≡ true → r ≡ came got (length c') → Fills w l c c' r
-fills-read {w} {l} {c} {c'} got e q = subst (λ r. Fills w l c c' r) (sym q) (reads e refl)
-
-pub came-failed : (g z : ℤ) (n k : ℕ) → z ≡ g → k ≡ clamp_len z n → lt_z z (pos 0) ≡ true
-    → record { left = record { from = 0; to = k }; got = z; read = k; ended = false; failed = lt_z z (pos 0) } ≡ came g n
-came-failed g z n k e h f = rw (← e, h, f)
-
-pub came-some : (g z : ℤ) (n k : ℕ) → z ≡ g → k ≡ clamp_len z n → lt_z z (pos 0) ≡ false
-    → record { left = record { from = 0; to = k }; got = z; read = k; ended = eqb k 0; failed = lt_z z (pos 0) } ≡ came g n
-came-some g z n k e h f = rw (← e, h, f)
-
 -- a read answers no more than the chunk holds
-pub clamped-most : (got : ℤ) (n : ℕ) → clamp_len got n ≤ n
-clamped-most (pos k) n = omega (arith, min-le_right k n)
-clamped-most (negsuc k) n = omega arith
+pub came-most : (got : Option ℕ) (n : ℕ) → IfSome got (λ k. k ≤ n) → count_of (came got) ≤ n
+came-most None n h = omega arith
+came-most (Some k) n h = go (eqb k 0)
+  where
+    go : (b : Bool) → count_of (cond b coming.End (coming.Bytes k)) ≤ n
+    go true = omega arith
+    go false = h
+
+-- a read that brought nothing and did not fail is the input's end
+pub came-none : (got : Option ℕ) → count_of (came got) ≡ 0 → is_failed (came got) ≡ false → is_end (came got) ≡ true
+came-none None z f = sym f
+came-none (Some k) z f = go (eqb k 0) refl z
+  where
+    go : (b : Bool) → eqb k 0 ≡ b → count_of (cond b coming.End (coming.Bytes k)) ≡ 0 → is_end (cond b coming.End (coming.Bytes k)) ≡ true
+    go true e z = refl
+    go false e z = sym e ∙ eq-eqb k 0 z
 
 -- nothing is left where the end is not after the start
 pub none_left : (c : List ℕ) (l : Left) → l.to ≤ l.from → left_in c l ≡ []
@@ -47,17 +46,17 @@ unfolding left_in
 from_start c n = let e : n - 0 ≡ n = omega arith in rw e refl
 
 -- what is left after a fill is what was left, and what was read
-pub fills-left : {w : Bool} {l : Left} {c c' : List ℕ} {r : Filled} → Fills w l c c' r → left_in c' r.left ≡ left_in c l ++ take r.read c'
+pub fills-left : {w : Bool} {l : Left} {c c' : List ℕ} {r : Filled} → Fills w l c c' r → left_in c' r.left ≡ left_in c l ++ take (count_of r.came) c'
 fills-left {c = c} (keeps e q k) = rw (q, k) (sym (append-nil (left_in c _)))
-fills-left {w} {l} {c} {c'} {r} (reads e q) = ap (left_in c') (ap (λ x. x.left) q)
-    ∙ from_start c' (clamp_len r.got (length c'))
-    ∙ ap (λ n. take n c') (sym (ap (λ x. x.read) q))
-    ∙ sym (ap (λ x. x ++ take r.read c') (none_left c l (reads_none w l e)))
+fills-left {w} {l} {c} {c'} {r} (reads got e h q) = ap (left_in c') (ap (λ x. x.left) q)
+    ∙ from_start c' (count_of (came got))
+    ∙ ap (λ n. take n c') (sym (ap (λ x. count_of x.came) q))
+    ∙ sym (ap (λ x. x ++ take (count_of r.came) c') (none_left c l (reads_none w l e)))
 
 pub fills-within : {w : Bool} {l : Left} {c c' : List ℕ} {r : Filled} → Within c l → Fills w l c c' r → Within c' r.left
 fills-within i (keeps e q k) = rw (q, k) i
-fills-within {c' = c'} {r = r} i (reads e q) =
-    subst (Within c') (sym (ap (λ x. x.left) q)) (record { start = omega arith; end = clamped-most r.got (length c') })
+fills-within {c' = c'} i (reads got e h q) =
+    subst (Within c') (sym (ap (λ x. x.left) q)) (record { start = omega arith; end = came-most got (length c') h })
 
 -- ---- some is used
 pub length-left : {c : List ℕ} {l : Left} → Within c l → length (left_in c l) ≡ l.to - l.from

@@ -1,6 +1,6 @@
 // An input read in chunks. What was read and is not used yet stands in the chunk, which is read anew only when nothing of it is left.
-ghost use Rattle.std.specs.Prelude.{◌≡◌, length};
-ghost use Rattle.descriptors.specs.Left.{used_of, reads_now, came, Fills};
+ghost use Rattle.std.specs.Prelude.{◌≡◌, ◌≤◌, length, IfSome};
+ghost use Rattle.descriptors.specs.Left.{used_of, reads_now, count_of, is_end, is_failed, came, Fills};
 
 use crate::again;
 use crate::tell::{tell, tell_error};
@@ -13,15 +13,43 @@ pub struct Left {
     pub to: usize,
 }
 
-// What a fill left: what is to be used now, what `read` answered (0 where it was not called), how many bytes were read so, and whether the input has
-// ended or has failed.
+// What came of a read: nothing, where there was none.
+#[derive(Clone, Copy, Debug, PartialEq, Eq)]
+pub enum Came {
+    Nothing,
+    Bytes(usize),
+    End,
+    Failed,
+}
+
+impl Came {
+    pub fn count(self) -> usize
+        ensures { result ≡ count_of self }
+    {
+        match self {
+            Came::Bytes(count) => count,
+            _ => 0,
+        }
+    }
+
+    pub fn is_end(self) -> bool
+        ensures { result ≡ is_end self }
+    {
+        matches!(self, Came::End)
+    }
+
+    pub fn is_failed(self) -> bool
+        ensures { result ≡ is_failed self }
+    {
+        matches!(self, Came::Failed)
+    }
+}
+
+// What a fill left: what is to be used now, and what came of its read.
 #[derive(Clone, Copy)]
 pub struct Filled {
     pub left: Left,
-    pub got: isize,
-    pub read: usize,
-    pub ended: bool,
-    pub failed: bool,
+    pub came: Came,
 }
 
 // The bytes left once `count` of them are used.
@@ -42,22 +70,29 @@ pub fn used(left: Left, count: usize) -> Left
     }
 }
 
-// Reads, and again while a call is to be made again: what the last call answered, -1 where it failed. A proved loop has to end, so it counts its turns up to
+// Reads, and again while a call is to be made again: how many bytes came, None where it failed. A proved loop has to end, so it counts its turns up to
 // a number that no run uses up.
-fn read_some<R: Read, E: Print>(from: &mut R, name: &[u8], chunk: &mut [u8], errors: &E) -> isize {
+fn read_some<R: Read, E: Print>(
+    from: &mut R,
+    name: &[u8],
+    chunk: &mut [u8],
+    errors: &E,
+) -> Option<usize>
+    ensures { IfSome result (λ n. n ≤ length chunk.new) }
+{
     for _ in 0..u64::MAX {
         match from.read(chunk) {
-            Ok(count) => return count as isize,
+            Ok(count) => return Some(count),
             Err(error) => {
                 if !again::again(&error) {
                     tell_error(errors, name, error);
-                    return -1;
+                    return None;
                 }
             }
         }
     }
     tell(errors, name, "tried too often");
-    -1
+    None
 }
 
 fn reads_now(left: Left, wanted: bool) -> bool
@@ -69,18 +104,14 @@ fn reads_now(left: Left, wanted: bool) -> bool
     false
 }
 
-// What is so once a read of the chunk answered `got`.
-fn came(got: isize, chunk: &[u8]) -> Filled
-    ensures { result ≡ came got (length chunk.now) }
+// No bytes are the input's end; a failure is not.
+fn what_came(got: Option<usize>) -> Came
+    ensures { result ≡ came got }
 {
-    let count = io::count(got, chunk);
-    let failed = got < 0;
-    Filled {
-        left: Left { from: 0, to: count },
-        got,
-        read: count,
-        ended: if failed { false } else { count == 0 },
-        failed,
+    match got {
+        None => Came::Failed,
+        Some(0) => Came::End,
+        Some(count) => Came::Bytes(count),
     }
 }
 
@@ -96,14 +127,17 @@ pub fn fill<R: Read, E: Print>(
     ensures { Fills wanted left chunk.old chunk.new result }
 {
     if reads_now(left, wanted) {
-        let got = read_some(from, name, chunk, errors);
-        return came(got, chunk);
+        let came = what_came(read_some(from, name, chunk, errors));
+        return Filled {
+            left: Left {
+                from: 0,
+                to: came.count(),
+            },
+            came,
+        };
     }
     Filled {
         left,
-        got: 0,
-        read: 0,
-        ended: false,
-        failed: false,
+        came: Came::Nothing,
     }
 }

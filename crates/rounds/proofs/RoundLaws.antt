@@ -5,14 +5,13 @@ use mathlib.Core.Bool.{Bool, true, false, not}
 use mathlib.Core.List.{List, [], ◌++◌}
 use Prim.Native.Nat.{ℕ, suc, ◌≤◌, ◌<◌}
 use native.Mathlib.Omega.{arith}
-use borrow.Author.Tests.{eqb-true, ltb-true, leb-true, le-leb}
-use lib.Dec.{eqb, ltb, leb}
+use borrow.Author.Tests.{eqb-true, ltb-true, leb-true}
+use lib.Dec.{eqb, ltb}
 use lib.ListN.{length, take, drop}
 use lib.Seq.{drop-length}
 use Rattle.numbers.specs.Signal.{pick, both}
 use Rattle.text.specs.Moves.{Went, Stops, full, idle}
-use Rattle.text.proofs.TextLaws.{wrote-size}
-use Rattle.descriptors.specs.Left.{left_in, Within, reads_now, Fills}
+use Rattle.descriptors.specs.Left.{left_in, Within, reads_now, count_of, is_end, Fills}
 use Rattle.descriptors.specs.declared.input.Left.{Left}
 use Rattle.descriptors.specs.declared.input.Filled.{Filled}
 use Rattle.descriptors.specs.declared.output.Cut.{Cut}
@@ -68,9 +67,9 @@ pub ends-parts : (r : Outcome) → ends r ≡ true → (ended r ≡ true) × (no
 unfolding ends
 ends-parts r e = both_true (ended r) (not (failed r)) e
 
-pub ended-parts : (r : Outcome) → ended r ≡ true → (r.filled.ended ≡ true) × (r.idle ≡ true)
+pub ended-parts : (r : Outcome) → ended r ≡ true → (is_end r.filled.came ≡ true) × (r.idle ≡ true)
 unfolding ended
-ended-parts r e = both_true r.filled.ended r.idle e
+ended-parts r e = both_true (is_end r.filled.came) r.idle e
 
 -- not passed on, though nothing has failed: the input has not ended
 pub ends-not : (r : Outcome) → ends r ≡ false → failed r ≡ false → ended r ≡ false
@@ -133,9 +132,11 @@ module _ {S : Type 0} where
   looped-then {M} {A} {A'} {s} {s₁} {s₂} {c} {c'} {o} {o'} {turns} {n} {r₁} {r₂} k e w g d =
       let x : Round M A s₁ r₁.left c c' o o' s₂ r₂ = subst (λ y. Round M y s₁ r₁.left c c' o o' s₂ r₂) e d in
       record {
-        read = g.read ++ take r₂.filled.read c';
+        read = g.read ++ take (count_of r₂.filled.came) c';
         written = g.written ++ take r₂.written o';
-        rounds = subst (λ m. Rounds M A s m (g.read ++ take r₂.filled.read c') (g.written ++ take r₂.written o') s₂ c' r₂) (sym k) (then g.rounds w x);
+        rounds =
+            subst (λ m. Rounds M A s m (g.read ++ take (count_of r₂.filled.came) c') (g.written ++ take r₂.written o') s₂ c' r₂) (sym k)
+            (then g.rounds w x);
         within = round-within x;
       }
 

@@ -5,6 +5,7 @@
 --     few-rounds     they are no more than the bytes read, twice those written, and 2
 --     run-over       so a whole run, if nothing fails and they are fewer than 64 bits count, comes to its end
 -- Assumes nothing.
+use Rattle.std.specs.Prelude.{Option, is_err}
 use mathlib.Core.Path.{◌≡◌, refl, sym, ap, subst, ◌∙◌}
 use mathlib.Core.Bool.{Bool, true, false}
 use mathlib.Core.List.{List, [], ◌++◌, append-nil, append_assoc}
@@ -12,18 +13,16 @@ use Prim.Native.Nat.{ℕ, suc, ◌+◌, ◌*◌, ◌≤◌, ◌<◌}
 use native.Mathlib.Omega.{arith}
 use native.Mathlib.Decide.{dec_lt}
 use borrow.Author.Tests.{lt-ltb, le-leb, eq-eqb}
-use lib.IntN.{ℤ, pos}
-use lib.Signed.{lt_z}
 use lib.ListN.{length, take, length-append}
 use lib.Seq.{length-take-le}
-use Rattle.numbers.specs.Signal.{pick, both}
+use Rattle.numbers.specs.Signal.{pick}
 use Rattle.text.specs.Moves.{Goes, stays, then, Stops, full, idle}
 use Rattle.text.proofs.TextLaws.{wrote-size}
 use Rattle.text.proofs.MoveLaws.{goes-on, call-wrote}
-use Rattle.descriptors.specs.Left.{left_in, reads_now, came, Fills, keeps, reads}
+use Rattle.descriptors.specs.Left.{left_in, reads_now, count_of, is_end, is_failed, came, read_of, Fills, keeps, reads}
 use Rattle.descriptors.specs.declared.input.Left.{Left}
 use Rattle.descriptors.specs.declared.input.Filled.{Filled}
-use Rattle.descriptors.proofs.LeftLaws.{none_left, fills-left, length-left, clamped-most}
+use Rattle.descriptors.proofs.LeftLaws.{none_left, fills-left, length-left, came-most, came-none}
 use Rattle.rounds.specs.Machine.{Machine}
 use Rattle.rounds.specs.Rounds.{most_rounds, over_at, waits_at, waiting, over, failed, ended, ends, going, Round, Rounds, Ran, Run, before, after}
 use Rattle.rounds.specs.Rounds as rounds
@@ -39,7 +38,7 @@ pub record ReachedBy {S : Type 0} (M : Machine S) (s : S) (u t : List ℕ) (s' :
   pub left : u ≡ fed ++ p'
 
 reached-on : {S : Type 0} {M : Machine S} {A : ℕ} {s s₁ s₂ : S} {u t c c' o o' : List ℕ} {l : Left} {r : Outcome} → ReachedBy M s u t s₁ (left_in c l)
-    → Round M A s₁ l c c' o o' s₂ r → ReachedBy M s (u ++ take r.filled.read c') (t ++ take r.written o') s₂ (left_in c' r.left)
+    → Round M A s₁ l c c' o o' s₂ r → ReachedBy M s (u ++ take (count_of r.filled.came) c') (t ++ take r.written o') s₂ (left_in c' r.left)
 reached-on {M = M} {s = s} {s₂ = s₂} {u = u} {t = t} {c = c} {c' = c'} {l = l} {r = r} h d =
     record {
       fed = q ++ d.went.bytes;
@@ -53,7 +52,7 @@ reached-on {M = M} {s = s} {s₂ = s₂} {u = u} {t = t} {c = c} {c' = c'} {l = 
     q = h.fed
 
     new : List ℕ
-    new = take r.filled.read c'
+    new = take (count_of r.filled.came) c'
 
     parts : left_in c' r.filled.left ≡ d.went.bytes ++ left_in c' r.left
     parts = d.went.read ∙ ap (λ y. d.went.bytes ++ y) (sym (round-left d))
@@ -75,12 +74,12 @@ goes-rests L h (then g m) = L.rests (goes-rests L h g) m
 pub record NothingRead {S : Type 0} (M : Machine S) (u : List ℕ) (s' : S) (r : Outcome) : Type 0 where
   pub read : u ≡ []
   pub phase : 3 < M.phase s'
-  pub ended : r.filled.ended ≡ false
+  pub ended : is_end r.filled.came ≡ false
 
 not-read : {w : Bool} {l : Left} {c c' : List ℕ} {g : Filled} (u : List ℕ) → (w ≡ true → ⊥) → Fills w l c c' g → u ≡ []
-    → (u ++ take g.read c' ≡ []) × (g.ended ≡ false)
-not-read {c' = c'} {g = g} u n (keeps e q k) z = (ap (λ y. y ++ take g.read c') z ∙ ap (λ y. take y.read c') q, ap (λ y. y.ended) q)
-not-read {w} {l} u n (reads e q) z = absurd (n (reads-waits w l e).0)
+    → (u ++ take (count_of g.came) c' ≡ []) × (is_end g.came ≡ false)
+not-read {c' = c'} {g = g} u n (keeps e q k) z = (ap (λ y. y ++ take (count_of g.came) c') z ∙ ap (λ y. take (count_of y.came) c') q, ap (λ y. is_end y.came) q)
+not-read {w} {l} u n (reads got e h q) z = absurd (n (reads-waits w l e).0)
 
 pub nothing_read : {S : Type 0} {M : Machine S} {A : ℕ} {s : S} {m : ℕ} {s' : S} {u t c : List ℕ} {r : Outcome} → MachineLaws M → 3 < M.phase s
     → Rounds M A s m u t s' c r → NothingRead M u s' r
@@ -105,14 +104,22 @@ late-some r = go (failed r) (ended r)
     go true e h = refl
     go false e h = rw (h refl)
 
--- a read that brought nothing failed, or the input has ended
-came-none : (r : Outcome) (got : ℤ) (n : ℕ) → r.filled ≡ came got n → r.filled.read ≡ 0 → r.idle ≡ true → failed r ≡ false → ended r ≡ true
-unfolding failed ended
-came-none r got n q z i f = rw i (go (lt_z got (pos 0)) refl)
+read-not : (r : Outcome) → failed r ≡ false → is_failed r.filled.came ≡ false
+unfolding failed
+read-not r = go (is_failed r.filled.came)
   where
-    go : (b : Bool) → lt_z got (pos 0) ≡ b → both r.filled.ended true ≡ true
-    go true k = false-true f (rw (ap (λ y. y.failed) q ∙ k) refl)
-    go false k = rw (ap (λ y. y.ended) q, k, sym (ap (λ y. y.read) q) ∙ z) refl
+    go : (b : Bool) → pick b true (is_err r.sent) ≡ false → b ≡ false
+    go false f = refl
+    go true f = false-true f refl
+
+-- a read that brought nothing failed, or the input has ended
+read-none : (r : Outcome) (got : Option ℕ) → r.filled ≡ read_of (came got) → count_of r.filled.came ≡ 0 → r.idle ≡ true → failed r ≡ false
+    → ended r ≡ true
+unfolding failed ended
+read-none r got q z i f =
+    let e : is_failed (came got) ≡ false = sym (ap (λ y. is_failed y.came) q) ∙ read-not r f in
+    let h : is_end r.filled.came ≡ true = ap (λ y. is_end y.came) q ∙ came-none got (sym (ap (λ y. count_of y.came) q) ∙ z) e in
+    rw (i, h) refl
 
 record Few (b m : ℕ) (u t : List ℕ) (r : Outcome) : Type 0 where
   pub all : m ≤ length u + 2 * length t + 1 + late r
@@ -137,9 +144,9 @@ waits-not b p l e h f =
       | no k ↦ rw (eq-eqb b 0 e, lt-ltb 3 p (omega arith)) refl
     ]
 
-fills-most : {w : Bool} {l : Left} {c c' : List ℕ} {g : Filled} → Fills w l c c' g → g.read ≤ length c'
-fills-most (keeps e q k) = rw (ap (λ y. y.read) q) (omega arith)
-fills-most {c' = c'} {g = g} (reads e q) = rw (ap (λ y. y.read) q) (clamped-most g.got (length c'))
+fills-most : {w : Bool} {l : Left} {c c' : List ℕ} {g : Filled} → Fills w l c c' g → count_of g.came ≤ length c'
+fills-most (keeps e q k) = rw (ap (λ y. count_of y.came) q) (omega arith)
+fills-most {c' = c'} (reads got e h q) = rw (ap (λ y. count_of y.came) q) (came-most got (length c') h)
 
 module _ {S : Type 0} {M : Machine S} {A m : ℕ} {s s₁ s₂ : S} {u t c c' o o' : List ℕ} {r r' : Outcome} (p : 0 < A) (g : Rounds M A s m u t s₁ c r)
     (e : going (over M s₁) r ≡ true) (d : Round M A s₁ r.left c c' o o' s₂ r') (i : Few (M.busy s₁) m u t r) where
@@ -150,7 +157,7 @@ module _ {S : Type 0} {M : Machine S} {A m : ℕ} {s s₁ s₂ : S} {u t c c' o 
   none = late-not r on.0 on.1
 
   abbrev n : ℕ
-  n = r'.filled.read
+  n = count_of r'.filled.came
 
   abbrev b : ℕ
   b = r'.written
@@ -165,10 +172,10 @@ module _ {S : Type 0} {M : Machine S} {A m : ℕ} {s s₁ s₂ : S} {u t c c' o 
 
   quiet : r'.idle ≡ true → Fills (waiting M s₁) r.left c c' r'.filled
       → suc m ≤ length (u ++ take n c') + 2 * length (t ++ take b o') + 1 + late r'
-  quiet k (reads f q) =
+  quiet k (reads got f x q) =
       elim (dec_lt 0 n) [
         | yes h ↦ omega (arith, i.all, none, more, wrote)
-        | no h ↦ omega (arith, i.all, none, more, wrote, late-some r' (came-none r' r'.filled.got (length c') q (omega arith) k))
+        | no h ↦ omega (arith, i.all, none, more, wrote, late-some r' (read-none r' got q (omega arith) k))
       ]
   quiet k (keeps f q z) =
       elim (dec_lt 0 (M.busy s₁)) [
@@ -203,7 +210,7 @@ pub few-rounds : {S : Type 0} {M : Machine S} {A : ℕ} {s : S} {m : ℕ} {s' : 
 few-rounds {r = r} p g = omega (arith, (few p g).all, late-most r)
 
 -- ---- a whole run
-ended-not : (r : Outcome) → r.filled.ended ≡ false → ended r ≡ false
+ended-not : (r : Outcome) → is_end r.filled.came ≡ false → ended r ≡ false
 unfolding ended
 ended-not r e = rw e refl
 

@@ -4,7 +4,7 @@
 use Rattle.std.specs.Prelude.{◌≡◌, Bool, true, false, not, List, [], ◌++◌, ℕ, suc, ltb, eqb, length, take, ◌<◌, Result, Ok, is_err, IfErr}
 use Rattle.numbers.specs.Signal.{pick, both}
 use Rattle.text.specs.Moves.{Went, Stops}
-use Rattle.descriptors.specs.Left.{left_in, Within, used_of, nothing_new, Fills}
+use Rattle.descriptors.specs.Left.{left_in, Within, used_of, count_of, is_end, is_failed, nothing_new, Fills}
 use Rattle.descriptors.specs.declared.input.Left.{Left}
 use Rattle.descriptors.specs.declared.input.Filled.{Filled}
 use Rattle.descriptors.specs.declared.output.Cut.{Cut}
@@ -28,11 +28,11 @@ over M s = over_at (M.busy s) (M.phase s)
 -- ---- what follows from a round
 -- input or output has failed
 unfoldable pub failed : Outcome → Bool
-failed r = pick r.filled.failed true (is_err r.sent)
+failed r = pick (is_failed r.filled.came) true (is_err r.sent)
 
 -- the input has ended, and all of it is fed
 unfoldable pub ended : Outcome → Bool
-ended r = both r.filled.ended r.idle
+ended r = both (is_end r.filled.came) r.idle
 
 -- its end is to be passed on
 unfoldable pub ends : Outcome → Bool
@@ -79,7 +79,7 @@ pub data Rounds {S : Type 0} (M : Machine S) (A : ℕ) (s : S) : ℕ → List �
   begun : {c : List ℕ} → Rounds M A s 0 [] [] s c started
   then : {m : ℕ} {s₁ s₂ : S} {u t c c' o o' : List ℕ} {r r' : Outcome} → Rounds M A s m u t s₁ c r → going (over M s₁) r ≡ true
       → Round M A s₁ r.left c c' o o' s₂ r'
-      → Rounds M A s (suc m) (u ++ take r'.filled.read c') (t ++ take r'.written o') s₂ c' r'
+      → Rounds M A s (suc m) (u ++ take (count_of r'.filled.came) c') (t ++ take r'.written o') s₂ c' r'
 
 -- the largest number of 64 bits, from which the program counts its rounds down
 abbrev pub most_rounds : ℕ

@@ -3,7 +3,7 @@
 ghost use Rattle.std.specs.Prelude.{◌≡◌, ◌<◌, ◌≤◌, length, IfErr, OnOk};
 ghost use Rattle.rounds.specs.Rounds.{waits_at, over_at, failed, ended, ends, whole, going, started, outcome_of};
 
-use descriptors::input::{Filled, Left};
+use descriptors::input::{Came, Filled, Left};
 use descriptors::output::Cut;
 use descriptors::{input, output};
 use std::io::{Print, Write};
@@ -44,10 +44,7 @@ pub fn start() -> Outcome
         left: none,
         filled: Filled {
             left: none,
-            got: 0,
-            read: 0,
-            ended: false,
-            failed: false,
+            came: Came::Nothing,
         },
         written: 0,
         sent: Ok(()),
@@ -95,7 +92,7 @@ pub fn after(
 pub fn has_failed(outcome: Outcome) -> bool
     ensures { result ≡ failed outcome }
 {
-    outcome.filled.failed || outcome.sent.is_err()
+    outcome.filled.came.is_failed() || outcome.sent.is_err()
 }
 
 // Whether the input has ended, and all of it is fed.
@@ -103,7 +100,7 @@ pub fn has_failed(outcome: Outcome) -> bool
 pub fn has_ended(outcome: Outcome) -> bool
     ensures { result ≡ ended outcome }
 {
-    outcome.filled.ended && outcome.idle
+    outcome.filled.came.is_end() && outcome.idle
 }
 
 // Whether the end of the input is to be passed on.
