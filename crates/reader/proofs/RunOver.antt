@@ -6,11 +6,11 @@ use Prim.Native.Nat.{ℕ, zero, suc, ◌+◌, ◌-◌, ◌*◌, ◌≤◌, ◌<�
 use native.Mathlib.Decide.{dec_lt}
 use native.Mathlib.Omega.{arith}
 use lib.IntN.{ℤ, pos}
-use lib.Dec.{leb, ltb, eqb}
+use lib.Dec.{leb, ltb}
 use lib.ListN.{length, take, drop, length-drop, get_or-append}
 use lib.Seq.{get_or-take, get_or-drop, get_or-append-add, length-take-le, take_all, drop-length}
 use borrow.Rule.Slice.PartMut.{mid_of, put_mid, Post-is}
-use Rattle.numbers.specs.Signal.{at, pick, both, windowed}
+use Rattle.numbers.specs.Signal.{at, pick, windowed}
 use Rattle.numbers.proofs.Parts.{length-mid, at_mid}
 use Rattle.filters.specs.Figures.{store_by}
 use Rattle.lifting.specs.Halves.{fronted}
@@ -30,14 +30,15 @@ use Rattle.numbers.proofs.Sweep as sweep
 use Rattle.areas.specs.Areas.{heights_at}
 use Rattle.level.specs.Level.{rest, join_at}
 use Rattle.level.proofs.RestLaws.{join-below, join-past}
-use Rattle.calls.specs.Lists.{Reply, gives, refused, seen, unless}
+use Rattle.calls.specs.Lists.{gives, refused}
 use Rattle.reader.specs.declared.Reader.{Reader}
-use Rattle.reader.specs.declared.runs.Tally.{Tally}
 use Rattle.reader.specs.declared.runs.Turn.{Turn}
+use Rattle.std.specs.Prelude.{Option, Some, None, Result, Ok, is_some, is_none, unwrap_or}
+use Rattle.refusal.specs.declared.Refusal.{Refusal}
 use Rattle.refusal.specs.Numbers.{answer}
+use Rattle.reader.specs.RunSteps.{told}
 use Rattle.reader.specs.Reading as reading
-use Rattle.reader.specs.Runs.{Run, goes, drawable, asked, due, after_call, ran, turned_by, most, begin, run_of, run_question, or_else, run_turned, run_reply}
-use Rattle.reader.specs.Runs.{Progress, progress, left_by}
+use Rattle.reader.specs.Runs.{Run, goes, drawable, asked, due, after_call, ran, turned_by, most, begin, run_of, run_question, run_turned, run_reply}
 use Rattle.reader.specs.RunSteps.{reader_at, Own, Formed, run_at, life, left_of, Steps, stay, step, Went, refusal, Turned, Over}
 use Rattle.reader.proofs.RunPlaces.{false-not-true}
 
@@ -230,10 +231,21 @@ rest-length a l h =
     let e : mid_of a (length l - a) l ≡ drop a l = take_all (length l - a) (drop a l) (simp length-drop (omega arith)) in
     ap length e ∙ simp length-drop refl
 
+-- whether a run goes on, as the loop tests it; and what a run that is over tells
+pub none-is : {A : Type 0} (o : Option A) (b : Bool) → is_some o ≡ not b → is_none o ≡ b
+none-is None true e = refl
+none-is None false e = sym e
+none-is (Some x) true e = sym e
+none-is (Some x) false e = refl
+
+pub told-is : {A : Type 0} (o : Option (Result A Refusal)) (x : A) → answer (unwrap_or o (Ok x)) ≡ told o
+told-is None x = refl
+told-is (Some r) x = refl
+
 -- ---- the loop: s is the reader at the beginning, t where the run is
 pub record Going (s : Reader) (store₀ run : List ℤ) (out₀ : List ℕ) (store : List ℤ) (out : List ℕ) (t : Turn) : Type 0 where
   pub way : OnWay (length store₀) (length run) (at run) (length out₀) (begin s (at store₀) (heights_at out₀))
-      (run_at t.done (reader_at s t.place) (at store) (heights_at out)) t.on (answer t.no)
+      (run_at t.done (reader_at s t.place) (at store) (heights_at out)) (is_none t.over) (told t.over)
   pub own : Own (reader_at s t.place) t.place.at
   pub size : length store ≡ length store₀
   pub out-size : length out ≡ length out₀
@@ -242,14 +254,14 @@ pub record Going (s : Reader) (store₀ run : List ℤ) (out₀ : List ℕ) (sto
   pub live : s.ended ≡ false
 
 module _ (s : Reader) (store₀ run : List ℤ) (out₀ : List ℕ) where
-  pub going_start : (t : Turn) → t.on ≡ true → t.done.used ≡ 0 → t.done.rows ≡ 0 → reader_at s t.place ≡ s → Own s t.place.at →
+  pub going_start : (t : Turn) → (is_none t.over) ≡ true → t.done.used ≡ 0 → t.done.rows ≡ 0 → reader_at s t.place ≡ s → Own s t.place.at →
       (0 < s.levels → (levels.counts_fit s ≡ true) × (needs s ≤ length store₀)) → (s.levels ≡ 0 → s.spare ≤ length store₀) → s.ended ≡ false →
       Going s store₀ run out₀ store₀ out₀ t
   going_start t on eu er es own deep flat live = record {
     way = subst (λ (e : Bool). OnWay (length store₀) (length run) (at run) (length out₀) (begin s (at store₀) (heights_at out₀))
-        (run_at t.done (reader_at s t.place) (at store₀) (heights_at out₀)) e (answer t.no)) (sym on)
-        (subst (λ (r : Run). OnWay (length store₀) (length run) (at run) (length out₀) (begin s (at store₀) (heights_at out₀)) r true (answer t.no)) (sym same)
-        (way-start (length store₀) (length run) (at run) (length out₀) (begin s (at store₀) (heights_at out₀)) (answer t.no) refl refl));
+        (run_at t.done (reader_at s t.place) (at store₀) (heights_at out₀)) e (told t.over)) (sym on)
+        (subst (λ (r : Run). OnWay (length store₀) (length run) (at run) (length out₀) (begin s (at store₀) (heights_at out₀)) r true (told t.over)) (sym same)
+        (way-start (length store₀) (length run) (at run) (length out₀) (begin s (at store₀) (heights_at out₀)) (told t.over) refl refl));
     own = subst (λ (r : Reader). Own r t.place.at) (sym es) own;
     size = refl;
     out-size = refl;
@@ -280,30 +292,30 @@ module _ (s : Reader) (store₀ run : List ℤ) (out₀ : List ℕ) where
 
     module _ (store' : List ℤ) (out' : List ℕ) (u : Turn)
         (turned : Turned (length store) (length run) (at run) (length out) (run_at t.done r (at store) (heights_at out))
-        (run_at u.done (reader_at r u.place) (at store') (heights_at out')) u.on (answer u.no)) where
+        (run_at u.done (reader_at r u.place) (at store') (heights_at out')) (is_none u.over) (told u.over)) where
       turned_on : Turned (length store₀) (length run) (at run) (length out₀) (run_at t.done (reader_at s t.place) (at store) (heights_at out))
-          (run_at u.done (reader_at s u.place) (at store') (heights_at out')) u.on (answer u.no)
+          (run_at u.done (reader_at s u.place) (at store') (heights_at out')) (is_none u.over) (told u.over)
       turned_on =
           subst (λ (o : Reader). Turned (length store₀) (length run) (at run) (length out₀) (run_at t.done o (at store) (heights_at out))
-          (run_at u.done (reader_at o u.place) (at store') (heights_at out')) u.on (answer u.no)) e
+          (run_at u.done (reader_at o u.place) (at store') (heights_at out')) (is_none u.over) (told u.over)) e
           (subst (λ (i : ℕ). Turned i (length run) (at run) (length out₀) (run_at t.done r (at store) (heights_at out))
-          (run_at u.done (reader_at r u.place) (at store') (heights_at out')) u.on (answer u.no)) g.size
+          (run_at u.done (reader_at r u.place) (at store') (heights_at out')) (is_none u.over) (told u.over)) g.size
           (subst (λ (i : ℕ). Turned (length store) (length run) (at run) i (run_at t.done r (at store) (heights_at out))
-          (run_at u.done (reader_at r u.place) (at store') (heights_at out')) u.on (answer u.no)) g.out-size turned))
+          (run_at u.done (reader_at r u.place) (at store') (heights_at out')) (is_none u.over) (told u.over)) g.out-size turned))
 
-      pub going_less : t.on ≡ true →
-          left_of (length run) (run_at u.done (reader_at s u.place) (at store') (heights_at out')) + going u.on <
-          left_of (length run) (run_at t.done (reader_at s t.place) (at store) (heights_at out)) + going t.on
+      pub going_less : (is_none t.over) ≡ true →
+          left_of (length run) (run_at u.done (reader_at s u.place) (at store') (heights_at out')) + going (is_none u.over) <
+          left_of (length run) (run_at t.done (reader_at s t.place) (at store) (heights_at out)) + going (is_none t.over)
       going_less on =
           way-less (length store₀) (length run) (at run) (length out₀) (run_at t.done (reader_at s t.place) (at store) (heights_at out))
-          (run_at u.done (reader_at s u.place) (at store') (heights_at out')) t.on u.on (answer u.no) on turned_on
+          (run_at u.done (reader_at s u.place) (at store') (heights_at out')) (is_none t.over) (is_none u.over) (told u.over) on turned_on
 
       pub going_on : Own (reader_at r u.place) u.place.at → length store' ≡ length store → length out' ≡ length out →
           Going s store₀ run out₀ store' out' u
       going_on own a b = record {
         way = way_on (length store₀) (length run) (at run) (length out₀) (begin s (at store₀) (heights_at out₀))
             (run_at t.done (reader_at s t.place) (at store) (heights_at out)) (run_at u.done (reader_at s u.place) (at store') (heights_at out'))
-            t.on u.on (answer t.no) (answer u.no) g.way turned_on;
+            (is_none t.over) (is_none u.over) (told t.over) (told u.over) g.way turned_on;
         own = subst (λ (o : Reader). Own (reader_at o u.place) u.place.at) e own;
         size = a ∙ g.size;
         out-size = b ∙ g.out-size;
@@ -312,14 +324,14 @@ module _ (s : Reader) (store₀ run : List ℤ) (out₀ : List ℕ) where
         live = g.live;
       }
 
-  pub going-over : (store : List ℤ) (out : List ℕ) (t : Turn) → Going s store₀ run out₀ store out t → t.on ≡ false →
+  pub going-over : (store : List ℤ) (out : List ℕ) (t : Turn) → Going s store₀ run out₀ store out t → (is_none t.over) ≡ false →
       Over (length store₀) (length run) (at run) (length out₀) (begin s (at store₀) (heights_at out₀))
-      (run_at t.done (reader_at s t.place) (at store) (heights_at out)) (answer t.no)
+      (run_at t.done (reader_at s t.place) (at store) (heights_at out)) (told t.over)
   going-over store out t g off =
       way-over (length store₀) (length run) (at run) (length out₀) (begin s (at store₀) (heights_at out₀))
-      (run_at t.done (reader_at s t.place) (at store) (heights_at out)) (answer t.no) refl refl g.live
+      (run_at t.done (reader_at s t.place) (at store) (heights_at out)) (told t.over) refl refl g.live
       (subst (λ (b : Bool). OnWay (length store₀) (length run) (at run) (length out₀) (begin s (at store₀) (heights_at out₀))
-      (run_at t.done (reader_at s t.place) (at store) (heights_at out)) b (answer t.no)) off g.way)
+      (run_at t.done (reader_at s t.place) (at store) (heights_at out)) b (told t.over)) off g.way)
 
 -- ---- what a run's questions say of its reader
 three : (a b c : Bool) → ask a 1 (ask b 5 (ask (not c) 9 0)) ≡ 0 → (a ≡ true) × (b ≡ true) × (c ≡ false)

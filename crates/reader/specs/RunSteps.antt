@@ -1,6 +1,8 @@
 -- What the private functions of a run require and ensure of each other. No public contract cites it.
-use Rattle.std.specs.Prelude.{◌≡◌, Bool, true, false, ℕ, zero, suc, ◌+◌, ◌-◌, ◌*◌, ◌≤◌, ◌<◌, ℤ, leb, ltb}
+use Rattle.std.specs.Prelude.{Option, Some, None, Result, ◌≡◌, Bool, true, false, ℕ, zero, suc, ◌+◌, ◌-◌, ◌*◌, ◌≤◌, ◌<◌, ℤ, leb, ltb}
 use Rattle.numbers.specs.Signal.{pick, both}
+use Rattle.refusal.specs.declared.Refusal.{Refusal}
+use Rattle.refusal.specs.Numbers.{answer}
 use Rattle.lifting.specs.Grid.{Side}
 use Rattle.lifting.specs.Halves.{fronted}
 use Rattle.level.specs.Tried.{failed, passed}
@@ -11,7 +13,7 @@ use Rattle.reader.specs.declared.walk.Level.{Level}
 use Rattle.reader.specs.declared.run_steps.Place.{Place}
 use Rattle.reader.specs.declared.runs.Tally.{Tally}
 use Rattle.reader.specs.Store.{zeroed}
-use Rattle.reader.specs.State.{columns, rows, needs, settles, feeds, fed_reader, drawn_reader, ended_reader}
+use Rattle.reader.specs.State.{needs, settles, feeds, fed_reader, drawn_reader, ended_reader}
 use Rattle.reader.specs.Calls.{height_row}
 use Rattle.reader.specs.Inside.{Collected, IsLevel}
 use Rattle.reader.specs.Questions.{counts_fit}
@@ -107,6 +109,11 @@ where_some q (suc m) = q
 -- the question that turns a run away at its beginning
 abbrev pub refusal : ℕ → ℕ → (ℕ → ℤ) → ℕ → Run → ℕ
 refusal n m v k p = pick (pick (drawable p.world.reader) true (ltb 0 m)) (turned_by n m v k p) 0
+
+-- the question that turns the next call away once a run is over, 0: none
+abbrev pub told : {A : Type 0} → Option (Result A Refusal) → ℕ
+told None = 0
+told (Some r) = answer r
 
 -- a turn: a call, or none; e: the run goes on; q: the question that turns the next call away, of a state that passes question 1
 pub record Turned (n m : ℕ) (v : ℕ → ℤ) (k : ℕ) (p r : Run) (e : Bool) (q : ℕ) : Type 0 where

@@ -1,6 +1,6 @@
 // Many rows at once: the band rows that a run of numbers has are fed, and height rows drawn, one after the other. Questions 1, 5 and 9 are asked once, and the
 // level of a set is found once for all of its rows.
-ghost use Rattle.std.specs.Prelude.{◌≡◌, true, false, ℕ, ◌+◌, ◌*◌, ◌<◌, ◌≤◌, ℤ, length};
+ghost use Rattle.std.specs.Prelude.{◌≡◌, true, false, is_none, ℕ, ◌+◌, ◌*◌, ◌<◌, ◌≤◌, ℤ, length};
 ghost use Rattle.numbers.specs.Signal.{at};
 ghost use Rattle.areas.specs.Areas.{heights_at};
 ghost use Rattle.refusal.specs.Numbers.{number, answer};
@@ -10,7 +10,7 @@ ghost use Rattle.reader.specs.Questions.{counts_fit};
 ghost use Rattle.reader.specs.Inside.{Due};
 ghost use Rattle.reader.specs.Last as last;
 ghost use Rattle.reader.specs.Runs.{begin, run_question, run_reply, progress, of_ran, left_by};
-ghost use Rattle.reader.specs.RunSteps.{reader_at, Own, Formed, run_at, where_some, Turned, Over};
+ghost use Rattle.reader.specs.RunSteps.{reader_at, Own, Formed, run_at, where_some, told, Turned, Over};
 
 use crate::run_steps::Place;
 use crate::walk::Next;
@@ -25,22 +25,20 @@ pub struct Tally {
     pub rows: usize,
 }
 
-// A run on its way, and whether it goes on; if not, `no` is the question that turns the next call away.
+// A run on its way. Once it is over: whether the next call is turned away, and by which question.
 #[derive(Clone, Copy)]
 struct Turn {
-    on: bool,
-    no: Result<(), Refusal>,
+    over: Option<Result<(), Refusal>>,
     done: Tally,
     place: Place,
 }
 
 // It ends here.
 fn stays(no: Result<(), Refusal>, done: Tally, place: Place) -> Turn
-    ensures { (result.on ≡ false) × (answer result.no ≡ answer no) × (result.done ≡ done) × (result.place ≡ place) }
+    ensures { (is_none result.over ≡ false) × (told result.over ≡ answer no) × (result.done ≡ done) × (result.place ≡ place) }
 {
     Turn {
-        on: false,
-        no,
+        over: Some(no),
         done,
         place,
     }
@@ -55,20 +53,18 @@ fn where_some(why: Refusal, m: usize) -> Result<(), Refusal>
 
 // It goes on from a place, with so many numbers used and rows drawn more, unless 14 ended the reader.
 fn goes(done: Tally, used: usize, rows: usize, place: Place) -> Turn
-    ensures { (result.on ≡ true) × (result.place ≡ place) × (place.ended ≡ true → result.done ≡ done) ×
+    ensures { (is_none result.over ≡ true) × (result.place ≡ place) × (place.ended ≡ true → result.done ≡ done) ×
         (place.ended ≡ false → (result.done.used ≡ used) × (result.done.rows ≡ rows)) }
 {
     if place.ended {
         return Turn {
-            on: true,
-            no: Ok(()),
+            over: None,
             done,
             place,
         };
     }
     Turn {
-        on: true,
-        no: Ok(()),
+        over: None,
         done: Tally { used, rows },
         place,
     }
@@ -80,7 +76,7 @@ fn feed_turn(s: Reader, p: Place, n: Next, store: &mut [i32], run: &[i32], done:
         Due s n × (0 < n.spot.level) × (done.used ≤ length run.now) }
     ensures by_index { (k : ℕ) (z : ℕ → ℤ) → done.rows * s.width ≤ k →
         Turned (length store.old) (length run.now) (at run.now) k (run_at done s (at store.old) z)
-        (run_at result.done (reader_at s result.place) (at store.new) z) result.on (answer result.no) }
+        (run_at result.done (reader_at s result.place) (at store.new) z) (is_none result.over) (told result.over) }
     ensures own { Own (reader_at s result.place) result.place.at }
 {
     let a = done.used;
@@ -106,7 +102,7 @@ fn draw_turn(s: Reader, p: Place, store: &mut [i32], out: &mut [u16], done: Tall
         (0 ≡ (next s).level) × (done.rows * s.width ≤ length out.old) }
     ensures by_index { (m : ℕ) (v : ℕ → ℤ) → done.used ≤ m →
         Turned (length store.old) m v (length out.old) (run_at done s (at store.old) (heights_at out.old))
-        (run_at result.done (reader_at s result.place) (at store.new) (heights_at out.new)) result.on (answer result.no) }
+        (run_at result.done (reader_at s result.place) (at store.new) (heights_at out.new)) (is_none result.over) (told result.over) }
     ensures own { Own (reader_at s result.place) result.place.at }
 {
     let a = done.rows * s.width;
@@ -131,7 +127,7 @@ fn level_turn(
         (done.rows * s.width ≤ length out.old) }
     ensures turned { Turned (length store.old) (length run.now) (at run.now) (length out.old)
         (run_at done s (at store.old) (heights_at out.old))
-        (run_at result.done (reader_at s result.place) (at store.new) (heights_at out.new)) result.on (answer result.no) }
+        (run_at result.done (reader_at s result.place) (at store.new) (heights_at out.new)) (is_none result.over) (told result.over) }
     ensures own { Own (reader_at s result.place) result.place.at }
 {
     if s.ended {
@@ -156,7 +152,7 @@ fn last_feed(s: Reader, p: Place, store: &mut [i32], run: &[i32], done: Tally) -
         Own s p.at × (done.used ≤ length run.now) }
     ensures by_index { (k : ℕ) (z : ℕ → ℤ) → done.rows * s.width ≤ k →
         Turned (length store.old) (length run.now) (at run.now) k (run_at done s (at store.old) z)
-        (run_at result.done (reader_at s result.place) (at store.new) z) result.on (answer result.no) }
+        (run_at result.done (reader_at s result.place) (at store.new) z) (is_none result.over) (told result.over) }
     ensures own { Own (reader_at s result.place) result.place.at }
 {
     let a = done.used;
@@ -186,7 +182,7 @@ fn last_draw(s: Reader, p: Place, store: &[i32], out: &mut [u16], done: Tally) -
         Own s p.at × (done.rows * s.width ≤ length out.old) }
     ensures by_index { (m : ℕ) (v : ℕ → ℤ) → done.used ≤ m →
         Turned (length store.now) m v (length out.old) (run_at done s (at store.now) (heights_at out.old))
-        (run_at result.done (reader_at s result.place) (at store.now) (heights_at out.new)) result.on (answer result.no) }
+        (run_at result.done (reader_at s result.place) (at store.now) (heights_at out.new)) (is_none result.over) (told result.over) }
     ensures own { Own (reader_at s result.place) result.place.at }
 {
     let w = s.width;
@@ -219,7 +215,7 @@ fn last_turn(
         (done.rows * s.width ≤ length out.old) }
     ensures turned { Turned (length store.old) (length run.now) (at run.now) (length out.old)
         (run_at done s (at store.old) (heights_at out.old))
-        (run_at result.done (reader_at s result.place) (at store.new) (heights_at out.new)) result.on (answer result.no) }
+        (run_at result.done (reader_at s result.place) (at store.new) (heights_at out.new)) (is_none result.over) (told result.over) }
     ensures own { Own (reader_at s result.place) result.place.at }
 {
     if let Err(why) = last::store_question(s, store.len()) {
@@ -247,7 +243,7 @@ fn one_turn(
         Own s p.at × (done.used ≤ length run.now) × (done.rows * s.width ≤ length out.old) }
     ensures turned { Turned (length store.old) (length run.now) (at run.now) (length out.old)
         (run_at done s (at store.old) (heights_at out.old))
-        (run_at result.done (reader_at s result.place) (at store.new) (heights_at out.new)) result.on (answer result.no) }
+        (run_at result.done (reader_at s result.place) (at store.new) (heights_at out.new)) (is_none result.over) (told result.over) }
     ensures own { Own (reader_at s result.place) result.place.at }
 {
     if s.levels == 0 {
@@ -262,16 +258,15 @@ fn go(s: Reader, p: Place, store: &mut [i32], run: &[i32], out: &mut [u16]) -> T
         (s.ended ≡ false) × (reader_at s p ≡ s) × Own s p.at }
     ensures { Over (length store.old) (length run.now) (at run.now) (length out.old)
         (begin s (at store.old) (heights_at out.old))
-        (run_at result.done (reader_at s result.place) (at store.new) (heights_at out.new)) (answer result.no) }
+        (run_at result.done (reader_at s result.place) (at store.new) (heights_at out.new)) (told result.over) }
 {
     let mut t = Turn {
-        on: true,
-        no: Ok(()),
+        over: None,
         done: Tally { used: 0, rows: 0 },
         place: p,
     };
     // Stays: only the turns show how many there are, so a `for` has nothing to count.
-    while t.on {
+    while t.over.is_none() {
         let q = t.place;
         let d = t.done;
         t = one_turn(run_steps::reader_at(s, q), q, store, run, out, d);
@@ -293,8 +288,8 @@ fn run_question(s: Reader, n: usize) -> Result<(), Refusal>
 }
 
 // The question that turns a run away which made no call.
-fn first_no(done: Tally, ended: bool, no: Result<(), Refusal>) -> Result<(), Refusal>
-    ensures value { done.used ≡ 0 → done.rows ≡ 0 → ended ≡ false → answer result ≡ answer no }
+fn first_no(done: Tally, ended: bool, over: Option<Result<(), Refusal>>) -> Result<(), Refusal>
+    ensures value { done.used ≡ 0 → done.rows ≡ 0 → ended ≡ false → answer result ≡ told over }
     ensures value_2 { (done.used + done.rows ≡ 0 → ended ≡ true) → answer result ≡ 0 }
     ensures rows_value { (answer result ≡ 0 → ⊥) → (done.used + done.rows ≡ 0) × (ended ≡ false) }
 {
@@ -304,7 +299,11 @@ fn first_no(done: Tally, ended: bool, no: Result<(), Refusal>) -> Result<(), Ref
     if 0 < done.rows {
         return Ok(());
     }
-    if ended { Ok(()) } else { no }
+    if ended {
+        Ok(())
+    } else {
+        over.unwrap_or(Ok(()))
+    }
 }
 
 // Band rows fed and height rows drawn, until the run has no whole row more, the next row has no room, all rows are drawn, or a question turns the next away.
@@ -323,6 +322,6 @@ pub fn run(
 {
     run_question(s, store.len())?;
     let t = go(s, run_steps::place_now(s), store, run, out);
-    first_no(t.done, t.place.ended, t.no)?;
+    first_no(t.done, t.place.ended, t.over)?;
     Ok((t.done, run_steps::reader_at(s, t.place)))
 }

@@ -1,16 +1,15 @@
 -- `reader::runs::draw_turn` meets its contract: turned away by 12, or drawn. Assumes nothing.
-use mathlib.Core.Path.{◌≡◌, sym, ap, subst, ◌∙◌}
-use Prim.Native.Nat.{ℕ, ◌+◌, ◌-◌, ◌*◌, ◌≤◌, ◌<◌}
+use mathlib.Core.Path.{sym, subst}
+use Prim.Native.Nat.{ℕ, ◌-◌, ◌*◌}
 use native.Mathlib.Omega.{arith}
 use lib.IntN.{ℤ}
 use lib.ListN.{length}
-use borrow.Author.Rules.{rules}
 use borrow.Rule.Slice.PartMut.{put_mid}
 use Rattle.numbers.specs.Signal.{at}
 use Rattle.areas.specs.Areas.{heights_at}
 use Rattle.reader.specs.declared.run_steps.Place.{Place}
-use Rattle.refusal.specs.Numbers.{answer}
-use Rattle.reader.specs.RunSteps.{reader_at, Own, run_at, DrawnTo, Turned}
+use Rattle.std.specs.Prelude.{is_none}
+use Rattle.reader.specs.RunSteps.{reader_at, Own, run_at, DrawnTo, Turned, told}
 use Rattle.reader.proofs.QuestionLaws.{counts-in}
 use Rattle.reader.proofs.RunLaws.{turn-stays, own-stays, row-wide, drew-turn, rows_few}
 use Rattle.reader.proofs.RunOver.{own_room, heights-rest, heights-join, rest-length}
@@ -90,8 +89,8 @@ returns c =
     record {
       by_index = λ m v within.
           subst (λ (o : Place). Turned n m v k (run_at a.done s x z) (run_at c.goes.result.done (reader_at s o) y (heights_at (put_mid from (k - from)
-          a.out.now part))) c.goes.result.on (answer c.goes.result.no)) (sym g.1)
+          a.out.now part))) (is_none c.goes.result.over) (told c.goes.result.over)) (sym g.1)
           (drew-turn n m v k a.done s x z some p.0 p.1 p.2 p.3 (sym p.6) (omega (arith, c.if-out-a.false)) p.7 within y (heights_at part) _ q f
-          after c.goes.result.done c.goes.result.on (answer c.goes.result.no) g.0 g.2 g.3);
+          after c.goes.result.done (is_none c.goes.result.over) (told c.goes.result.over) g.0 g.2 g.3);
       own = subst (λ (o : Place). Own (reader_at s o) o.at) (sym g.1) f.own;
     }

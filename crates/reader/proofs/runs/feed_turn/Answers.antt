@@ -1,20 +1,17 @@
 -- `reader::runs::feed_turn` meets its contract: turned away by 13 or 7, or fed. Assumes nothing.
-use mathlib.Core.Path.{◌≡◌, refl, sym, ap, ap₂, subst, ◌∙◌}
+use mathlib.Core.Path.{◌≡◌, sym, ap, subst, ◌∙◌}
 use Prim.Native.Nat.{ℕ, ◌+◌, ◌-◌, ◌≤◌, ◌<◌}
 use native.Mathlib.Omega.{arith}
 use lib.IntN.{ℤ}
 use lib.ListN.{length}
-use borrow.Author.Rules.{rules}
 use borrow.Author.Tests.{not-true, not-false}
-use borrow.Rule.Slice.PartMut.{mid_of}
 use Rattle.numbers.specs.Signal.{at, windowed}
 use Rattle.numbers.proofs.Parts.{length-mid, at_mid}
-use Rattle.reader.specs.Questions.{run_fits}
 use Rattle.reader.specs.State.{next_length}
 use Rattle.reader.specs.State as state
 use Rattle.reader.specs.declared.run_steps.Place.{Place}
-use Rattle.refusal.specs.Numbers.{answer}
-use Rattle.reader.specs.RunSteps.{reader_at, Own, run_at, FedTo, Turned}
+use Rattle.std.specs.Prelude.{is_none}
+use Rattle.reader.specs.RunSteps.{reader_at, Own, run_at, FedTo, Turned, told}
 use Rattle.reader.proofs.QuestionLaws.{counts-in}
 use Rattle.reader.proofs.StepLaws.{level-fits, near}
 use Rattle.reader.proofs.RunLaws.{turn-stays, own-stays, row-empty, row-short, row-large, fed-turn}
@@ -138,9 +135,9 @@ returns c =
     record {
       by_index = λ k z wide.
           subst (λ (o : Place). Turned (length a.store.now) (length a.run.now) (at a.run.now) k (run_at a.done s x z)
-          (run_at c.goes.result.done (reader_at s o) y z) c.goes.result.on (answer c.goes.result.no)) (sym g.1)
+          (run_at c.goes.result.done (reader_at s o) y z) (is_none c.goes.result.over) (told c.goes.result.over)) (sym g.1)
           (fed-turn (length a.store.now) (length a.run.now) (at a.run.now) k a.done s x z some p.0 p.1 p.2 p.3 wanted long
-          nonempty (sym small ∙ not-false _ c.if-not-run_fits.false-raw) wide p.8 y q f c.goes.result.done c.goes.result.on (answer c.goes.result.no) g.0
+          nonempty (sym small ∙ not-false _ c.if-not-run_fits.false-raw) wide p.8 y q f c.goes.result.done (is_none c.goes.result.over) (told c.goes.result.over) g.0
           g.2 (λ e. ((g.3 e).0 ∙ ap (λ i. a.done.used + i) len, (g.3 e).1)));
       own = subst (λ (o : Place). Own (reader_at s o) o.at) (sym g.1) f.own;
     }

@@ -1,11 +1,10 @@
 -- `reader::runs::last_draw` meets its contract: turned away by 12, or drawn. Assumes nothing.
 use mathlib.Core.Path.{◌≡◌, sym, ap, subst, ◌∙◌}
 use mathlib.Core.Bool.{false}
-use Prim.Native.Nat.{ℕ, ◌+◌, ◌-◌, ◌*◌, ◌≤◌, ◌<◌}
+use Prim.Native.Nat.{ℕ, ◌+◌, ◌-◌, ◌*◌, ◌<◌}
 use native.Mathlib.Omega.{arith}
 use lib.IntN.{ℤ}
 use lib.ListN.{length}
-use borrow.Author.Rules.{rules}
 use borrow.Rule.Slice.PartMut.{mid_of, put_mid}
 use Rattle.numbers.specs.Signal.{at}
 use Rattle.numbers.proofs.Parts.{length-mid}
@@ -14,8 +13,8 @@ use Rattle.lifting.specs.Halves.{fronted}
 use Rattle.reader.specs.declared.Reader.{Reader}
 use Rattle.reader.specs.declared.run_steps.Place.{Place}
 use Rattle.reader.specs.Limited.{limited}
-use Rattle.refusal.specs.Numbers.{answer}
-use Rattle.reader.specs.RunSteps.{reader_at, Own, run_at, Turned}
+use Rattle.std.specs.Prelude.{is_none}
+use Rattle.reader.specs.RunSteps.{reader_at, Own, run_at, Turned, told}
 use Rattle.reader.proofs.LastLaws.{room_in, front-limited}
 use Rattle.reader.proofs.RunLaws.{turn-stays, own-stays, rows_few}
 use Rattle.reader.proofs.RunLast.{last-narrow, last-wide, last-drew, place-moved}
@@ -110,8 +109,8 @@ returns c =
     record {
       by_index = λ m v within.
           subst (λ (o : Place). Turned n m v k (run_at a.done s x z) (run_at c.goes.result.done (reader_at s o) x (heights_at (put_mid from (k - from)
-          a.out.now part))) c.goes.result.on (answer c.goes.result.no)) (sym g.1)
+          a.out.now part))) (is_none c.goes.result.over) (told c.goes.result.over)) (sym g.1)
           (last-drew n m v k a.done s x z p.0 p.1 p.2 fed some (omega (arith, c.if-out-a.false)) p.6 within (heights_at part) _ q
-          c.goes.result.done c.goes.result.on (answer c.goes.result.no) g.0 ez after es d.0 d.1);
+          c.goes.result.done (is_none c.goes.result.over) (told c.goes.result.over) g.0 ez after es d.0 d.1);
       own = subst (λ (o : Place). Own (reader_at s o) o.at) (sym g.1) (λ h. absurd (omega (arith, flat, h)));
     }

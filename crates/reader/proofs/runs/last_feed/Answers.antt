@@ -1,10 +1,9 @@
 -- `reader::runs::last_feed` meets its contract: turned away by 13 or 7, or fed. Assumes nothing.
-use mathlib.Core.Path.{◌≡◌, refl, sym, ap, subst, ◌∙◌}
+use mathlib.Core.Path.{◌≡◌, sym, ap, subst, ◌∙◌}
 use mathlib.Core.Bool.{false}
 use Prim.Native.Nat.{◌+◌, ◌-◌, ◌≤◌, ◌<◌}
 use native.Mathlib.Omega.{arith}
 use lib.ListN.{length}
-use borrow.Author.Rules.{rules}
 use borrow.Author.Tests.{not-true, not-false, le-leb}
 use borrow.Rule.Slice.PartMut.{mid_of}
 use Rattle.numbers.specs.Signal.{at}
@@ -12,8 +11,8 @@ use Rattle.numbers.proofs.Parts.{length-mid}
 use Rattle.areas.proofs.AreaLaws.{did}
 use Rattle.reader.specs.declared.Reader.{Reader}
 use Rattle.reader.specs.declared.run_steps.Place.{Place}
-use Rattle.refusal.specs.Numbers.{answer}
-use Rattle.reader.specs.RunSteps.{reader_at, Own, run_at, Turned}
+use Rattle.std.specs.Prelude.{is_none}
+use Rattle.reader.specs.RunSteps.{reader_at, Own, run_at, Turned, told}
 use Rattle.reader.proofs.LastLaws.{store_in, last-in, room_in}
 use Rattle.reader.proofs.RunLaws.{turn-stays, own-stays}
 use Rattle.reader.proofs.RunLast.{last_empty, last-short, last-large, last-fed, place-moved}
@@ -104,8 +103,8 @@ returns c =
     record {
       by_index = λ k z wide.
           subst (λ (o : Place). Turned n m (at a.run.now) k (run_at a.done s x z) (run_at c.goes.result.done (reader_at s o) y z)
-          c.goes.result.on (answer c.goes.result.no)) (sym g.1)
+          (is_none c.goes.result.over) (told c.goes.result.over)) (sym g.1)
           (last-fed n m (at a.run.now) k a.done s x z p.0 p.1 p.2 p.3 long (sym small ∙ not-false _ c.if-not-run_fits.false-raw) some wide p.6 y q
-          c.goes.result.done c.goes.result.on (answer c.goes.result.no) g.0 ey es d.0 d.1);
+          c.goes.result.done (is_none c.goes.result.over) (told c.goes.result.over) g.0 ey es d.0 d.1);
       own = subst (λ (o : Place). Own (reader_at s o) o.at) (sym g.1) (λ h. absurd (omega (arith, flat, h)));
     }

@@ -1,15 +1,13 @@
 -- `reader::runs::run` meets its contract: the questions, and what the turns come to. Assumes nothing.
-use mathlib.Core.Path.{◌≡◌, refl, sym, ap, ◌∙◌}
-use Prim.Native.Nat.{ℕ}
+use mathlib.Core.Path.{refl, sym, ap, ◌∙◌}
 use native.Mathlib.Omega.{arith}
 use lib.ListN.{length}
 use Rattle.numbers.specs.Signal.{at}
 use Rattle.areas.specs.Areas.{heights_at}
 use Rattle.calls.specs.Lists.{gives, seen}
 use Rattle.reader.specs.declared.Reader.{Reader}
-use Rattle.refusal.specs.Numbers.{answer}
-use Rattle.reader.specs.Runs.{Run, of_ran, run_question, progress, left_by, begin}
-use Rattle.reader.specs.RunSteps.{reader_at, run_at}
+use Rattle.reader.specs.Runs.{Run, of_ran, progress, left_by, begin}
+use Rattle.reader.specs.RunSteps.{reader_at, run_at, told}
 use Rattle.reader.proofs.RunOver.{turned-first, turned-next, goes_through, question-fit, question-live, question-deep, question-flat, question-counts}
 use Rattle.reader.proofs.RunOver.{over_zero}
 use Rattle.refusal.proofs.Laws.{number-some, handed-on}
@@ -70,6 +68,6 @@ returns c =
     let o = c.go-t.ensures in
     let t = c.go-t.result in
     let r = run_at t.done (reader_at s t.place) (at c.go-t.new.store) (heights_at c.go-t.new.out) in
-    let none = over_zero n m v k (begin s x z) r (answer t.no) 0 o (question-fit s n one) refl c.in_ok-first_no.ensures.value in
+    let none = over_zero n m v k (begin s x z) r (told t.over) 0 o (question-fit s n one) refl c.in_ok-first_no.ensures.value in
     let e = goes_through s n m v k x z one r o.is none in
     record { result_value = ap (λ (y : Reader). gives (record { used = t.done.used; rows = t.done.rows; reader = y })) c.reader_at.ensures ∙ ap (seen progress) e; store_after = ap (left_by (λ p. p.world.store) x) e; out_after = ap (left_by (λ p. p.area) z) e }
