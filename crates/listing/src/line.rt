@@ -2,6 +2,7 @@
 ghost use Rattle.std.specs.Prelude.{◌≡◌};
 ghost use Rattle.listing.specs.Parts.{no_line, size_part, refused_part, head_part, done_part};
 
+// Stays: `part` and `band` are numbers, since `part_text` and the contracts that cite it speak of every one.
 #[derive(Clone, Copy)]
 pub struct Line {
     // 0 nothing, 1 the line of W, H and L (length, row, level), 2 a refusal (its number in row), 3 level, band and row of a band row, 4 a value or

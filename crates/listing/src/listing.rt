@@ -20,6 +20,7 @@ pub struct Listing {
 }
 
 // What a call left: the listing, how many bytes of the piece it read, how many of the area it wrote, and whether it waits for input.
+// Stays: the results of one call, each of which holds in every case: `idle` says nothing of the others.
 #[derive(Clone, Copy)]
 pub struct Fed {
     pub listing: Listing,

@@ -11,6 +11,7 @@ use crate::samples::{Sample, Samples};
 use crate::{characters, limits};
 use refusal::Refusal;
 
+// Stays: `phase` is a number, since `read_byte` and `input_ended` say what is done at every one.
 #[derive(Clone, Copy)]
 pub struct Input {
     // 0 waits for the digit, 1 for the line feed, 2 reads the header, 3 the heights, 4 reads no more

@@ -7,6 +7,7 @@ ghost use Rattle.pgm.specs.Samples.{no_byte, sampled, sample_of};
 use crate::runs;
 use refusal::Refusal;
 
+// Stays: `half` stands beside `high`, since `sample_of` says what a byte does at all of their values.
 #[derive(Clone, Copy)]
 pub struct Samples {
     // The header's largest value.

@@ -8,6 +8,7 @@ ghost use Rattle.picture.specs.Machine.{part_text};
 use crate::{heads, rows};
 use text::{bytes, refusal};
 
+// Stays: `kind` is a number, since `part_text` and the contracts that cite it speak of every one.
 #[derive(Clone, Copy)]
 pub struct Part {
     // 0 nothing, 1 the header, 2 a row, 3 a refusal

@@ -14,6 +14,7 @@ use wavelet::shape::Shape;
 use wavelet::{limits, sizes};
 
 // A band row in that order: its level, from 1, its set there and its band's code, while height row `drawn` is waited for. Level 0: there is none.
+// Stays: the band is a number, since `place_fits` speaks of every one and asks whether it is a band's code.
 #[derive(Clone, Copy)]
 pub struct Place {
     pub drawn: usize,

@@ -7,6 +7,7 @@ use crate::sets;
 use wavelet::sizes;
 
 // A level, one of its sets, and a band of it: the row wanted, or where a reader goes on. Level 0: a height row can be drawn.
+// Stays: the band is a number, since a reader's state may hold any (`spot_of`), and where no row is wanted it is 4, no band's code.
 #[derive(Clone, Copy)]
 pub struct Spot {
     pub level: usize,

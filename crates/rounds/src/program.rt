@@ -4,6 +4,7 @@ ghost use Rattle.text.specs.Moves.{Went, Stops};
 ghost use Rattle.rounds.specs.Machine.{Machine};
 
 // What a call left: how many bytes of the piece it read, how many of the area it wrote, and whether nothing is left to feed or to write.
+// Stays: the results of one call, each of which holds in every case: `idle` says nothing of the others.
 #[derive(Clone, Copy)]
 pub struct Fed {
     pub used: usize,

@@ -10,6 +10,7 @@ use std::io::{Print, Write};
 
 // What is left of the chunk after a round, and of that round: what was read, how many bytes of the area were written and how many of those were sent,
 // and whether nothing is left to feed or to write.
+// Stays: what one round left, each of which holds in every case: `idle` says nothing of the others.
 #[derive(Clone, Copy)]
 pub struct Outcome {
     pub left: Left,

@@ -13,6 +13,7 @@ use progress::waits::Wait;
 use progress::{counts, waits};
 
 // A band row that waits, and where in the store its numbers begin.
+// Stays: the band is a number, since the row's name has it as one, and `placed_of` gives its code.
 #[derive(Clone, Copy)]
 pub struct PlacedRow {
     pub level: usize,

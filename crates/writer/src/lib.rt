@@ -27,6 +27,7 @@ use refusal::Refusal;
 use wavelet::shape::Shape;
 
 // The counts of a writer; docs/STATE.md gives their ranges.
+// Stays: `finished`, and a number for the filter: the caller's array holds any number there, and each call's contract speaks of every one.
 #[derive(Clone, Copy)]
 pub struct Writer {
     pub width: usize,
@@ -52,6 +53,7 @@ pub struct Writer {
 }
 
 // A band row that was drawn: its values stand at the front of the output area.
+// Stays: the band is a number, since a caller gets it as one, and the theorems of `Demand3` name it by its code.
 #[derive(Clone, Copy)]
 pub struct BandRow {
     pub level: usize,

@@ -33,6 +33,7 @@ pub struct Ran {
 }
 
 // A run on its way, and whether it goes on.
+// Stays: `on` beside them, since counts and writer hold in both cases: an enum would have the same fields twice.
 #[derive(Clone, Copy)]
 struct Turn {
     on: bool,
