@@ -7,6 +7,7 @@ ghost use Rattle.strokes.specs.Strokes.{mend_question, mended_plane};
 
 use strokes::rectangle::Rectangle;
 
+// Stays: the arguments of the C call as they are, by document 02
 // The plane of a map mended after a stroke in a rectangle, by the 5/3 from the origin; the heights are the new ones. The questions are 2, 3, 4, 5 and 19.
 #[unsafe(no_mangle)]
 pub extern "C" fn terrain_map_mend(
