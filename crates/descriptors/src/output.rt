@@ -1,5 +1,5 @@
 // An output that takes all of some bytes, in as many writes as it wants, or fails.
-ghost use Rattle.std.specs.Prelude.{◌≤◌, ◌<◌, length, IfSome, IfErr};
+ghost use Rattle.std.specs.Prelude.{◌≡◌, ◌+◌, ◌≤◌, ◌<◌, length, IfSome, IfOk, IfErr};
 
 use crate::again;
 use crate::tell::{tell, tell_error};
@@ -11,19 +11,36 @@ pub struct Cut {
     pub count: usize,
 }
 
-// One write of the bytes: how many it took, 0 where it is to be made again. None where it is the last: it failed, or took nothing without an error.
-fn try_write<W: Write, E: Print>(to: &mut W, name: &[u8], bytes: &[u8], errors: &E) -> Option<usize>
-    ensures { IfSome result (λ n. n ≤ length bytes.now) }
+// What a write took, 0 bytes where it is to be made again, and the place after that.
+#[derive(Clone, Copy)]
+struct Put {
+    count: usize,
+    to: usize,
+}
+
+// One write of the bytes from place `from` on. None where it is the last: it failed, or took nothing without an error.
+fn try_write<W: Write, E: Print>(
+    to: &mut W,
+    name: &[u8],
+    bytes: &[u8],
+    from: usize,
+    errors: &E,
+) -> Option<Put>
+    requires { from ≤ length bytes.now }
+    ensures { IfSome result (λ put. (put.to ≡ from + put.count) × (put.to ≤ length bytes.now)) }
 {
-    match to.write(bytes) {
+    match to.write(&bytes[from..]) {
         Ok(0) => {
             tell(errors, name, "nothing more is taken");
             None
         }
-        Ok(count) => Some(count),
+        Ok(count) => Some(Put {
+            count,
+            to: from + count,
+        }),
         Err(error) => {
             if again::again(&error) {
-                return Some(0);
+                return Some(Put { count: 0, to: from });
             }
             tell_error(errors, name, error);
             None
@@ -31,27 +48,29 @@ fn try_write<W: Write, E: Print>(to: &mut W, name: &[u8], bytes: &[u8], errors: 
     }
 }
 
-// Writes all of the bytes, in as many writes as the writer wants. What fails is told by the output's name.
+// Writes all of the bytes, in as many writes as the writer wants: how many the writes took, in sum, which is all of them. What fails is told by the output's
+// name.
 pub fn send<W: Write, E: Print>(
     to: &mut W,
     name: &[u8],
     bytes: &[u8],
     errors: &E,
-) -> Result<(), Cut>
-    ensures { IfErr result (λ cut. cut.count < length bytes.now) }
+) -> Result<usize, Cut>
+    ensures whole { IfOk result (λ count. count ≡ length bytes.now) }
+    ensures cut { IfErr result (λ cut. cut.count < length bytes.now) }
 {
     let mut count = 0;
     for _ in 0..u64::MAX {
         if count == bytes.len() {
             break;
         }
-        match try_write(to, name, &bytes[count..], errors) {
-            Some(taken) => count += taken,
+        match try_write(to, name, bytes, count, errors) {
+            Some(put) => count = put.to,
             None => break,
         }
     }
     if count < bytes.len() {
         return Err(Cut { count });
     }
-    Ok(())
+    Ok(count)
 }

@@ -1,5 +1,5 @@
 -- A round put together, rounds one after the other, and a whole run. Assumes nothing.
-use Rattle.std.specs.Prelude.{Result, IfErr}
+use Rattle.std.specs.Prelude.{Result, IfOk, IfErr}
 use mathlib.Core.Path.{◌≡◌, refl, sym, ap, subst, ◌∙◌}
 use mathlib.Core.Bool.{Bool, true, false, not}
 use mathlib.Core.List.{List, [], ◌++◌}
@@ -82,12 +82,13 @@ ends-not r e f = go (ended r) (failed r) e f
     go true true h k = false-true k refl
 
 -- ---- one round
-pub round_is : {S : Type 0} {M : Machine S} {s s' : S} {l : Left} {c c' o o' : List ℕ} (w : Bool) (g : Filled) (a b : ℕ) (i : Bool) (q : Result (Unit {0}) Cut) {r : Outcome}
+pub round_is : {S : Type 0} {M : Machine S} {s s' : S} {l : Left} {c c' o o' : List ℕ} (w : Bool) (g : Filled) (a b : ℕ) (i : Bool) (q : Result ℕ Cut) {r : Outcome}
     → Within c l → w ≡ waiting M s → Fills w l c c' g → Went M.Move s (left_in c' g.left) 0 a o o' 0 b s'
-    → Stops M.busy s' (left_in c' g.left) a o b i → IfErr q (λ cut. cut.count < b) → r ≡ outcome_of g a b i q → Round M (length o) s l c c' o o' s' r
-round_is {S} {M} {s} {s'} {l} {c} {c'} {o} {o'} w g a b i q m e f t h y d =
+    → Stops M.busy s' (left_in c' g.left) a o b i → IfOk q (λ count. count ≡ b) → IfErr q (λ cut. cut.count < b) → r ≡ outcome_of g a b i q
+    → Round M (length o) s l c c' o o' s' r
+round_is {S} {M} {s} {s'} {l} {c} {c'} {o} {o'} w g a b i q m e f t h y n d =
     subst (λ r. Round M (length o) s l c c' o o' s' r) (sym d)
-    (record { within = m; area = refl; fills = subst (λ b. Fills b l c c' g) e f; used = a; went = t; stops = h; left = refl; sent = y })
+    (record { within = m; area = refl; fills = subst (λ b. Fills b l c c' g) e f; used = a; went = t; stops = h; left = refl; sent = y; cut = n })
 
 module _ {S : Type 0} {M : Machine S} {A : ℕ} {s s' : S} {l : Left} {c c' o o' : List ℕ} {r : Outcome} (d : Round M A s l c c' o o' s' r) where
   pub room : Within c' r.filled.left

@@ -1,7 +1,7 @@
 -- A program over descriptors, round by round: read, turn, write; of any program M, whose output area has room for A bytes.
 -- proofs/RoundTheorems: rounds are moves of the program, they are few, and after the end of the input nothing is read. What was written is then what the
 -- program's definition makes of what was read: listing_io/proofs/ListedTheorem, rewriting_io/proofs/RewrittenTheorem.
-use Rattle.std.specs.Prelude.{◌≡◌, Bool, true, false, not, List, [], ◌++◌, ℕ, suc, ltb, eqb, length, take, ◌<◌, Result, Ok, is_err, IfErr}
+use Rattle.std.specs.Prelude.{◌≡◌, Bool, true, false, not, List, [], ◌++◌, ℕ, suc, ltb, eqb, length, take, ◌<◌, Result, Ok, is_err, IfOk, IfErr}
 use Rattle.numbers.specs.Signal.{pick, both}
 use Rattle.text.specs.Moves.{Went, Stops}
 use Rattle.descriptors.specs.Left.{left_in, Within, used_of, count_of, is_end, is_failed, nothing_new, Fills}
@@ -52,10 +52,10 @@ nowhere = record { from = 0; to = 0 }
 
 -- before the first: nothing is left, nothing has failed
 abbrev pub started : Outcome
-started = record { left = nowhere; filled = nothing_new nowhere; written = 0; sent = Ok tt; idle = false }
+started = record { left = nowhere; filled = nothing_new nowhere; written = 0; sent = Ok 0; idle = false }
 
 -- what a round leaves of its read (g), its turn (a bytes used, b written, i: idle) and its write (q)
-abbrev pub outcome_of : Filled → ℕ → ℕ → Bool → Result (Unit {0}) Cut → Outcome
+abbrev pub outcome_of : Filled → ℕ → ℕ → Bool → Result ℕ Cut → Outcome
 outcome_of g a b i q = record { left = used_of g.left a; filled = g; written = b; sent = q; idle = i }
 
 -- from state s to s', where l was left of the chunk c. c' stands there then, and o' in the area o
@@ -70,7 +70,8 @@ pub record Round {S : Type 0} (M : Machine S) (A : ℕ) (s : S) (l : Left) (c c'
   pub stops : Stops M.busy s' (left_in c' r.filled.left) used o r.written r.idle
   pub left : r.left ≡ used_of r.filled.left used
   -- write: as many bytes were taken as the turn wrote, or it failed, and fewer were
-  pub sent : IfErr r.sent (λ cut. cut.count < r.written)
+  pub sent : IfOk r.sent (λ count. count ≡ r.written)
+  pub cut : IfErr r.sent (λ cut. cut.count < r.written)
 
 -- ---- rounds one after the other
 -- m of them from state s to s', none after one that failed: u is all that was read, t all that was written. c stands in the chunk then, and r is what the

@@ -1,6 +1,6 @@
 // What a round of read, turn and write leaves, and what follows from it. Where the program itself is, is told by two numbers: `busy`, 0 where nothing is
 // being written, and `phase`, that of its input (pgm::input).
-ghost use Rattle.std.specs.Prelude.{◌≡◌, ◌<◌, ◌≤◌, length, IfErr, OnOk};
+ghost use Rattle.std.specs.Prelude.{◌≡◌, ◌<◌, ◌≤◌, length, IfOk, IfErr, OnOk};
 ghost use Rattle.rounds.specs.Rounds.{waits_at, over_at, failed, ended, ends, whole, going, started, outcome_of};
 
 use descriptors::input::{Came, Filled, Left};
@@ -16,7 +16,7 @@ pub struct Outcome {
     pub left: Left,
     pub filled: Filled,
     pub written: usize,
-    pub sent: Result<(), Cut>,
+    pub sent: Result<usize, Cut>,
     pub idle: bool,
 }
 
@@ -48,7 +48,7 @@ pub fn start() -> Outcome
             came: Came::Nothing,
         },
         written: 0,
-        sent: Ok(()),
+        sent: Ok(0),
         idle: false,
     }
 }
@@ -59,7 +59,8 @@ pub fn send<W: Write, E: Print>(
     out: &[u8],
     written: usize,
     errors: &E,
-) -> Result<(), Cut>
+) -> Result<usize, Cut>
+    ensures whole { IfOk result (λ count. count ≡ written) }
     ensures cut { IfErr result (λ cut. cut.count < written) }
     ensures room { OnOk result (written ≤ length out.now) }
 {
@@ -75,7 +76,7 @@ pub fn after(
     used: usize,
     written: usize,
     idle: bool,
-    sent: Result<(), Cut>,
+    sent: Result<usize, Cut>,
 ) -> Outcome
     ensures { result ≡ outcome_of filled used written idle sent }
 {

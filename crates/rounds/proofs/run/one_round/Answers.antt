@@ -9,4 +9,5 @@ turn-fed-requires g c = fills-within c.requires c.fill-filled.ensures
 pub returns : goal.returns
 returns g c =
     let e = c.turn-fed.ensures.went in
-    round_is _ _ _ _ _ _ c.requires c.waits.ensures c.fill-filled.ensures e c.turn-fed.ensures.stops c.send-sent.ensures.cut c.after.ensures
+    round_is _ _ _ _ _ _ c.requires c.waits.ensures c.fill-filled.ensures e c.turn-fed.ensures.stops c.send-sent.ensures.whole c.send-sent.ensures.cut
+    c.after.ensures
