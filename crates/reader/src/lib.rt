@@ -215,9 +215,12 @@ impl Reader {
             (stop_question map.filter (shape.columns map) (shape.rows map) map.levels stop (length store.old)) (at store.old) }
     {
         questions::stop_question(map, stop, store.len())?;
-        let n = filters::store_length(map.filter as usize, map.width, map.x as usize, map.levels);
+        let x = map.x as usize;
+        let y = map.y as usize;
+        let filter = map.filter as usize;
+        let n = filters::store_length(filter, map.width, x, map.levels);
         let _ = copies::clear(store, n);
-        Ok(stops::reader_at(map, stop, n))
+        Ok(stops::reader_at(filter, map.levels, x, map.width, y, map.height, stop, n))
     }
 
     // A fresh tolerant reader, of the 5/3 from the origin on and without a stop: each value that it makes is limited to its level's range. The needed part of

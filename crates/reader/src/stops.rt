@@ -63,32 +63,30 @@ fn last_at(
 }
 
 // The fresh reader of a map's low-low part of level `stop`; the map's line store has n numbers.
-pub fn reader_at(map: Shape, stop: usize, n: usize) -> Reader
-    requires { (streamable map.filter (shape.columns map) map.levels ≡ true) × (map.height < 2 ^ 32) × (stop ≤ map.levels) ×
-        (n ≡ store_by map.filter (shape.columns map) map.levels) }
-    ensures { result ≡ fresh_at map.filter (shape.columns map) (shape.rows map) map.levels stop }
+pub fn reader_at(
+    filter: usize,
+    levels: usize,
+    x: usize,
+    width: usize,
+    y: usize,
+    height: usize,
+    stop: usize,
+    n: usize,
+) -> Reader
+    requires { (streamable filter (side x width) levels ≡ true) × (height < 2 ^ 32) × (x ≤ 2 ^ 16) × (y ≤ 2 ^ 16) × (stop ≤ levels) ×
+        (n ≡ store_by filter (side x width) levels) }
+    ensures { result ≡ fresh_at filter (side x width) (side y height) levels stop }
 {
-    let filter = map.filter as usize;
-    let across = sizes::start_at(stop, map.x as usize);
-    let w = sizes::size_at(stop, map.x as usize, map.width);
-    let down = sizes::start_at(stop, map.y as usize);
-    let h = sizes::size_at(stop, map.y as usize, map.height);
-    if stop == map.levels {
+    let across = sizes::start_at(stop, x);
+    let w = sizes::size_at(stop, x, width);
+    let down = sizes::start_at(stop, y);
+    let h = sizes::size_at(stop, y, height);
+    if stop == levels {
         return last_at(filter, across, w, down, h, stop, n);
     }
     if (w == 0) | (h == 0) {
         return last_at(filter, across, w, down, h, stop, n);
     }
-    let own = filters::store_length(filter, w, across, map.levels - stop);
-    Reader::begun(
-        0,
-        filter,
-        map.levels - stop,
-        across,
-        w,
-        down,
-        h,
-        stop,
-        n - own,
-    )
+    let own = filters::store_length(filter, w, across, levels - stop);
+    Reader::begun(0, filter, levels - stop, across, w, down, h, stop, n - own)
 }

@@ -37,6 +37,8 @@ reader_at-requires c =
     let j = within-true 1 a.map.levels a.stop ok.4 in (
       streams-are a.map.filter W a.map.levels ok.2 ok.0 ok.3,
       omega (arith, h.1, height-small),
+      omega (arith, c.well_formed.0),
+      omega (arith, c.well_formed.0),
       j.1,
       c.store_length-n.ensures ∙ length-is _ W a.map.levels ok.2 ok.0 ok.3,
     )

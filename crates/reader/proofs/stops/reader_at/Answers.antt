@@ -16,78 +16,78 @@ use Rattle.reader_steps.proofs.SetLaws.{none_of, some_of}
 use Rattle.reader.proofs.StopLaws.{works-not, part-last, part-begun, part-own, part_small, part-streams, streams-in, works-parts, works-some}
 use Rattle.reader.proofs.stops.reader_at.Goals as goal
 
-pub returns-then-stop-map : goal.returns-then-stop-map
-returns-then-stop-map c =
-    let a = c.args.map in
+pub returns-then-stop-levels : goal.returns-then-stop-levels
+returns-then-stop-levels c =
+    let a = c.args in
     let p = c.requires in
-    part-last a.filter (side a.x a.width) (side a.y a.height) a.levels c.args.stop c.args.n _ _ _ _ p.3 (c.start_at-across.ensures a.width)
+    part-last a.filter (side a.x a.width) (side a.y a.height) a.levels a.stop a.n _ _ _ _ p.5 (c.start_at-across.ensures a.width)
     c.size_at-w.ensures
     (c.start_at-down.ensures a.height) c.size_at-h.ensures _ (works-not _ _ _ _ (omega arith)) c.last_at.ensures
 
 pub returns-then-w-h : goal.returns-then-w-h
 returns-then-w-h c =
-    let a = c.args.map in
+    let a = c.args in
     let p = c.requires in
-    let none = works-parts a.filter (side a.x a.width) (side a.y a.height) a.levels c.args.stop c.args.n _ _ _ _ p.3
+    let none = works-parts a.filter (side a.x a.width) (side a.y a.height) a.levels a.stop a.n _ _ _ _ p.5
     (c.start_at-across.ensures a.width) c.size_at-w.ensures
     (c.start_at-down.ensures a.height) c.size_at-h.ensures
     (none_of (side c.start_at-across.result c.size_at-w.result) (side c.start_at-down.result c.size_at-h.result) c.if-w-h.true) in
-    part-last a.filter (side a.x a.width) (side a.y a.height) a.levels c.args.stop c.args.n _ _ _ _ p.3 (c.start_at-across.ensures a.width)
+    part-last a.filter (side a.x a.width) (side a.y a.height) a.levels a.stop a.n _ _ _ _ p.5 (c.start_at-across.ensures a.width)
     c.size_at-w.ensures
     (c.start_at-down.ensures a.height) c.size_at-h.ensures _ none c.last_at-then-w-h.ensures
 
-pub overflow_sub-map : goal.overflow_sub-map
-overflow_sub-map c =
-    let a = c.args.map in
+pub overflow_sub-levels : goal.overflow_sub-levels
+overflow_sub-levels c =
+    let a = c.args in
     let p = c.requires in
-    p.2
+    p.4
 
-pub overflow_sub-map-2 : goal.overflow_sub-map-2
-overflow_sub-map-2 c =
-    let a = c.args.map in
+pub overflow_sub-levels-2 : goal.overflow_sub-levels-2
+overflow_sub-levels-2 c =
+    let a = c.args in
     let p = c.requires in
-    p.2
+    p.4
 
 pub overflow_sub-n : goal.overflow_sub-n
 overflow_sub-n c =
-    let a = c.args.map in
+    let a = c.args in
     let p = c.requires in
     let S = side c.start_at-across.result c.size_at-w.result in
     let some = some_of S (side c.start_at-down.result c.size_at-h.result) c.if-w-h.false in
-    let lt : c.args.stop < a.levels = omega (arith, p.2, c.if-stop-map.false) in
-    let k = c.store_length-own.ensures ∙ ap (λ (t : Bool). pick {A = ℕ} t (store_by a.filter S (a.levels - c.args.stop)) 0)
-    (part-streams a.filter (side a.x a.width) (side a.y a.height) a.levels c.args.stop c.args.n _ _ _ _ p.3
+    let lt : a.stop < a.levels = omega (arith, p.4, c.if-stop-levels.false) in
+    let k = c.store_length-own.ensures ∙ ap (λ (t : Bool). pick {A = ℕ} t (store_by a.filter S (a.levels - a.stop)) 0)
+    (part-streams a.filter (side a.x a.width) (side a.y a.height) a.levels a.stop a.n _ _ _ _ p.5
     (c.start_at-across.ensures a.width) c.size_at-w.ensures
     (c.start_at-down.ensures a.height) c.size_at-h.ensures p.0 lt some.0) in
-    part-own a.filter (side a.x a.width) (side a.y a.height) a.levels c.args.stop c.args.n _ _ _ _ p.3 (c.start_at-across.ensures a.width)
+    part-own a.filter (side a.x a.width) (side a.y a.height) a.levels a.stop a.n _ _ _ _ p.5 (c.start_at-across.ensures a.width)
     c.size_at-w.ensures
-    (c.start_at-down.ensures a.height) c.size_at-h.ensures _ p.2 k
+    (c.start_at-down.ensures a.height) c.size_at-h.ensures _ p.4 k
 
 pub begun-requires : goal.begun-requires
 begun-requires c =
-    let a = c.args.map in
+    let a = c.args in
     let p = c.requires in
     let in-limits = streams-in _ _ _ p.0 in (
-      part_small a.filter (side a.x a.width) (side a.y a.height) a.levels c.args.stop c.args.n _ _ _ _ p.3 (c.start_at-across.ensures a.width)
+      part_small a.filter (side a.x a.width) (side a.y a.height) a.levels a.stop a.n _ _ _ _ p.5 (c.start_at-across.ensures a.width)
           c.size_at-w.ensures
-          (c.start_at-down.ensures a.height) c.size_at-h.ensures (omega (arith, in-limits.0, width_small)) (omega (arith, c.well_formed.0)) p.1 (omega (arith, c.well_formed.0)),
+          (c.start_at-down.ensures a.height) c.size_at-h.ensures (omega (arith, in-limits.0, width_small)) p.2 p.1 p.3,
       omega (arith, in-limits.1, levels-most a.filter),
     )
 
 pub returns : goal.returns
 returns c =
-    let a = c.args.map in
+    let a = c.args in
     let p = c.requires in
     let S = side c.start_at-across.result c.size_at-w.result in
     let some = some_of S (side c.start_at-down.result c.size_at-h.result) c.if-w-h.false in
-    let lt : c.args.stop < a.levels = omega (arith, p.2, c.if-stop-map.false) in
-    let k = c.store_length-own.ensures ∙ ap (λ (t : Bool). pick {A = ℕ} t (store_by a.filter S (a.levels - c.args.stop)) 0)
-    (part-streams a.filter (side a.x a.width) (side a.y a.height) a.levels c.args.stop c.args.n _ _ _ _ p.3
+    let lt : a.stop < a.levels = omega (arith, p.4, c.if-stop-levels.false) in
+    let k = c.store_length-own.ensures ∙ ap (λ (t : Bool). pick {A = ℕ} t (store_by a.filter S (a.levels - a.stop)) 0)
+    (part-streams a.filter (side a.x a.width) (side a.y a.height) a.levels a.stop a.n _ _ _ _ p.5
     (c.start_at-across.ensures a.width) c.size_at-w.ensures
     (c.start_at-down.ensures a.height) c.size_at-h.ensures p.0 lt some.0) in
-    part-begun a.filter (side a.x a.width) (side a.y a.height) a.levels c.args.stop c.args.n _ _ _ _ p.3 (c.start_at-across.ensures a.width)
+    part-begun a.filter (side a.x a.width) (side a.y a.height) a.levels a.stop a.n _ _ _ _ p.5 (c.start_at-across.ensures a.width)
     c.size_at-w.ensures
     (c.start_at-down.ensures a.height) c.size_at-h.ensures _ _
-    (works-some a.filter (side a.x a.width) (side a.y a.height) a.levels c.args.stop c.args.n _ _ _ _ p.3
+    (works-some a.filter (side a.x a.width) (side a.y a.height) a.levels a.stop a.n _ _ _ _ p.5
     (c.start_at-across.ensures a.width) c.size_at-w.ensures
     (c.start_at-down.ensures a.height) c.size_at-h.ensures lt some) k c.begun.ensures
