@@ -107,7 +107,7 @@ impl Listing {
         }
         match self.input.end() {
             Ok(next) => states::finish(next, self.writer, store, row),
-            Err(Incomplete::Short) => { states::refuse(self.input, self.writer, Refusal::BadInput) }
+            Err(Incomplete::Short(next)) => states::refuse(next, self.writer, Refusal::BadInput),
             Err(Incomplete::Before) => self,
         }
     }

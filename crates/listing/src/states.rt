@@ -116,7 +116,7 @@ pub fn read(listing: Listing, byte: u8, store: &mut [i32], row: &mut [i32]) -> L
         },
         Ok(Step::Begun(next, width, height)) => begin(next, writer, width, height, store),
         Ok(Step::Height(next, height)) => offer(next, writer, height, store, row),
-        Err(why) => refuse(input, writer, why),
+        Err(no) => refuse(no.input, writer, no.why),
     }
 }
 

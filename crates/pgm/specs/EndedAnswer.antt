@@ -10,8 +10,7 @@ pub data EndedAnswer : Type 0 where
   No15 : Input → EndedAnswer
   Before : EndedAnswer
 
--- i: the input before. After question 15 said no it reads no more
-abbrev pub of_ended : Input → Result Input Incomplete → EndedAnswer
-of_ended i (Ok j) = Whole j
-of_ended i (Err why.Short) = No15 (record { phase = 4; levels = i.levels; header = i.header; left = i.left; samples = i.samples })
-of_ended i (Err why.Before) = Before
+abbrev pub of_ended : Result Input Incomplete → EndedAnswer
+of_ended (Ok i) = Whole i
+of_ended (Err (why.Short i)) = No15 i
+of_ended (Err why.Before) = Before

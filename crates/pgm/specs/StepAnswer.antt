@@ -1,9 +1,9 @@
 -- What a byte of an input brings: the input then, and with it width and height of the picture that begins, a height, or the number of the question that says
 -- no, 15 or 16 (document 01, "The listing program"; 02, Q-1).
 use Rattle.std.specs.Prelude.{ℕ, Result, Ok, Err}
-use Rattle.refusal.specs.declared.Refusal.{Refusal}
 use Rattle.refusal.specs.Numbers.{number}
 use Rattle.pgm.specs.declared.input.Input.{Input}
+use Rattle.pgm.specs.declared.input.Refused.{Refused}
 use Rattle.pgm.specs.declared.input.Step.{Step}
 use Rattle.pgm.specs.declared.input.Step.TheVariants as steps
 
@@ -13,9 +13,8 @@ pub data StepAnswer : Type 0 where
   Height : Input → ℕ → StepAnswer
   No : Input → ℕ → StepAnswer
 
--- i: the input before. After a refusal it reads no more
-abbrev pub of_step : Input → Result Step Refusal → StepAnswer
-of_step i (Ok (steps.More j)) = More j
-of_step i (Ok (steps.Begun j w h)) = Begun j w h
-of_step i (Ok (steps.Height j v)) = Height j v
-of_step i (Err r) = No (record { phase = 4; levels = i.levels; header = i.header; left = i.left; samples = i.samples }) (number r)
+abbrev pub of_step : Result Step Refused → StepAnswer
+of_step (Ok (steps.More i)) = More i
+of_step (Ok (steps.Begun i w h)) = Begun i w h
+of_step (Ok (steps.Height i v)) = Height i v
+of_step (Err r) = No r.input (number r.why)

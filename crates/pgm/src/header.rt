@@ -12,7 +12,7 @@ use refusal::Refusal;
 // What the bytes so far have told. Stage 0 waits for P, 1 for 5, 2 for the first gap, 3 reads the width, 4 the height, 5 the largest value, 6 the
 // comment that ends the header.
 // Stays: the stage is a number and flags stand beside it, since `step_of` says what a byte does at all of their values.
-#[derive(Clone, Copy)]
+#[derive(Clone, Copy, Debug, PartialEq, Eq)]
 pub struct Header {
     pub stage: usize,
     // Inside a comment?

@@ -12,7 +12,7 @@ use crate::{characters, limits};
 use refusal::Refusal;
 
 // Stays: `phase` is a number, since `read_byte` and `input_ended` say what is done at every one.
-#[derive(Clone, Copy)]
+#[derive(Clone, Copy, Debug, PartialEq, Eq)]
 pub struct Input {
     // 0 waits for the digit, 1 for the line feed, 2 reads the header, 3 the heights, 4 reads no more
     pub phase: usize,
@@ -23,7 +23,7 @@ pub struct Input {
     pub samples: Samples,
 }
 
-// What a byte brings. Where a question says no, 15 or 16, nothing more is read (`refused`).
+// What a byte brings.
 #[derive(Clone, Copy)]
 pub enum Step {
     More(Input),
@@ -32,11 +32,18 @@ pub enum Step {
     Height(Input, u16),
 }
 
+// A question says no, 15 or 16: the input then, which reads no more.
+#[derive(Clone, Copy, Debug, PartialEq, Eq)]
+pub struct Refused {
+    pub input: Input,
+    pub why: Refusal,
+}
+
 // Why the end of the input does not complete it.
 #[derive(Clone, Copy, Debug, PartialEq, Eq)]
 pub enum Incomplete {
     // Not all heights came: question 15 says no.
-    Short,
+    Short(Input),
     // A question said no before, or the input had ended already.
     Before,
 }
@@ -69,6 +76,16 @@ impl Input {
         Input { phase, ..self }
     }
 
+    // A question says no: no more is read.
+    fn refused(self, why: Refusal) -> Refused
+        ensures { (result.input ≡ phased 4 self) × (result.why ≡ why) }
+    {
+        Refused {
+            input: self.at_phase(4),
+            why,
+        }
+    }
+
     // Some heights came whole.
     pub fn took(self, count: usize) -> Self
         ensures { result ≡ heights_came count self }
@@ -81,11 +98,11 @@ impl Input {
     }
 
     #[tactic(auto, unfolding(crate::specs::InputSteps::levels_read))]
-    fn read_levels(self, byte: u8, most: usize) -> Result<Step, Refusal>
-        ensures { of_step self result ≡ levels_read most self byte }
+    fn read_levels(self, byte: u8, most: usize) -> Result<Step, Refused>
+        ensures { of_step result ≡ levels_read most self byte }
     {
         if !is_level(byte, most) {
-            return Err(Refusal::BadInput);
+            return Err(self.refused(Refusal::BadInput));
         }
         Ok(Step::More(Input {
             phase: 1,
@@ -95,22 +112,22 @@ impl Input {
     }
 
     #[tactic(auto, unfolding(crate::specs::InputSteps::line_feed_read))]
-    fn read_line_feed(self, byte: u8) -> Result<Step, Refusal>
-        ensures { of_step self result ≡ line_feed_read self byte }
+    fn read_line_feed(self, byte: u8) -> Result<Step, Refused>
+        ensures { of_step result ≡ line_feed_read self byte }
     {
         if byte == b'\n' {
             Ok(Step::More(self.at_phase(2)))
         } else {
-            Err(Refusal::BadInput)
+            Err(self.refused(Refusal::BadInput))
         }
     }
 
     #[tactic(auto, unfolding(crate::specs::InputSteps::shape_read))]
-    fn begin(self, width: usize, height: usize, largest: usize) -> Result<Step, Refusal>
-        ensures { of_step self result ≡ shape_read self width height largest }
+    fn begin(self, width: usize, height: usize, largest: usize) -> Result<Step, Refused>
+        ensures { of_step result ≡ shape_read self width height largest }
     {
         let Some(left) = limits::cells(width, height) else {
-            return Err(Refusal::BadInput);
+            return Err(self.refused(Refusal::BadInput));
         };
         Ok(Step::Begun(
             Input {
@@ -125,33 +142,34 @@ impl Input {
     }
 
     #[tactic(auto, unfolding(crate::specs::InputSteps::header_read))]
-    fn read_header(self, byte: u8) -> Result<Step, Refusal>
-        ensures { of_step self result ≡ header_read self byte }
+    fn read_header(self, byte: u8) -> Result<Step, Refused>
+        ensures { of_step result ≡ header_read self byte }
     {
-        match self.header.step(byte)? {
-            Next::More(header) => Ok(Step::More(Input {
+        match self.header.step(byte) {
+            Ok(Next::More(header)) => Ok(Step::More(Input {
                 phase: 2,
                 header,
                 ..self
             })),
-            Next::Done(width, height, largest) => self.begin(width, height, largest),
+            Ok(Next::Done(width, height, largest)) => self.begin(width, height, largest),
+            Err(malformed) => Err(self.refused(malformed.into())),
         }
     }
 
     #[tactic(auto, unfolding(crate::specs::InputSteps::height_read))]
-    fn read_height(self, byte: u8) -> Result<Step, Refusal>
-        ensures { of_step self result ≡ height_read self byte }
+    fn read_height(self, byte: u8) -> Result<Step, Refused>
+        ensures { of_step result ≡ height_read self byte }
     {
         if self.left == 0 {
-            return Err(Refusal::BadInput);
+            return Err(self.refused(Refusal::BadInput));
         }
-        match self.samples.step(byte)? {
-            Sample::Half(samples) => Ok(Step::More(Input {
+        match self.samples.step(byte) {
+            Ok(Sample::Half(samples)) => Ok(Step::More(Input {
                 phase: 3,
                 samples,
                 ..self
             })),
-            Sample::Height(height) => Ok(Step::Height(
+            Ok(Sample::Height(height)) => Ok(Step::Height(
                 Input {
                     phase: 3,
                     left: self.left - 1,
@@ -160,13 +178,14 @@ impl Input {
                 },
                 height,
             )),
+            Err(large) => Err(self.refused(large.into())),
         }
     }
 
     // One byte more; the levels are 1 to `most`.
     #[tactic(auto, unfolding(crate::specs::InputSteps::read_byte))]
-    pub fn read(self, byte: u8, most: usize) -> Result<Step, Refusal>
-        ensures { of_step self result ≡ read_byte most self byte }
+    pub fn read(self, byte: u8, most: usize) -> Result<Step, Refused>
+        ensures { of_step result ≡ read_byte most self byte }
     {
         let phase = self.phase;
         if phase == 0 {
@@ -187,17 +206,17 @@ impl Input {
     // No byte more: nothing is read after it.
     #[tactic(auto, unfolding(crate::specs::InputSteps::input_ended))]
     pub fn end(self) -> Result<Input, Incomplete>
-        ensures { of_ended self result ≡ input_ended self }
+        ensures { of_ended result ≡ input_ended self }
     {
         let phase = self.phase;
         if 3 < phase {
             return Err(Incomplete::Before);
         }
         if phase < 3 {
-            return Err(Incomplete::Short);
+            return Err(Incomplete::Short(self.at_phase(4)));
         }
         if 0 < self.left {
-            return Err(Incomplete::Short);
+            return Err(Incomplete::Short(self.at_phase(4)));
         }
         Ok(self.at_phase(4))
     }

@@ -8,7 +8,7 @@ use crate::runs;
 use refusal::Refusal;
 
 // Stays: `half` stands beside `high`, since `sample_of` says what a byte does at all of their values.
-#[derive(Clone, Copy)]
+#[derive(Clone, Copy, Debug, PartialEq, Eq)]
 pub struct Samples {
     // The header's largest value.
     pub largest: usize,

@@ -149,7 +149,7 @@ impl Rewriting {
             Ok(Step::More(next)) => self.moved(next, filled, part_of(0)),
             Ok(Step::Begun(next, width, height)) => self.begin(next, width, height, row.len()),
             Ok(Step::Height(next, height)) => keep(self, next, height, row),
-            Err(why) => self.moved(input.at_phase(4), filled, refused(why)),
+            Err(no) => self.moved(no.input, filled, refused(no.why)),
         }
     }
 
@@ -195,9 +195,7 @@ impl Rewriting {
         }
         match input.end() {
             Ok(next) => self.moved(next, filled, part_of(0)),
-            Err(Incomplete::Short) => {
-                self.moved(input.at_phase(4), filled, refused(Refusal::BadInput))
-            }
+            Err(Incomplete::Short(next)) => self.moved(next, filled, refused(Refusal::BadInput)),
             Err(Incomplete::Before) => self.moved(input, filled, part_of(0)),
         }
     }
