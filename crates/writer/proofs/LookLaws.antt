@@ -15,12 +15,15 @@ use Rattle.wavelet.specs.Limits.{max_origin}
 use Rattle.filters.specs.Figures.{writer_store_by}
 use Rattle.calls.specs.Lists.{gives, refused, unless}
 use Rattle.level.specs.Level.{Memory}
+use Rattle.progress.specs.declared.levels.Level.{Level}
 use Rattle.writer.specs.declared.Writer.{Writer}
 use Rattle.writer.specs.declared.BandRow.{BandRow}
+use Rattle.writer.specs.Draws.{Waiting}
 use Rattle.writer.specs.Taking.{columns_of}
 use Rattle.writer.specs.Questions.{either, in_ranges, long_enough, waiting_row, set_up_question, draw_question, waits_question}
 use Rattle.writer.specs.Answers.{Handed, nothing}
 use Rattle.writer.specs.FirstQuestions.{state_question}
+use Rattle.writer.specs.Steps.{waiting_at, Reached}
 use Rattle.writer.specs.Calls.{handed, draw_reply, band_row, no_row, awaited, waits_reply, row_handed}
 use Rattle.writer.specs.History.{Call, event, events, final, fresh_world}
 use Rattle.writer.specs.Demand3.{waiting_of, next_row}
@@ -58,6 +61,11 @@ module _ (s : Writer) (t : Bool) (e : t ≡ in_ranges s) where
 
   pub look-row : (r : BandRow) → r ≡ band_row (waiting_row s) → not t ≡ false → 0 < s.level → gives r ≡ waits_reply s
   look-row r f h p = look-passes _ h (f ∙ row-awaited s.level p)
+
+-- what waits is a row of the level that it waits at
+pub waiting-level : (s : Writer) (q : Level) → Reached s q → (waiting_row s).level ≡ s.level
+unfolding waiting_at
+waiting-level s q r = ap (λ (w : Waiting). w.level) (r.waits s.left)
 
 -- ---- it says what the next draw gives
 module _ (s : Writer) (n k : ℕ) (x : Memory) where

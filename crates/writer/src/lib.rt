@@ -12,7 +12,7 @@ mod run_steps;
 pub mod runs;
 mod spare;
 
-ghost use Rattle.std.specs.Prelude.{◌≡◌, length};
+ghost use Rattle.std.specs.Prelude.{◌≡◌, ◌<◌, length, IfOk, IfSome};
 ghost use Rattle.numbers.specs.Signal.{at};
 ghost use Rattle.wavelet.specs.Limits.{max_width, max_height, max_levels, max_origin};
 ghost use Rattle.wavelet.specs.Shape.{columns};
@@ -221,9 +221,10 @@ impl Writer {
         }))
     }
 
-    // The row that the next draw hands out; None where nothing waits.
+    // The row that the next draw hands out; None where nothing waits, and only there.
     pub fn waits(self) -> Result<Option<BandRow>, Refusal>
-        ensures { of_look result ≡ waits_reply self }
+        ensures value { of_look result ≡ waits_reply self }
+        ensures some { IfOk result (λ row. IfSome row (λ b. 0 < b.level)) }
     {
         if !questions::in_ranges(self) {
             return Err(Refusal::BadState);

@@ -22,7 +22,7 @@ returns c =
     let a = c.args in
     let e =
     went (is_writer a.state.now) c.is_writer.result c.is_writer.ensures waits_reply (writer_of a.state.now) c.unpack_writer-w.result
-    (refused 1) _ c.if-not-is_writer.false-raw c.unpack_writer-w.ensures c.waits.ensures in
+    (refused 1) _ c.if-not-is_writer.false-raw c.unpack_writer-w.ensures c.waits.ensures.value in
     record {
       value = c.pack_look.ensures.value ∙ sym (ap number e);
       row_after = c.pack_look.ensures.row_after ∙ sym (ap (λ (q : Reply BandRow). look_of q a.row.now) e);
