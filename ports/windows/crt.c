@@ -11,17 +11,6 @@ void *memcpy(void *to, const void *from, size_t n)
     return start;
 }
 
-/* Backwards where `to` begins inside what is read, so that no byte is written before it is read. */
-void *memmove(void *to, const void *from, size_t n)
-{
-    if ((size_t)((char *)to - (const char *)from) >= n)
-        return memcpy(to, from, n);
-    char *last_to = (char *)to + n - 1;
-    const char *last_from = (const char *)from + n - 1;
-    __asm__ volatile("std\n rep movsb\n cld" : "+D"(last_to), "+S"(last_from), "+c"(n) : : "memory");
-    return to;
-}
-
 void *memset(void *to, int byte, size_t n)
 {
     void *start = to;

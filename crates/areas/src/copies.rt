@@ -18,7 +18,9 @@ pub fn copy(from: &[i32], to: &mut [i32]) -> Result<(), Refusal>
     if to.len() < n {
         return Err(Refusal::AreaShort);
     }
-    to[..n].copy_from_slice(from);
+    for i in 0..n {
+        to[i] = from[i];
+    }
     Ok(())
 }
 

@@ -21,5 +21,7 @@ pub fn put_eight(area: &mut [i32], p: usize, eight: [i32; 8])
     requires { p + 8 ≤ length area.old }
     ensures { at area.new ≡ spliced p 8 (at eight) (at area.old) }
 {
-    area[p..p + 8].copy_from_slice(&eight);
+    for i in 0..8 {
+        area[p + i] = eight[i];
+    }
 }

@@ -210,6 +210,13 @@ and_both : (a b : Bool) → a && b ≡ both a b
 and_both true b = refl
 and_both false b = refl
 
+-- the answer so far, and the test of one value more
+pub every_more : (i : ℕ) (p : ℕ → Bool) (ok b : Bool) → ok ≡ every i p → b ≡ p i → ok && b ≡ every (i + 1) p
+unfolding every
+every_more i p ok b e f =
+    let one : i + 1 ≡ suc i = omega arith in
+    rw one (ap₂ ◌&&◌ e f ∙ and_both (every i p) (p i))
+
 pub all_every : (test : ℤ → Bool) (l : List ℤ) → list_all test l ≡ every (length l) (λ i. test (at l i))
 unfolding every
 all_every test [] = refl

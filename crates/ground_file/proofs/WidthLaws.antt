@@ -7,7 +7,8 @@ use native.Mathlib.Nat.{lt_of_lt_of_le}
 use native.Mathlib.Omega.{arith}
 use native.Mathlib.Decide.{dec_lt}
 use lib.Dec.{ltb}
-use lib.ListN.{length, take, drop, get_or}
+use lib.ListN.{length, take, drop, get_or, drop_of_length-le}
+use Rattle.std.proofs.lemmas.List.{at_drop_more}
 use lib.Pow.{pow_pos, pow_mono, pow-add}
 use borrow.Author.Tests.{lt-ltb, le-ltb, le-leb, lt-leb, eq-eqb, ne_eqb}
 use Rattle.numbers.specs.Signal.{pick, both}
@@ -188,3 +189,16 @@ largest-more x l =
       | yes p ↦ rw (lt-ltb (largest_of l) x p) (omega arith)
       | no p ↦ rw (le-ltb (largest_of l) x (omega arith)) (omega arith)
     ]
+
+-- the largest number of those passed and of those to come: one number more passed, and m is the larger of it and of those before it
+pub largest-turn : (l : List ℕ) (i most m : ℕ) → i < length l → m ≡ max most (get_or l i 0) → max most (largest_of (drop i l)) ≡ largest_of l
+    → max m (largest_of (drop (i + 1) l)) ≡ largest_of l
+largest-turn l i most m h k e =
+    let one = at_drop_more largest_of l i 0 h ∙ largest-more (get_or l i 0) (drop (i + 1) l) in
+    omega (arith, e, one, k)
+
+-- all passed
+pub largest-end : (l : List ℕ) (i most : ℕ) → length l ≤ i → max most (largest_of (drop i l)) ≡ largest_of l → most ≡ largest_of l
+largest-end l i most h e =
+    let none = ap largest_of (drop_of_length-le l h) ∙ largest-none in
+    omega (arith, e, none)

@@ -10,7 +10,13 @@ use crate::{parts, widths};
 fn largest(numbers: &[u32]) -> u32
     ensures { result ≡ largest_of numbers.now }
 {
-    numbers.iter().copied().max().unwrap_or(0)
+    let mut most = 0;
+    for x in numbers {
+        if most < *x {
+            most = *x;
+        }
+    }
+    most
 }
 
 // At most 16 numbers, written from place `at` on: a byte and at most twice 28; answers the place after them.

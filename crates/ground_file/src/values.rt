@@ -63,5 +63,9 @@ pub fn multiples(row: &[i32], step: u32) -> bool
     requires { 1 ≤ step }
     ensures { result ≡ every (length row.now) (λ i. is_multiple step (at row.now i)) }
 {
-    row.iter().all(|v| is_multiple(*v, step))
+    let mut ok = true;
+    for v in row {
+        ok = ok & is_multiple(*v, step);
+    }
+    ok
 }

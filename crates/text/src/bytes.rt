@@ -31,7 +31,9 @@ fn copy_some(text: &[u8], from: usize, out: &mut [u8], at: usize, n: usize)
     requires { (from + n ≤ length text.now) × (at + n ≤ length out.old) }
     ensures { out.new ≡ paste out.old at (drop from text.now) n }
 {
-    out[at..at + n].copy_from_slice(&text[from..from + n]);
+    for i in 0..n {
+        out[at + i] = text[from + i];
+    }
 }
 
 // The bytes of text from place `from` on to out from place `at` on, as many as there are and as there is room for; answers how many.

@@ -1,13 +1,29 @@
--- `values::multiples` meets its contract: `all` is the test of every place. Assumes nothing.
-use mathlib.Core.Path.{◌∙◌}
-use Rattle.std.proofs.Common.{rules, tests}
-use Rattle.std.proofs.lemmas.Iterator.{YieldsList-from_slice}
-use Rattle.std.proofs.lemmas.Iterator.Search.{all_from_yields_List}
+use mathlib.Core.Path.{◌≡◌, refl, ap, ◌∙◌}
+use Prim.Native.Nat.{ℕ}
+use native.Mathlib.Omega.{arith}
+use lib.ListN.{length}
+use Rattle.numbers.specs.Signal.{at}
+use Rattle.numbers.specs.Tests.{every}
+use Rattle.numbers.proofs.Words.{read_back}
 use Rattle.ground_file.specs.Values.{is_multiple}
-use Rattle.ground_file.proofs.ValueLaws.{all_every}
+use Rattle.ground_file.proofs.ValueLaws.{every_more}
 use Rattle.ground_file.proofs.values.multiples.Goals as goal
+
+pub loop-v-init : goal.loop-v-init
+unfolding every
+loop-v-init c = (omega arith, refl)
+
+pub loop-v-preserved : goal.loop-v-preserved
+loop-v-preserved c =
+    let row = c.args.row.now in
+    let l = c.loop-v in (
+      omega arith,
+      every_more l.v-index _ l.ok _ l.invariant.1
+          (c.is_multiple-ok.ensures ∙ ap (is_multiple c.args.step) (read_back (at row l.v-index) c.is_multiple-arg-1.given)),
+    )
 
 pub returns : goal.returns
 returns c =
-    all_from_yields_List (is_multiple c.args.step) _ _ _ c.all.ensures.ran (YieldsList-from_slice c.args.row.now cc) (λ x b q k. search (rules, tests))
-    ∙ all_every (is_multiple c.args.step) c.args.row.now
+    let l = c.loop-v in
+    let e : l.v-index ≡ length c.args.row.now = omega (arith, l.invariant.0) in
+    l.invariant.1 ∙ ap (λ (i : ℕ). every i (λ j. is_multiple c.args.step (at c.args.row.now j))) e
