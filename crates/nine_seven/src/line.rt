@@ -75,6 +75,17 @@ pub fn lift(line: &mut [i32], start: usize)
     change_lows::<Update>(line, low, b);
 }
 
+// The way back of one number or none. A function of its own, never inlined: such a line would pay for the frame of the passes over a longer one.
+#[inline(never)]
+fn unlift_short(line: &mut [i32], start: usize) -> u8
+    requires { length line.old < 2 }
+    ensures value { result ≡ pick (has_line_in (side start (length line.old)) (at line.old)) 0 14 }
+    ensures line_after { at line.new ≡ pick (has_line_in (side start (length line.old)) (at line.old))
+        (unlifted_in_place (side start (length line.old)) (at line.old)) (at line.old) }
+{
+    refusal::code(five_three::unlift(line, start))
+}
+
 // The way back: low and high values in place to the line in halves. 14, and nothing changed, for an only high value that is odd.
 pub fn unlift(line: &mut [i32], start: usize) -> u8
     ensures value { result ≡ pick (has_line_in (side start (length line.old)) (at line.old)) 0 14 }
@@ -83,7 +94,7 @@ pub fn unlift(line: &mut [i32], start: usize) -> u8
 {
     let n = line.len();
     if n < 2 {
-        return refusal::code(five_three::unlift(line, start));
+        return unlift_short(line, start);
     }
     let b = start % 2;
     let low = near::lows(n, start);

@@ -1,26 +1,16 @@
--- `nine_seven::line::unlift` meets its contract: the two passes come to it; a line of one number or none goes apart. Assumes nothing.
-use mathlib.Core.Path.{ap, ◌∙◌}
-use Prim.Native.Nat.{ℕ}
-use lib.IntN.{ℤ}
+-- `nine_seven::line::unlift` meets its contract: the two passes come to it; a line of one number or none goes apart (`unlift_short`). Assumes nothing.
+use mathlib.Core.Path.{◌∙◌}
 use native.Mathlib.Omega.{arith}
 use lib.ListN.{length}
-use Rattle.numbers.specs.Signal.{at, pick}
+use Rattle.numbers.specs.Signal.{at}
 use Rattle.lifting.specs.Grid.{side}
-use Rattle.lifting.specs.GridHalves.{has_line_in}
 use Rattle.lifting.proofs.GridLaws.{some, beside-lows, beside-highs}
-use Rattle.nine_seven.proofs.LiftLaws.{unlifted-short, unlifted-is}
+use Rattle.nine_seven.proofs.LiftLaws.{unlifted-is}
 use Rattle.lifting.proofs.SingleLaws.{has_more}
 use Rattle.nine_seven.proofs.line.unlift.Goals as goal
 
-pub shape_of-line-then-n-lt2 : goal.shape_of-line-then-n-lt2
-shape_of-line-then-n-lt2 c = c.unlift.auto.line
-
 pub returns-then-n-lt2 : goal.returns-then-n-lt2
-returns-then-n-lt2 c =
-    let a = c.args in
-    let S = side a.start (length a.line.now) in
-    let y = at a.line.now in
-    record { value = c.code.ensures ∙ c.unlift.ensures.value; line_after = c.unlift.ensures.line_after ∙ ap (λ (z : ℕ → ℤ). pick (has_line_in S y) z y) (unlifted-short S (omega arith) y) }
+returns-then-n-lt2 c = c.unlift_short.ensures
 
 pub change_lows-requires : goal.change_lows-requires
 change_lows-requires c =
